@@ -17,7 +17,7 @@ use Rattle.worker_core.specs.Absorbs.{absorbed}
 use Rattle.worker_core.specs.Roles.{IsBuiltKind}
 use Rattle.worker_core.specs.Stands.{AreOwn, StandsFor}
 use Rattle.worker_core.specs.States.{ActorState, asked}
-use Rattle.seat_calls.specs.Answered.{IsAnswered, Lets, all_pass}
+use Rattle.actor_rounds.specs.Answers.Answered.{IsAnswered, Lets, all_pass}
 use Rattle.actor_turns.specs.declared.loss.Fate.{Fate}
 use Rattle.actor_turns.specs.declared.loss.Fate.TheVariants.{Told, LostBefore, LostAfter}
 use Rattle.actor_turns.specs.Calls.{IsCallBy, leaves_entry}

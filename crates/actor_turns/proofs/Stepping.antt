@@ -18,7 +18,7 @@ use Rattle.worker_core.proofs.Answered.{turn_role}
 use Rattle.actor_turns.specs.declared.loss.Fate.{Fate}
 use Rattle.actor_turns.specs.declared.part.Part.{Part}
 use Rattle.actor_turns.specs.declared.player.Player.{Player}
-use Rattle.seat_calls.specs.Answered.{Lets}
+use Rattle.actor_rounds.specs.Answers.Answered.{Lets}
 use Rattle.actor_turns.specs.Calls.{IsCallBy, MayEnd, is_held, seat_at}
 use Rattle.actor_turns.specs.Fates.{fate_of}
 use Rattle.actor_turns.specs.Steps.Playing.{HasCalled, HasMade, IsLife, IsStill, Plays, StandsSince, and_held}

@@ -6,7 +6,7 @@ use Rattle.call_types.specs.declared.entry.Entry.{Entry}
 use Rattle.binder_model.specs.Told.{own}
 use Rattle.worker_core.specs.declared.role.Role.{Role}
 use Rattle.worker_core.specs.Stands.{StandsFor}
-use Rattle.seat_calls.specs.Answered.{Lets}
+use Rattle.actor_rounds.specs.Answers.Answered.{Lets}
 use Rattle.actor_turns.specs.declared.part.Part.{Part}
 use Rattle.actor_turns.specs.declared.player.Player.{Player}
 use Rattle.actor_turns.specs.Calls.{AreCalls, IsCall, MayEnd, MoreCalls, NoCalls, and_idle, is_held, seat_at}

@@ -14,7 +14,7 @@ use Rattle.attention_law.specs.Diligence.{Call, entries}
 use Rattle.attention_law.specs.Resting.{AreNeeded, IsSilentOnceStale, WasToldStale}
 use Rattle.worker_core.specs.declared.role.Role.{Role}
 use Rattle.worker_core.specs.Stands.{HasNoNews}
-use Rattle.seat_calls.specs.Answered.{Lets}
+use Rattle.actor_rounds.specs.Answers.Answered.{Lets}
 use Rattle.actor_turns.specs.declared.loss.Fate.{Fate}
 use Rattle.actor_turns.specs.declared.loss.Fate.TheVariants.{Told, LostBefore, LostAfter}
 use Rattle.actor_turns.specs.Fates.{fate_of}

@@ -3,19 +3,19 @@
 ghost use Rattle.std.specs.Prelude.{◌≡◌, ℕ, false, Some, IfOk, OnOk};
 ghost use Rattle.binder_model.specs.Licence.{Licensed};
 ghost use Rattle.binder_model.specs.Told.{own};
-ghost use Rattle.seat_calls.specs.Answered.{IsLatest, all_pass};
+ghost use Rattle.actor_rounds.specs.Answers.Answered.{IsLatest, all_pass};
 ghost use Rattle.worker_core.specs.Stands.{StandsFor};
 ghost use Rattle.worker_core.specs.States.{asked};
-ghost use Rattle.size_calls.specs.Calls.{AreByActors};
+ghost use Rattle.size_law.specs.Calls.Calls.{AreByActors};
 ghost use Rattle.actor_turns.specs.declared.loss.Fate.TheVariants.{LostAfter, LostBefore, Told};
 ghost use Rattle.actor_turns.specs.Calls.{IsCallBy};
 ghost use Rattle.actor_turns.specs.Steps.Living.{GoesOn};
 ghost use Rattle.actor_turns.specs.Steps.Playing.{HasCalled};
 
 use crate::loss::Fate;
+use actor_rounds::answering::answers::Answers;
 use call_types::ask::Ask;
 use kube_types::copies::OutOfMemory;
-use seat_calls::answers::Answers;
 use worker_core::actor::Actor;
 use worker_core::turn::Outcome;
 

@@ -2,9 +2,9 @@
 
 ghost use Rattle.std.specs.Prelude.{◌≡◌, ◌<◌, ◌+◌, ◌^◌, ℕ, List, true, IfOk, OnOk, length};
 ghost use Rattle.call_types.specs.declared.entry.Entry.{Entry};
-ghost use Rattle.size_calls.specs.Calls.{AreByActors};
+ghost use Rattle.size_law.specs.Calls.Calls.{AreByActors};
 ghost use Rattle.attention_law.specs.Diligence.{Call};
-ghost use Rattle.seat_calls.specs.Answered.{all_pass};
+ghost use Rattle.actor_rounds.specs.Answers.Answered.{all_pass};
 ghost use Rattle.worker_core.specs.declared.role.Role.{Role};
 ghost use Rattle.actor_turns.specs.Calls.{restarts_before, seat_at};
 ghost use Rattle.actor_turns.specs.Steps.Living.{HasLived, HasLivedOn, Lives};
@@ -13,11 +13,11 @@ ghost use Rattle.actor_turns.specs.Steps.Playing.{HasStepped, HasTurned, IsSmall
 use crate::call::make;
 use crate::loss::fate_of;
 use crate::part::Part;
+use actor_rounds::answering::answers::Answers;
+use actor_rounds::answering::asking::ask_of;
 use fault_io::gate::Listener;
 use kube_types::copies::OutOfMemory;
 use kube_types::items::Items;
-use seat_calls::answers::Answers;
-use seat_calls::asking::ask_of;
 use worker_core::actor::Actor;
 
 /// An actor with its part: the seat of its life, how many calls it has made, lost ones and those that were held back too,

@@ -1,3 +1,3 @@
-pub mod Firsts
-pub mod Passing
-pub mod Working
+pub mod Lives
+pub mod Work
+pub mod Crew

@@ -1,3 +1,3 @@
-pub mod Beginning
-pub mod Working
-pub mod Steps
+pub mod Lives
+pub mod Work
+pub mod Crew

@@ -5,7 +5,7 @@ use Rattle.std.proofs.lemmas.List.{reverse-append}
 use Rattle.call_types.specs.declared.entry.Entry.{Entry}
 use Rattle.call_types.specs.declared.setup.Setup.{Setup}
 use Rattle.binder_model.specs.Run.{Run}
-use Rattle.safety_law.proofs.Law.{each_run_is_safe}
+use Rattle.safety_law.proofs.Law.Law.{each_run_is_safe}
 use Rattle.binder_model.specs.Told.{own}
 use Rattle.audit_check.specs.declared.verdict.AuditRule.{AuditRule}
 use Rattle.audit_check.specs.declared.verdict.AuditRule.TheVariants.{Answer, Licence}

@@ -9,8 +9,8 @@ ghost use Rattle.audit_check.specs.Verdicts.{IsVerdict};
 use crate::auditor::Auditor;
 use crate::verdict::Verdict;
 use call_types::entry::Entry;
+use call_types::histories::History;
 use call_types::setup::Setup;
-use history_type::History;
 use kube_types::copies::OutOfMemory;
 use std::alloc::Global;
 

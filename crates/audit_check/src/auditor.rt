@@ -74,7 +74,7 @@ impl Auditor {
     }
 
     /// The entries that stand are safe at every point.
-    #[tactic(auto, using(safety_law::proofs::Law::run_implies_safe))]
+    #[tactic(auto, using(safety_law::proofs::Law::Law::run_implies_safe))]
     pub fn is_safe(&self)
         ensures { (setup : Setup) (past : List Entry) → AuditorStands self.now setup past → Safe setup past }
     {

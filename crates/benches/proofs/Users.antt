@@ -3,9 +3,9 @@ use Rattle.std.proofs.Common.{ℕ, ◌≡◌, ◌<◌, ◌+◌, ◌^◌, List, [
 use Rattle.call_types.specs.declared.entry.Entry.{Entry}
 use Rattle.binder_model.specs.Told.{own}
 use Rattle.model_laws.proofs.Evidence.{own_other}
-use Rattle.drain_rounds.specs.declared.drainers.Drainer.{Drainer}
-use Rattle.drain_rounds.specs.Drainers.{AreNew, HaveNoEntries, seats_of}
-use Rattle.drain_rounds.proofs.NewFacts.{new_seats_for}
+use Rattle.actor_rounds.specs.declared.drainers.Drainer.{Drainer}
+use Rattle.actor_rounds.specs.Drainers.{AreNew, HaveNoEntries, seats_of}
+use Rattle.actor_rounds.proofs.NewFacts.{new_seats_for}
 use Rattle.benches.specs.UserCalls.{OthersStay}
 
 pub unchanged : (before after : List Entry) → after ≡ before → OthersStay before after

@@ -4,8 +4,8 @@
 ghost use Rattle.benches.specs.UserCalls.{OthersStay};
 
 use crate::writes::{create_claim, create_sized_volume};
+use actor_rounds::drainers::Drainers;
 use call_types::request::{Request, SeatKind};
-use drain_rounds::drainers::Drainers;
 use kube_types::copies::OutOfMemory;
 use kube_types::objects::Object;
 use kube_types::parts::ClaimPhase;

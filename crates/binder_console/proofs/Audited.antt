@@ -1,9 +1,9 @@
 -- What an audit answers.
 use Rattle.std.proofs.Common.{◌≡◌, ℕ, List, Ok, length, reverse, refl}
 use Rattle.binder_model.specs.Safe.{Safe}
-use Rattle.history_type.specs.declared.History.{History}
+use Rattle.call_types.specs.declared.histories.History.{History}
 use Rattle.history_read.specs.Grammar.{history_of}
-use Rattle.history_laws.proofs.ReadGives.{read_is_only}
+use Rattle.history_laws.proofs.Read.ReadGives.{read_is_only}
 use Rattle.audit_check.specs.declared.verdict.Verdict.{Verdict}
 use Rattle.audit_check.specs.declared.verdict.Verdict.TheVariants.{Yes, No}
 use Rattle.audit_check.specs.Verdicts.{IsVerdict}

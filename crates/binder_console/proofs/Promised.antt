@@ -8,30 +8,30 @@ use Rattle.binder_model.specs.Run.{Run}
 use Rattle.binder_model.specs.Safe.{Safe}
 use Rattle.world_core.specs.declared.drained.Drained.{Drained}
 use Rattle.world_core.specs.declared.drained.Drained.TheVariants.{Settled, Spent}
-use Rattle.size_calls.specs.Calls.{AreByActors}
-use Rattle.size_calls.proofs.Turns.{actors_give_enough}
+use Rattle.size_law.specs.Calls.Calls.{AreByActors}
+use Rattle.size_law.proofs.Calls.Turns.{actors_give_enough}
 use Rattle.history_text.specs.Output.{final_lines}
 use Rattle.script_lines.specs.declared.errors.BadLine.{BadLine}
 use Rattle.script_text.specs.declared.script.Script.{Script}
 use Rattle.script_text.specs.Grammar.{script_of}
-use Rattle.script_laws.specs.Scripts.{IsScript}
-use Rattle.script_laws.proofs.TextsGive.{ScriptGiven, script_gives}
+use Rattle.script_laws.specs.Read.Scripts.{IsScript}
+use Rattle.script_laws.proofs.Read.TextsGive.{ScriptGiven, script_gives}
 use Rattle.script_runs.specs.Diligent.{IsDiligentReplay}
 use Rattle.script_runs.specs.Replays.{IsReplay}
 use Rattle.script_runs.proofs.Readable.{script_readable}
 use Rattle.script_threads.specs.Runs.{IsRun}
 use Rattle.script_gen.specs.Generated.{generated}
-use Rattle.gen_laws.proofs.Whole.{generated_is_script}
-use Rattle.drain_law.proofs.Asking.{replayed_pods_are_on_named}
-use Rattle.drain_law.proofs.Moves.{replayed_drains_last}
-use Rattle.drain_law.proofs.Threaded.{threaded_drains_last}
-use Rattle.drain_law.proofs.Working.{threaded_pods_are_on_named}
-use Rattle.printable_law.specs.Laws.{HasOneHistory}
-use Rattle.printable_replays.proofs.Replays.{replay_texts_have_one, replayed_run}
-use Rattle.printable_replays.proofs.Threads.{made_by_threads, thread_texts_have_one}
-use Rattle.replay_settles.specs.Settling.{IsGivenScript}
-use Rattle.replay_settles.proofs.Settling.{last_drains_settle, threaded_drains_settle}
-use Rattle.replay_settles.proofs.Drains.{replayed_drains_are_short, threaded_drains_are_short}
+use Rattle.script_laws.proofs.Generated.Whole.{generated_is_script}
+use Rattle.replay_laws.proofs.Drains.Asking.{replayed_pods_are_on_named}
+use Rattle.replay_laws.proofs.Drains.Moves.{replayed_drains_last}
+use Rattle.replay_laws.proofs.Drains.Threaded.{threaded_drains_last}
+use Rattle.replay_laws.proofs.Drains.Working.{threaded_pods_are_on_named}
+use Rattle.history_laws.specs.Runs.Laws.{HasOneHistory}
+use Rattle.replay_laws.proofs.Printable.Replays.{replay_texts_have_one, replayed_run}
+use Rattle.replay_laws.proofs.Printable.Threads.{made_by_threads, thread_texts_have_one}
+use Rattle.replay_laws.specs.Settles.Settling.{IsGivenScript}
+use Rattle.replay_laws.proofs.Settles.Settling.{last_drains_settle, threaded_drains_settle}
+use Rattle.replay_laws.proofs.Settles.Drains.{replayed_drains_are_short, threaded_drains_are_short}
 use Rattle.binder_console.specs.declared.commands.Task.{Task}
 use Rattle.binder_console.specs.declared.commands.Task.TheVariants.{Replay, Run as RunTask, Gen}
 use Rattle.binder_console.specs.Outcomes.{Answers, IsAnswer, answer_ended}

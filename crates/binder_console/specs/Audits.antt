@@ -4,15 +4,15 @@ use Rattle.std.specs.declared.result.Result.{Result}
 use Rattle.call_types.specs.declared.entry.Entry.{Entry}
 use Rattle.call_types.specs.declared.setup.Setup.{Setup}
 use Rattle.binder_model.specs.Safe.{Safe}
-use Rattle.history_type.specs.declared.History.{History}
+use Rattle.call_types.specs.declared.histories.History.{History}
 use Rattle.history_text.specs.Output.{with_line}
 use Rattle.history_read.specs.declared.errors.BadLine.{BadLine as BadLineData}
 use Rattle.history_read.specs.declared.errors.HistoryError.{HistoryError}
 use Rattle.history_read.specs.declared.errors.HistoryError.TheVariants.{BadLine, OutOfMemory}
 use Rattle.history_read.specs.Grammar.{history_of}
 use Rattle.history_read.specs.Refusals.{refusal_line}
-use Rattle.history_laws.specs.Given.{IsTextHistory}
-use Rattle.history_laws.specs.Texts.{IsTextOf}
+use Rattle.history_laws.specs.Read.Given.{IsTextHistory}
+use Rattle.history_laws.specs.Read.Texts.{IsTextOf}
 use Rattle.audit_check.specs.declared.verdict.Verdict.{Verdict}
 use Rattle.audit_check.specs.declared.verdict.Verdict.TheVariants.{Yes, No}
 use Rattle.audit_check.specs.Verdicts.{IsVerdict}

@@ -19,13 +19,13 @@ use Rattle.script_text.specs.Grammar.{script_of}
 use Rattle.script_runs.specs.Diligent.{AreDiligent}
 use Rattle.script_runs.specs.Replays.{IsReplay}
 use Rattle.script_threads.specs.Runs.{IsRun}
-use Rattle.printable_law.specs.Laws.{HasOneHistory}
+use Rattle.history_laws.specs.Runs.Laws.{HasOneHistory}
 use Rattle.script_gen.specs.Generated.{generated}
-use Rattle.size_law.specs.Enough.{GetEnoughThroughout}
-use Rattle.drain_law.specs.Lasting.{DrainsLast, ThreadedDrainLasts}
-use Rattle.drain_law.specs.Naming.{ArePodsOnNamedThroughout}
-use Rattle.replay_settles.specs.Settling.{AllowsSettling, LastDrainMaySettle}
-use Rattle.replay_settles.specs.Short.{DrainsAreShort, ThreadedDrainIsShort}
+use Rattle.size_law.specs.Law.Enough.{GetEnoughThroughout}
+use Rattle.replay_laws.specs.Drains.Lasting.{DrainsLast, ThreadedDrainLasts}
+use Rattle.replay_laws.specs.Drains.Naming.{ArePodsOnNamedThroughout}
+use Rattle.replay_laws.specs.Settles.Settling.{AllowsSettling, LastDrainMaySettle}
+use Rattle.replay_laws.specs.Settles.Short.{DrainsAreShort, ThreadedDrainIsShort}
 use Rattle.binder_console.specs.declared.status.Status.{Status}
 use Rattle.binder_console.specs.declared.status.Status.TheVariants.{Done, Unsettled}
 

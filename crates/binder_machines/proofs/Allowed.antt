@@ -30,8 +30,8 @@ use Rattle.binder_machines.specs.declared.machine.Machine.{Machine}
 use Rattle.binder_machines.specs.declared.machine.Machine.TheVariants.{Frees, Binds, MarksBound, ReadsClaim, Releases, Unbinds, ReadsVolume, AssignsClass, Loses}
 use Rattle.binder_machines.specs.Machines.{assigned, call_of, may_bind, phase_call, read_of, write_class, write_lost, write_phase}
 use Rattle.binder_machines.specs.Evidence.{MachineKeeps, MayReadClaim, ToldThis, ToldThisClaim}
-use Rattle.safety_invariant.proofs.Carried.{carried}
-use Rattle.safety_invariant.proofs.Tests.{same_text}
+use Rattle.safety_law.proofs.Invariant.Carried.{carried}
+use Rattle.safety_law.proofs.Invariant.Tests.{same_text}
 use Rattle.binder_machines.proofs.Tests.{empty_is, free, uid_of}
 
 -- the tests of a binding, as facts

@@ -32,7 +32,7 @@ use Rattle.binder_machines.specs.declared.machine.Machine.{Machine}
 use Rattle.binder_machines.specs.declared.machine.Machine.TheVariants.{Frees, Binds, MarksBound, ReadsClaim, Releases, Unbinds, ReadsVolume, Loses}
 use Rattle.binder_machines.specs.Machines.{call_of, claim_of_uid, claim_read, confirmed_for, machine_for, moved, read_of, unbound_to, volume_read}
 use Rattle.binder_machines.specs.Evidence.{MachineKeeps, MayReadClaim, MayReadVolume, ToldThis, ToldThisClaim}
-use Rattle.safety_invariant.proofs.Tests.{same_text, uid_is}
+use Rattle.safety_law.proofs.Invariant.Tests.{same_text, uid_is}
 use Rattle.binder_machines.proofs.Tests.{bytes_differ, empty_is, filled_is, uid_differs, uid_of}
 
 -- what an answer tells was told

@@ -1,1 +1,2 @@
 pub mod WholeKinds
+pub mod History

@@ -9,6 +9,7 @@
 pub mod ask;
 pub mod edit;
 pub mod entry;
+pub mod histories;
 pub mod reply;
 pub mod request;
 pub mod setup;

@@ -3,7 +3,7 @@ use Rattle.std.proofs.Common.{◌≡◌, ℕ, zero, suc, ◌<◌, List, [], ◌�
 use Rattle.std.specs.List.{insert}
 use Rattle.kube_types.specs.declared.objects.Object.TheVariants.{Pod}
 use Rattle.call_types.specs.declared.entry.Entry.{Entry}
-use Rattle.evidence_places.specs.Places.{TellsAt}
+use Rattle.evidence_agent.specs.Places.Places.{TellsAt}
 use Rattle.evidence_agent.specs.declared.pods.ToldPod.{ToldPod}
 use Rattle.evidence_agent.specs.declared.pods.PodPage.{PodPage}
 use Rattle.evidence_agent.specs.Pods.{ArePods, AreTold}

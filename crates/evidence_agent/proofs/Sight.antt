@@ -16,14 +16,14 @@ use Rattle.binder_model.specs.AgentLicence.{AreReadReady, IsEndingPod, IsReadRea
 use Rattle.binder_model.specs.Reading.{NamesClaim}
 use Rattle.binder_model.specs.Told.{IsPodWith, SomeOf, TellsObject, ToldObject, ToldPod as WasTold}
 use Rattle.binder_model.specs.ObjectKeys.{claim_key}
-use Rattle.evidence_places.specs.declared.topics.Topic.{Topic}
-use Rattle.evidence_places.specs.declared.topics.Matter.TheVariants as matters
-use Rattle.evidence_places.specs.Topics.{about_key, about_name, about_pod, last_of}
-use Rattle.evidence_places.specs.Places.{TellsAt}
-use Rattle.evidence_places.specs.Steps.Since.{IsQuietBehind, IsUpto, StandsAt, finishes, gets, mounts, takes, tells_unmounted}
-use Rattle.evidence_places.proofs.Since.{last_behind, last_never, last_since, read_stands, stands_some}
-use Rattle.evidence_places.proofs.Hearing.{finishes_heard, gets_heard, mounts_heard, takes_heard}
-use Rattle.evidence_places.proofs.Uses.{above_told, epoch_since, never_is, read_ready, shown_since, told_ready, unmounted_since}
+use Rattle.evidence_agent.specs.declared.by_place.topics.Topic.{Topic}
+use Rattle.evidence_agent.specs.declared.by_place.topics.Matter.TheVariants as matters
+use Rattle.evidence_agent.specs.Places.Topics.{about_key, about_name, about_pod, last_of}
+use Rattle.evidence_agent.specs.Places.Places.{TellsAt}
+use Rattle.evidence_agent.specs.Places.Steps.Since.{IsQuietBehind, IsUpto, StandsAt, finishes, gets, mounts, takes, tells_unmounted}
+use Rattle.evidence_agent.proofs.Places.Since.{last_behind, last_never, last_since, read_stands, stands_some}
+use Rattle.evidence_agent.proofs.Places.Hearing.{finishes_heard, gets_heard, mounts_heard, takes_heard}
+use Rattle.evidence_agent.proofs.Places.Uses.{above_told, epoch_since, never_is, read_ready, shown_since, told_ready, unmounted_since}
 use Rattle.model_laws.proofs.Evidence.{told_map}
 use Rattle.evidence_pages.specs.Parts.{IsPart}
 use Rattle.evidence_pages.proofs.Growing.{told_grows}

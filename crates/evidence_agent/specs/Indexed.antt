@@ -2,7 +2,7 @@
 -- A choice of this project.
 use Rattle.std.specs.Prelude.{List}
 use Rattle.call_types.specs.declared.entry.Entry.{Entry}
-use Rattle.evidence_places.specs.Rows.{AreLastsOf}
+use Rattle.evidence_agent.specs.Places.Rows.{AreLastsOf}
 use Rattle.evidence_agent.specs.declared.index.AgentIndex.{AgentIndex}
 use Rattle.evidence_agent.specs.Pods.{ArePods}
 

@@ -1,3 +1,4 @@
 pub mod Indexed
 pub mod Pods
 pub mod Steps
+pub mod Places

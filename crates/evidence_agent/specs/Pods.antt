@@ -3,7 +3,7 @@
 use Rattle.std.specs.Prelude.{List, [], ◌∷◌, ⊤}
 use Rattle.kube_types.specs.declared.objects.Object.TheVariants.{Pod}
 use Rattle.call_types.specs.declared.entry.Entry.{Entry}
-use Rattle.evidence_places.specs.Places.{TellsAt}
+use Rattle.evidence_agent.specs.Places.Places.{TellsAt}
 use Rattle.evidence_agent.specs.declared.pods.ToldPod.{ToldPod}
 use Rattle.evidence_agent.specs.declared.pods.PodPage.{PodPage}
 

@@ -8,11 +8,12 @@ ghost use Rattle.binder_model.specs.AgentLicence.{AreReadReady, IsEndingPod, IsP
 ghost use Rattle.binder_model.specs.ObjectKeys.{claim_key};
 ghost use Rattle.binder_model.specs.Told.{ToldPod as WasTold};
 ghost use Rattle.informer_cache.specs.All.{AllStandFor};
-ghost use Rattle.evidence_places.specs.Steps.Since.{IsPodList, gets};
+ghost use Rattle.evidence_agent.specs.Places.Steps.Since.{IsPodList, gets};
 ghost use Rattle.evidence_agent.specs.Pods.{AreTold};
 ghost use Rattle.evidence_agent.specs.Indexed.{IsAgentIndexOf};
 ghost use Rattle.evidence_agent.specs.Steps.Seen.{AreReadBehind, IsListed, IsRead, IsShown, IsStaying, IsStayingPod, IsTakenAt, IsToMount, IsVolumeRead, key_with_parts};
 
+use crate::by_place::topics::{About, Matter};
 use crate::index::AgentIndex;
 use crate::pods::ToldPod;
 use call_types::entry::Entry;
@@ -20,7 +21,6 @@ use call_types::reply::Reply;
 use call_types::request::Request;
 use evidence_pages::newest::newest_of;
 use evidence_pages::parts::Parts;
-use evidence_places::topics::{About, Matter};
 use informer_cache::caches::Caches;
 use kube_types::bindings::{
     carries, is_completed, is_deleting, is_protected_claim, is_scheduled, is_uid,

@@ -2,14 +2,14 @@
 
 ghost use Rattle.std.specs.Prelude.{IsTrue, reverse, true};
 ghost use Rattle.binder_model.specs.AgentLicence.{MayFinish};
-ghost use Rattle.evidence_places.specs.Steps.Since.{IsQuietBehind, mounts, tells_unmounted};
+ghost use Rattle.evidence_agent.specs.Places.Steps.Since.{IsQuietBehind, mounts, tells_unmounted};
 ghost use Rattle.evidence_agent.specs.Indexed.{IsAgentIndexOf};
 ghost use Rattle.evidence_agent.specs.Steps.Seen.{IsUnmounted};
 
 use crate::agent::{taken_at, told_ending};
+use crate::by_place::topics::{About, Matter};
 use crate::index::AgentIndex;
 use call_types::entry::Entry;
-use evidence_places::topics::{About, Matter};
 use kube_types::copies::Plain;
 use kube_types::key::Key;
 use kube_types::parts::Kind;

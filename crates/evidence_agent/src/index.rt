@@ -4,9 +4,9 @@ ghost use Rattle.std.specs.Prelude.{◌≡◌, [], ◌∷◌, List, OnOk, length
 ghost use Rattle.call_types.specs.declared.entry.Entry.{Entry};
 ghost use Rattle.evidence_agent.specs.Indexed.{IsAgentIndexOf};
 
+use crate::by_place::lasts::Lasts;
 use crate::pods::Pods;
 use call_types::entry::Entry;
-use evidence_places::lasts::Lasts;
 use kube_types::copies::OutOfMemory;
 use std::alloc::Global;
 

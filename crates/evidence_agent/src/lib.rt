@@ -6,6 +6,7 @@
 #![tactic(auto)]
 
 pub mod agent;
+pub mod by_place;
 pub mod finish;
 pub mod index;
 pub mod pods;

@@ -6,7 +6,7 @@ ghost use Rattle.kube_types.specs.declared.objects.Object.{Object};
 ghost use Rattle.kube_types.specs.declared.objects.Object.TheVariants as objects;
 ghost use Rattle.call_types.specs.declared.entry.Entry.{Entry};
 ghost use Rattle.binder_model.specs.Told.{SomeOf, objects_in, objects_of_event, objects_of_events};
-ghost use Rattle.evidence_places.specs.Places.{TellsAt};
+ghost use Rattle.evidence_agent.specs.Places.Places.{TellsAt};
 ghost use Rattle.evidence_agent.specs.Pods.{ArePods, AreTold};
 
 use call_types::entry::Entry;

@@ -9,12 +9,12 @@ ghost use Rattle.evidence_agent.specs.Indexed.{IsAgentIndexOf};
 ghost use Rattle.evidence_agent.specs.Steps.Seen.{TellsNaming};
 
 use crate::agent::is_taken;
+use crate::by_place::topics::{About, Matter};
 use crate::index::AgentIndex;
 use call_types::entry::Entry;
 use call_types::reply::Reply;
 use evidence_pages::pages::Pages;
 use evidence_pages::sought::Sought;
-use evidence_places::topics::{About, Matter};
 use kube_types::bindings::is_scheduled;
 use kube_types::copies::Plain;
 use kube_types::key::Key;

@@ -6,17 +6,17 @@ ghost use Rattle.binder_model.specs.AgentLicence.{MayFinish, MayMount, MayReadMo
 ghost use Rattle.binder_model.specs.Reading.{AsksForMount};
 ghost use Rattle.binder_model.specs.Told.{last_found};
 ghost use Rattle.evidence_pages.specs.Indexed.{IsIndexOf};
-ghost use Rattle.evidence_places.specs.Rows.{AreLastsOf};
+ghost use Rattle.evidence_agent.specs.Places.Rows.{AreLastsOf};
 ghost use Rattle.evidence_judge.specs.Steps.Kept.{AreAgentsOf};
 
 use call_types::entry::Entry;
 use evidence_agent::agent::{is_current, may_mount, may_unmount};
+use evidence_agent::by_place::lasts::Lasts;
+use evidence_agent::by_place::topics::{About, Matter};
 use evidence_agent::finish::may_finish;
 use evidence_agent::index::AgentIndex;
 use evidence_agent::reads::may_get;
 use evidence_pages::index::Index;
-use evidence_places::lasts::Lasts;
-use evidence_places::topics::{About, Matter};
 use kube_types::copies::OutOfMemory;
 use kube_types::key::Key;
 use kube_types::objects::{DataId, Volume};

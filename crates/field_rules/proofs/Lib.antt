@@ -1,3 +1,4 @@
 pub mod Equalities
 pub mod Names
 pub mod Repeats
+pub mod Stores

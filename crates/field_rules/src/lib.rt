@@ -11,6 +11,7 @@
 mod admission;
 mod faults;
 mod imports;
+pub mod older;
 mod same;
 mod twice;
 mod user_writes;

@@ -1,13 +1,2 @@
-pub mod Members
-pub mod RequestsBack
-pub mod RepliesBack
-pub mod EntriesBack
-pub mod GoodLines
-pub mod LinesRead
-pub mod Texts
-pub mod TextsRead
-pub mod Printed
-pub mod OneHistory
-pub mod ReadParts
-pub mod ReadCalls
-pub mod ReadGives
+pub mod Read
+pub mod Runs

@@ -1,3 +1,2 @@
-pub mod Given
-pub mod Texts
-pub mod Laws
+pub mod Read
+pub mod Runs

@@ -65,7 +65,7 @@ fn rise(numbers: &[u64]) -> bool
 fn imports_pass(alloc: Global, imports: &[Object]) -> Result<bool, OutOfMemory>
     ensures { IfOk result (λ passes. passes ≡ imports_pass imports.now) }
 {
-    import_rules::imports_pass(alloc, imports)
+    field_rules::older::imports_pass(alloc, imports)
 }
 
 fn parts_with(

@@ -9,7 +9,7 @@ use Rattle.history_lines.specs.Entries.{entry_of, setup_of}
 use Rattle.history_read.specs.declared.errors.Reason.{Reason}
 use Rattle.history_read.specs.declared.errors.Reason.TheVariants.{TooLong, NotCanonical, MissingEnd}
 use Rattle.history_read.specs.declared.errors.BadLine.{BadLine}
-use Rattle.history_type.specs.declared.History.{History}
+use Rattle.call_types.specs.declared.histories.History.{History}
 
 -- ---- lines: each ends in a line feed, which the last may lack
 

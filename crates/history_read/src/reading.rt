@@ -9,11 +9,11 @@ ghost use Rattle.history_read.specs.Grammar.{entries_from, history_of, in_line, 
 use crate::errors::{BadLine, HistoryError, LineError, Reason};
 use crate::lines::first_line;
 use call_types::entry::Entry;
+use call_types::histories::History;
 use call_types::setup::Setup;
 use history_lines::entries::entry_of;
 use history_lines::errors::Unread;
 use history_lines::setups::setup_of;
-use history_type::History;
 use kube_types::items::Items;
 use piece_print::recent::Recent;
 use std::alloc::Global;

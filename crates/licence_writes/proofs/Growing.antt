@@ -16,7 +16,7 @@ use Rattle.binder_model.specs.At.{HasUid}
 use Rattle.binder_model.specs.OpsLicence.{EraseDone, EraseFailed, IsEndedOver, IsExhausted, IsThisClaim, IsThisVolume, MayDelete, MayFail, TellsEraseFailed, TellsErased, TellsExhausted}
 use Rattle.binder_model.specs.Provisioning.{data_name}
 use Rattle.binder_model.specs.Told.{After, IsClaimWith, IsVolumeWith, ToldClaim}
-use Rattle.licence_ops.specs.Providing.{Creates, GaveShown, TellsShown}
+use Rattle.licence_writes.specs.OpsRows.Providing.{Creates, GaveShown, TellsShown}
 use Rattle.evidence_pages.specs.Parts.{IsPart}
 use Rattle.evidence_pages.proofs.Growing.{IsOfReads, after_grows}
 

@@ -3,3 +3,4 @@ mod Growing
 mod NoRow
 mod Paging
 mod Scheduling
+pub mod OpsRows

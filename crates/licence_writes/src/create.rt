@@ -2,14 +2,14 @@
 
 ghost use Rattle.std.specs.Prelude.{◌≡◌, IsTrue, Some, reverse};
 ghost use Rattle.binder_model.specs.OpsLicence.{MayCreate};
-ghost use Rattle.licence_ops.specs.Providing.{Creates};
+ghost use Rattle.licence_writes.specs.OpsRows.Providing.{Creates};
 ghost use Rattle.licence_record.specs.Judged.{Judges};
 
+use crate::roles::create::creates as page_creates;
 use evidence_pages::sought::Sought;
 use kube_types::bindings::class_of_claim;
 use kube_types::objects::{Claim, Class, Ref, Volume};
 use kube_types::uid::Uid;
-use licence_ops::create::creates as page_creates;
 use licence_record::newest::{newest_claim, newest_class};
 use licence_record::record::Record;
 

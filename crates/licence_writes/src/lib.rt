@@ -13,6 +13,7 @@ pub mod ops;
 mod pages;
 pub mod provision;
 pub mod reclaim;
+pub mod roles;
 pub mod scheduler;
 mod status;
 pub mod unserved;

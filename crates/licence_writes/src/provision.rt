@@ -6,16 +6,16 @@ ghost use Rattle.kube_types.specs.declared.objects.Object.TheVariants as objects
 ghost use Rattle.binder_model.specs.ObjectKeys.{node_key};
 ghost use Rattle.binder_model.specs.OpsLicence.{AreLabels, MayProvision};
 ghost use Rattle.binder_model.specs.Told.{IsNewest};
-ghost use Rattle.licence_ops.specs.Providing.{IsProvided, IsProvidedBy};
+ghost use Rattle.licence_writes.specs.OpsRows.Providing.{IsProvided, IsProvidedBy};
 ghost use Rattle.licence_record.specs.Judged.{Judges};
 
+use crate::roles::ops::{Asked, provisions};
 use evidence_pages::sought::Sought;
 use kube_types::bindings::{SELECTED_NODE, class_of_claim};
 use kube_types::copies::Plain;
 use kube_types::objects::{Claim, Class};
 use kube_types::pairs::Pairs;
 use kube_types::text::Text;
-use licence_ops::ops::{Asked, provisions};
 use licence_record::newest::{newest_class, newest_node, some_newest};
 use licence_record::record::Record;
 use licence_record::sure::{OfClaims, SureClaim};

@@ -7,6 +7,7 @@ ghost use Rattle.binder_model.specs.OpsLicence.{MayErase, MayFail};
 ghost use Rattle.licence_record.specs.Judged.{Judges};
 
 use crate::pages::called;
+use crate::roles::ops::{Fail, may_delete as page_deletes};
 use crate::status::volume_status;
 use call_types::entry::Entry;
 use evidence_pages::sought::Sought;
@@ -15,7 +16,6 @@ use kube_types::key::Key;
 use kube_types::objects::{DataId, Version};
 use kube_types::parts::Kind;
 use kube_types::uid::Uid;
-use licence_ops::ops::{Fail, may_delete as page_deletes};
 use licence_record::record::Record;
 use licence_rows::asking::is_to_erase;
 

@@ -7,13 +7,13 @@ ghost use Rattle.binder_model.specs.Provisioning.{data_name};
 ghost use Rattle.binder_model.specs.Told.{After, ToldClaim};
 ghost use Rattle.licence_record.specs.Judged.{Judges};
 
+use crate::roles::ops::{is_without_node, was_exhausted};
 use evidence_pages::sought::Sought;
 use kube_types::bindings::{SELECTED_NODE, is_completed};
 use kube_types::objects::{Claim, Version};
 use kube_types::parts::Kind;
 use kube_types::text::Text;
 use kube_types::uid::Uid;
-use licence_ops::ops::{is_without_node, was_exhausted};
 use licence_record::record::Record;
 use licence_record::sure::{SureClaim, told_claim_at};
 use uuid::Uuid;

@@ -19,8 +19,8 @@ use Rattle.binder_model.specs.ObjectKeys.{pod_key}
 use Rattle.binder_model.specs.Told.{IsNewest, IsPodWith, TellsObject, ToldPod}
 use Rattle.informer_cache.specs.All.{AllKnown, AllStandFor, all_objects}
 use Rattle.model_laws.proofs.Lists.{none_some, one}
-use Rattle.pod_law.specs.Tellings.{tells_pod}
-use Rattle.pod_law.proofs.Told.{telling}
+use Rattle.safety_law.specs.Pods.Tellings.{tells_pod}
+use Rattle.safety_law.proofs.Pods.Told.{telling}
 use Rattle.node_agent.specs.declared.agent.AgentOp.{AgentOp}
 use Rattle.node_agent.specs.declared.step.AgentStep.TheVariants as steps
 use Rattle.node_agent.specs.Agents.{agent_at, agent_begins, agent_call, agent_for, agent_known, at_start, next_step, step_for}

@@ -17,9 +17,9 @@ use Rattle.binder_model.specs.ObjectKeys.{pod_key}
 use Rattle.binder_model.specs.Told.{IsNewest, first_some, objects_in, own}
 use Rattle.binder_model.specs.World.{IsHistory, effect, reply_to, world}
 use Rattle.informer_cache.specs.All.{all_objects}
-use Rattle.pod_law.specs.Tellings.{AreToldByReads, is_pod, tells_pod}
-use Rattle.pod_law.proofs.Newest.{staying_was_never_deleting}
-use Rattle.pod_law.proofs.Asked.{agents_are_told_by_reads, take_mute}
+use Rattle.safety_law.specs.Pods.Tellings.{AreToldByReads, is_pod, tells_pod}
+use Rattle.safety_law.proofs.Pods.Newest.{staying_was_never_deleting}
+use Rattle.safety_law.proofs.Pods.Asked.{agents_are_told_by_reads, take_mute}
 use Rattle.node_agent.specs.HistoryLaw.{HistoriesTellByReads, TakersHaveStarted, TakersMayDecide, TakersTookFirst, TakesFirst, is_take_of}
 use Rattle.node_agent.specs.StartLaw.{AreLicensed, IsUntold, TakenBy, TookFirst}
 use Rattle.node_agent.proofs.Licensed.{licensed_has_started, untold_is_unfinished}

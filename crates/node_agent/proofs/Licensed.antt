@@ -25,8 +25,8 @@ use Rattle.binder_model.specs.Same.{same_uid}
 use Rattle.binder_model.specs.Told.{IsPodWith, ToldPod, objects_in}
 use Rattle.model_laws.proofs.Evidence.{told_map}
 use Rattle.model_laws.proofs.Follows.{watched_before}
-use Rattle.pod_law.specs.Deletion.{IsDeletingPod}
-use Rattle.pod_law.specs.Tellings.{is_pod, is_watch_of_pods}
+use Rattle.safety_law.specs.Pods.Deletion.{IsDeletingPod}
+use Rattle.safety_law.specs.Pods.Tellings.{is_pod, is_watch_of_pods}
 use Rattle.node_agent.specs.Evidence.{HasStarted, StartedBy}
 use Rattle.node_agent.specs.StartLaw.{LicensedHasStarted, TakenBy, TookFirst, UntoldIsUnfinished}
 

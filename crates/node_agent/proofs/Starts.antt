@@ -7,7 +7,7 @@ use Rattle.binder_model.specs.AgentLicence.{epoch_in}
 use Rattle.node_agent.specs.declared.step.AgentStep.{AgentStep}
 use Rattle.node_agent.specs.declared.step.AgentStep.TheVariants as steps
 use Rattle.node_agent.specs.Agents.{agent_call, agent_parks, agent_call_at}
-use Rattle.pod_law.specs.Tellings.{tells_pod}
+use Rattle.safety_law.specs.Pods.Tellings.{tells_pod}
 use Rattle.node_agent.specs.Evidence.{HasStarted, StartedBy}
 use Rattle.node_agent.specs.StartLaw.{ParkedAgentsHaveEnded, StartGoesOn, UntoldHasStarted}
 

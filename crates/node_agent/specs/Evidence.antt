@@ -13,7 +13,7 @@ use Rattle.binder_model.specs.AgentLicence.{IsEndingPod, IsPodOn, IsReadReady, L
 use Rattle.binder_model.specs.ObjectKeys.{claim_key, pod_key, volume_key}
 use Rattle.binder_model.specs.Reading.{FoundNaming}
 use Rattle.binder_model.specs.Told.{IsNewest, IsPodWith, SomeOf, TellsObject, ToldPod}
-use Rattle.pod_law.specs.Tellings.{tells_pod}
+use Rattle.safety_law.specs.Pods.Tellings.{tells_pod}
 use Rattle.node_agent.specs.declared.agent.AgentOp.{AgentOp}
 use Rattle.node_agent.specs.declared.step.AgentStep.{AgentStep}
 use Rattle.node_agent.specs.declared.step.AgentStep.TheVariants as steps

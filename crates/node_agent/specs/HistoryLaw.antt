@@ -13,7 +13,7 @@ use Rattle.binder_model.specs.Promises.{most_entries}
 use Rattle.binder_model.specs.Told.{own}
 use Rattle.binder_model.specs.World.{IsHistory}
 use Rattle.informer_cache.specs.All.{AllKnown, AllStandFor, all_objects}
-use Rattle.pod_law.specs.Tellings.{AreToldByReads}
+use Rattle.safety_law.specs.Pods.Tellings.{AreToldByReads}
 use Rattle.node_agent.specs.Evidence.{HasStarted, MayDecide}
 use Rattle.node_agent.specs.StartLaw.{AreLicensed, TookFirst}
 

@@ -7,8 +7,8 @@ use Rattle.call_types.specs.declared.request.SeatKind.TheVariants.{Agent}
 use Rattle.binder_model.specs.AgentLicence.{ListedPods, epoch_in, never_finished, since_epoch}
 use Rattle.binder_model.specs.Licence.{Licensed}
 use Rattle.binder_model.specs.Told.{ToldPod}
-use Rattle.pod_law.specs.Deletion.{IsDeletingPod}
-use Rattle.pod_law.specs.Tellings.{AreToldByReads, tells_pod}
+use Rattle.safety_law.specs.Pods.Deletion.{IsDeletingPod}
+use Rattle.safety_law.specs.Pods.Tellings.{AreToldByReads, tells_pod}
 use Rattle.node_agent.specs.declared.agent.AgentOp.{AgentOp}
 use Rattle.node_agent.specs.Agents.{agent_call, agent_parks}
 use Rattle.node_agent.specs.Evidence.{HasStarted}

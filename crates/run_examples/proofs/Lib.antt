@@ -2,3 +2,4 @@ pub mod Answer
 pub mod Audit
 pub mod End
 pub mod Replay
+pub mod Threads

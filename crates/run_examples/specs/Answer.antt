@@ -9,7 +9,7 @@ use Rattle.call_types.specs.declared.request.SeatKind.TheVariants.{Binder, Ops}
 use Rattle.call_types.specs.declared.request.Request.TheVariants as requests
 use Rattle.call_types.specs.declared.reply.Reply.{Reply}
 use Rattle.call_types.specs.declared.reply.Reply.TheVariants.{Listed}
-use Rattle.seat_calls.specs.Answered.{Lets, all_pass, IsAnswered, IsLatest}
+use Rattle.actor_rounds.specs.Answers.Answered.{Lets, all_pass, IsAnswered, IsLatest}
 use Rattle.run_examples.specs.Audit.Verdicts.{lists}
 
 -- each request is held back

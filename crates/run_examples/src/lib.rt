@@ -8,4 +8,5 @@
 pub mod answers;
 pub mod audits;
 pub mod ends;
+pub mod on_threads;
 pub mod replays;

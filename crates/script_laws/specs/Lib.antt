@@ -1,4 +1,2 @@
-pub mod Given
-pub mod Limits
-pub mod Scripts
-pub mod Laws
+pub mod Read
+pub mod Generated

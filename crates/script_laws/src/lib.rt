@@ -1,37 +1,5 @@
-//! Laws of the texts of scripts: what is printed is read again.
-//!
-//! Promises: `script_is_read` and `script_is_read_again`, within the limits of what is read; what a text gives is a script
-//! that a text can give (`script_gives`), whose imported objects pass one after another (`imports_given`). Each is a
-//! function with nothing to do, whose contract is the law. Not said: that a printed script is short enough to be read,
-//! which `specs/Limits` asks.
+//! TODO: one head of the crate, in place of those of its parts.
 #![tactic(auto)]
 
-ghost use Rattle.script_laws.specs.Laws.{ImportsGiven, LineMeansItself, ScriptGives, ScriptIsRead, ScriptIsReadAgain};
-
-/// The JSON of a line that a text can give means the line.
-#[tactic(auto, using(crate::proofs::LinesBack::line_means))]
-pub fn line_means_itself()
-    ensures { LineMeansItself }
-{}
-
-/// The text of a script that a text can give gives the script, within the limits of what is read.
-#[tactic(auto, using(crate::proofs::TextsRead::script_is_read))]
-pub fn script_is_read()
-    ensures { ScriptIsRead }
-{}
-
-/// What a text gives is a script that a text can give.
-pub fn script_gives()
-    ensures { ScriptGives }
-{}
-
-/// The imported objects of a script that a text can give are such as manifests give, and each passes after those before it.
-pub fn imports_given()
-    ensures { ImportsGiven }
-{}
-
-/// What a text gives is printed as it is read again, within the limits of what is read.
-#[tactic(auto, using(crate::proofs::Again::script_is_read_again))]
-pub fn script_is_read_again()
-    ensures { ScriptIsReadAgain }
-{}
+pub mod generated_laws;
+pub mod read_laws;

@@ -8,10 +8,10 @@ use Rattle.model_laws.proofs.Lists.{none_some, one}
 use Rattle.binder_model.specs.Due.{IsFirstDue, IsSettled}
 use Rattle.world_core.specs.declared.drained.Drained.{Drained}
 use Rattle.world_core.specs.declared.drained.Drained.TheVariants.{Settled, Spent}
-use Rattle.drain_rounds.specs.declared.drainers.Drainer.{Drainer}
-use Rattle.drain_rounds.specs.Drainers.{AreNew, AreStanding, HaveNoEntries, seats_for, seats_of}
-use Rattle.drain_rounds.proofs.NewFacts.{new_roles_for, new_seats_for}
-use Rattle.drain_rounds.specs.Rounds.{EndsWith, all_pass, made_of}
+use Rattle.actor_rounds.specs.declared.drainers.Drainer.{Drainer}
+use Rattle.actor_rounds.specs.Drainers.{AreNew, AreStanding, HaveNoEntries, seats_for, seats_of}
+use Rattle.actor_rounds.proofs.NewFacts.{new_roles_for, new_seats_for}
+use Rattle.actor_rounds.specs.Rounds.{EndsWith, all_pass, made_of}
 use Rattle.script_text.specs.declared.script.Line.{Line}
 use Rattle.script_text.specs.declared.script.Script.{Script}
 use Rattle.actor_turns.specs.declared.player.Player.{Player}
@@ -28,7 +28,7 @@ use Rattle.script_runs.specs.Steps.Settled.{IsNoted}
 use Rattle.script_runs.specs.Steps.Standing.{AreNewPlayers, EachWithRole, Ended, HasAdded, HasMoved, IsBudget, SoFar, StageStands, actors_for, agents_for, end_of, part_from, parts_from, parts_in, seat_past, with_made, workers_of}
 use Rattle.actor_turns.proofs.Lived.{new_lives}
 use Rattle.actor_turns.proofs.Turning.{new_plays}
-use Rattle.drain_rounds.proofs.Resting.{new_rest}
+use Rattle.actor_rounds.proofs.Resting.{new_rest}
 
 -- ---- the beginning
 

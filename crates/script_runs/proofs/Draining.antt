@@ -3,11 +3,11 @@ use Rattle.std.proofs.Common.{◌≡◌, ◌⊎◌, ◌∙◌, ℕ, ◌+◌, ◌
 use Rattle.call_types.specs.declared.entry.Entry.{Entry}
 use Rattle.binder_model.specs.Due.{IsSettled}
 use Rattle.binder_model.specs.World.{world}
-use Rattle.drain_rounds.specs.Drainers.{seats_for, seats_of}
-use Rattle.drain_rounds.specs.Longer.{GrowsWithin, IsLonger, users_of}
-use Rattle.drain_rounds.specs.Rounds.{Lets, all_pass}
-use Rattle.drain_rounds.proofs.DrainFacts.{drains_end, drains_grow, drains_longer, drains_none, drains_users}
-use Rattle.drain_rounds.proofs.RoundFacts.{roles_built}
+use Rattle.actor_rounds.specs.Drainers.{seats_for, seats_of}
+use Rattle.actor_rounds.specs.Longer.{GrowsWithin, IsLonger, users_of}
+use Rattle.actor_rounds.specs.Rounds.{Lets, all_pass}
+use Rattle.actor_rounds.proofs.DrainFacts.{drains_end, drains_grow, drains_longer, drains_none, drains_users}
+use Rattle.actor_rounds.proofs.RoundFacts.{roles_built}
 use Rattle.script_text.specs.declared.script.Script.{Script}
 use Rattle.script_runs.specs.Drains.{CallsLeaveEntries, DrainAtComesTo, DrainsAtComeTo, DrainsComeTo}
 use Rattle.script_runs.specs.Parts.{drain_seat}

@@ -6,7 +6,7 @@ use Rattle.std.proofs.lemmas.Option.{slice_get_read, slice_get_within}
 use Rattle.attention_law.specs.Diligence.{entries}
 use Rattle.call_types.specs.declared.entry.Entry.{Entry}
 use Rattle.model_laws.proofs.Lists.{one}
-use Rattle.seat_calls.specs.Answered.{all_pass}
+use Rattle.actor_rounds.specs.Answers.Answered.{all_pass}
 use Rattle.script_lines.specs.declared.actors.Actor.{Actor}
 use Rattle.script_lines.specs.Actors.{actor_word}
 use Rattle.script_text.specs.declared.script.Script.{Script}

@@ -27,11 +27,11 @@ use Rattle.script_text.specs.declared.script.Numbered.{Numbered}
 use Rattle.script_text.specs.declared.script.Script.{Script}
 use Rattle.script_text.specs.Said.{agents_after, agents_of, and_node, created, created_by, created_node, creates, imported_after, imported_node, node_name, nodes_of, objects_of}
 use Rattle.script_text.specs.Grammar.{create_limit, first_of, line_limit, most_nodes, most_objects, object_limit, passed, read_numbered_of, script_from, script_of}
-use Rattle.script_laws.specs.Given.{IsActor, IsCount, IsLineAfter}
-use Rattle.script_laws.specs.Scripts.{AreImportsAfter, AreLinesAfter, IsScript}
-use Rattle.script_laws.proofs.Imports.{imports_given}
-use Rattle.script_laws.proofs.MembersGive.{AreAgents}
-use Rattle.script_laws.proofs.TextsGive.{ScriptGiven, agents_and, script_gives}
+use Rattle.script_laws.specs.Read.Given.{IsActor, IsCount, IsLineAfter}
+use Rattle.script_laws.specs.Read.Scripts.{AreImportsAfter, AreLinesAfter, IsScript}
+use Rattle.script_laws.proofs.Read.Imports.{imports_given}
+use Rattle.script_laws.proofs.Read.MembersGive.{AreAgents}
+use Rattle.script_laws.proofs.Read.TextsGive.{ScriptGiven, agents_and, script_gives}
 use Rattle.script_runs.specs.Limits.{NamesAreInOrder, AreWithinLimits, IsKnown, IsReadable, IsWithinLimits, NameKnown, NamesKnown}
 use Rattle.script_text.proofs.Indexes.{agents_more}
 

@@ -11,10 +11,10 @@ use Rattle.call_types.specs.declared.reply.Reply.{Reply}
 use Rattle.binder_model.specs.Told.{own}
 use Rattle.model_laws.proofs.Evidence.{own_other}
 use Rattle.model_laws.proofs.Lists.{none_some, one}
-use Rattle.drain_rounds.specs.declared.drainers.Drainer.{Drainer}
-use Rattle.drain_rounds.specs.Drainers.{AreAtRest, AreStanding, StandsWhole, roles_of, seats_for, seats_from, seats_of}
-use Rattle.drain_rounds.specs.Longer.{IsOneOf}
-use Rattle.drain_rounds.specs.Rounds.{Drains, all_pass}
+use Rattle.actor_rounds.specs.declared.drainers.Drainer.{Drainer}
+use Rattle.actor_rounds.specs.Drainers.{AreAtRest, AreStanding, StandsWhole, roles_of, seats_for, seats_from, seats_of}
+use Rattle.actor_rounds.specs.Longer.{IsOneOf}
+use Rattle.actor_rounds.specs.Rounds.{Drains, all_pass}
 use Rattle.script_text.specs.declared.script.Script.{Script}
 use Rattle.actor_turns.specs.declared.part.Part.{Part}
 use Rattle.actor_turns.specs.declared.player.Player.{Player}
@@ -38,10 +38,10 @@ use Rattle.script_runs.specs.Steps.Standing.{HasMoved, IsBudget, Leads, StageSta
 use Rattle.script_runs.proofs.Casting.{in_order, names_differ, names_in}
 use Rattle.actor_turns.proofs.Lived.{all_needed, lives_on}
 use Rattle.actor_turns.proofs.Lives.{seat_within}
-use Rattle.drain_rounds.proofs.Resting.{drains_rest}
+use Rattle.actor_rounds.proofs.Resting.{drains_rest}
 use Rattle.script_runs.proofs.Staying.{IsGrown, calls_grow, stays_noted}
 use Rattle.script_runs.proofs.Orders.{get_set_other, get_set_same, life_between, one_owner, other_name, part_at_place, parts_set}
-use Rattle.drain_rounds.proofs.RoundFacts.{same_or_not}
+use Rattle.actor_rounds.proofs.RoundFacts.{same_or_not}
 
 -- ---- the parts of a script
 

@@ -20,9 +20,9 @@ use Rattle.device_model.specs.Kept.{is_for_devices}
 use Rattle.model_laws.specs.Steps.{KeepsStore, WritesOnce}
 use Rattle.model_laws.proofs.Uids.{rises}
 use Rattle.model_laws.proofs.Versions.{versions_count_writes}
-use Rattle.alike_law.specs.Alike.{AreAlike, contents_of}
-use Rattle.alike_law.proofs.Dues.{alike_is_settled}
-use Rattle.seat_calls.specs.Answered.{Lets}
+use Rattle.settle_alike.specs.Alike.Alike.{AreAlike, contents_of}
+use Rattle.settle_alike.proofs.Alike.Dues.{alike_is_settled}
+use Rattle.actor_rounds.specs.Answers.Answered.{Lets}
 use Rattle.actor_turns.specs.declared.loss.Fate.{Fate}
 use Rattle.actor_turns.specs.declared.loss.Fate.TheVariants.{Told, LostBefore, LostAfter}
 use Rattle.actor_turns.specs.declared.part.Part.{Part}

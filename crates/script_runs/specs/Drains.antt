@@ -3,9 +3,9 @@
 use Rattle.std.specs.Prelude.{ℕ, ◌≡◌, ◌≤◌, ◌⊎◌, ◌-◌, Option}
 use Rattle.binder_model.specs.Due.{IsSettled}
 use Rattle.binder_model.specs.World.{world}
-use Rattle.drain_rounds.specs.Drainers.{seats_for}
-use Rattle.drain_rounds.specs.Longer.{GrowsWithin, IsLonger, users_of}
-use Rattle.drain_rounds.specs.Rounds.{Lets, all_pass}
+use Rattle.actor_rounds.specs.Drainers.{seats_for}
+use Rattle.actor_rounds.specs.Longer.{GrowsWithin, IsLonger, users_of}
+use Rattle.actor_rounds.specs.Rounds.{Lets, all_pass}
 use Rattle.script_text.specs.declared.script.Script.{Script}
 use Rattle.script_runs.specs.Parts.{drain_seat, drain_seats}
 use Rattle.script_runs.specs.Replays.{IsDrain, IsDrainAt, Progress}

@@ -16,7 +16,7 @@ use Rattle.script_text.specs.declared.script.Line.TheVariants.{Lose, Turn}
 use Rattle.script_text.specs.declared.script.Script.{Script}
 use Rattle.script_lines.specs.Actors.{actor_word, all_workers}
 use Rattle.script_text.specs.Said.{restarts_of}
-use Rattle.drain_rounds.specs.Drainers.{roles_for, seats_for}
+use Rattle.actor_rounds.specs.Drainers.{roles_for, seats_for}
 use Rattle.actor_turns.specs.declared.loss.Loss.{Loss}
 use Rattle.actor_turns.specs.declared.part.Part.{Part}
 use Rattle.actor_turns.specs.Parts.{lives_by}

@@ -14,9 +14,9 @@ use Rattle.worker_core.specs.declared.role.Role.{Role}
 use Rattle.world_core.specs.declared.drained.Drained.{Drained}
 use Rattle.world_core.specs.declared.drained.Drained.TheVariants.{Settled, Spent}
 use Rattle.binder_model.specs.Due.{IsFirstDue, IsSettled}
-use Rattle.drain_rounds.specs.declared.drainers.Drainer.{Drainer}
-use Rattle.drain_rounds.specs.Drainers.{AreAtRest, AreStanding, roles_of, seats_for, seats_of}
-use Rattle.drain_rounds.specs.Rounds.{Drains, Lets, all_pass}
+use Rattle.actor_rounds.specs.declared.drainers.Drainer.{Drainer}
+use Rattle.actor_rounds.specs.Drainers.{AreAtRest, AreStanding, roles_of, seats_for, seats_of}
+use Rattle.actor_rounds.specs.Rounds.{Drains, Lets, all_pass}
 use Rattle.script_text.specs.declared.script.Line.{Line}
 use Rattle.script_text.specs.declared.script.Line.TheVariants.{Call, Lose, Restart, Turn, Drain}
 use Rattle.script_text.specs.declared.script.Script.{Script}

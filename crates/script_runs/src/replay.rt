@@ -2,7 +2,7 @@
 
 ghost use Rattle.std.specs.Prelude.{◌≡◌, IfOk};
 ghost use Rattle.script_runs.specs.Limits.{IsReadable};
-ghost use Rattle.size_calls.specs.Calls.{AreByActors};
+ghost use Rattle.size_law.specs.Calls.Calls.{AreByActors};
 ghost use Rattle.script_runs.specs.Diligent.{IsDiligentReplay};
 ghost use Rattle.script_runs.specs.Replays.{IsReplay};
 

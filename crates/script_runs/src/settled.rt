@@ -4,7 +4,7 @@ ghost use Rattle.std.specs.Prelude.{◌≡◌, true, ℕ};
 ghost use Rattle.std.specs.List.{list_any};
 ghost use Rattle.binder_model.specs.Due.{IsSettled};
 ghost use Rattle.binder_model.specs.World.{world as world_of};
-ghost use Rattle.drain_rounds.specs.Rounds.{EndsWith};
+ghost use Rattle.actor_rounds.specs.Rounds.{EndsWith};
 ghost use Rattle.script_runs.specs.Steps.Settled.{IsNoted, WasSettled, calls_device};
 
 use call_types::entry::Entry;

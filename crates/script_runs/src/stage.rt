@@ -4,13 +4,13 @@ ghost use Rattle.std.specs.Prelude.{ℕ, ◌≡◌, ◌≤◌, ◌<◌, ◌+◌,
 ghost use Rattle.script_text.specs.declared.script.Line.{Line};
 ghost use Rattle.script_lines.specs.declared.actors.WorkerNumber.TheVariants.{One, Two, Three, Four};
 ghost use Rattle.script_lines.specs.Actors.{actor_word};
-ghost use Rattle.size_calls.specs.Calls.{AreByActors};
+ghost use Rattle.size_law.specs.Calls.Calls.{AreByActors};
 ghost use Rattle.worker_core.specs.Roles.{IsBuiltKind};
 ghost use Rattle.worker_core.specs.Stands.{IsNew, StandsFor};
 ghost use Rattle.binder_model.specs.Told.{own};
-ghost use Rattle.drain_rounds.specs.Drainers.{AreStanding, roles_of, seats_of};
-ghost use Rattle.drain_rounds.specs.Longer.{IsOneOf};
-ghost use Rattle.drain_rounds.specs.Rounds.{Drains, EndsWith, all_pass, made_of};
+ghost use Rattle.actor_rounds.specs.Drainers.{AreStanding, roles_of, seats_of};
+ghost use Rattle.actor_rounds.specs.Longer.{IsOneOf};
+ghost use Rattle.actor_rounds.specs.Rounds.{Drains, EndsWith, all_pass, made_of};
 ghost use Rattle.script_runs.specs.Budget.{first_budget};
 ghost use Rattle.script_runs.specs.Limits.{IsKnown, IsReadable};
 ghost use Rattle.script_runs.specs.Parts.{is_named, seat_kind_of, part_of, role_of};
@@ -22,9 +22,9 @@ ghost use Rattle.script_runs.specs.Steps.Standing.{Ended, HasAdded, HasMoved, Ma
 use crate::budget::raised;
 use crate::parts::{part_from, seat_after};
 use crate::settled::{SettledAt, settled_at, stays_settled};
+use actor_rounds::drainers::Drainers;
 use actor_turns::player::{Player, turn};
 use call_types::request::{Request, SeatKind};
-use drain_rounds::drainers::Drainers;
 use fault_io::gate::NoGate;
 use kube_types::copies::{OutOfMemory, Plain};
 use kube_types::items::Items;

@@ -7,7 +7,7 @@ use Rattle.call_types.specs.declared.request.Request.TheVariants as requests
 use Rattle.call_types.specs.declared.request.SeatKind.{SeatKind}
 use Rattle.binder_model.specs.Told.{own}
 use Rattle.attention_law.specs.Diligence.{Call}
-use Rattle.drain_rounds.specs.Rounds.{all_pass}
+use Rattle.actor_rounds.specs.Rounds.{all_pass}
 use Rattle.script_lines.specs.declared.actors.Actor.{Actor}
 use Rattle.actor_turns.specs.declared.part.Part.{Part}
 use Rattle.actor_turns.specs.Calls.{AreCalls, MoreCalls, NoCalls}
@@ -15,7 +15,7 @@ use Rattle.actor_turns.specs.Parts.{lives_of}
 use Rattle.shared_work.specs.Lines.{AreOfLines}
 use Rattle.script_lines.specs.declared.actors.WorkerKind.TheVariants as workers
 use Rattle.script_lines.specs.declared.actors.WorkerNumber.TheVariants.{One}
-use Rattle.actor_work.specs.Working.{HasWorked}
+use Rattle.actor_work.specs.Work.Working.{HasWorked}
 use Rattle.script_runs.specs.Examples.{binder_1, claims_1, ops_1, scheduler_1, worker}
 use Rattle.script_threads.specs.Examples.{StartedExamples, WorkExamples, asks, two_lines}
 use Rattle.script_threads.specs.Started.{started_part}

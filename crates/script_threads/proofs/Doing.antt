@@ -9,23 +9,23 @@ use Rattle.attention_law.specs.Resting.{WasToldStale}
 use Rattle.world_core.specs.Kept.{History}
 use Rattle.world_core.specs.declared.drained.Drained.{Drained}
 use Rattle.world_core.specs.declared.drained.Drained.TheVariants.{Settled, Spent}
-use Rattle.drain_rounds.specs.declared.drainers.Drainer.{Drainer}
-use Rattle.drain_rounds.specs.Drainers.{AreNew, AreStanding, HaveNoEntries, seats_for, seats_of}
-use Rattle.drain_rounds.specs.Longer.{IsOneOf}
-use Rattle.drain_rounds.specs.Rounds.{Drains, EndsWith, all_pass, made_of}
-use Rattle.drain_rounds.proofs.NewFacts.{new_roles_for, new_seats_for}
+use Rattle.actor_rounds.specs.declared.drainers.Drainer.{Drainer}
+use Rattle.actor_rounds.specs.Drainers.{AreNew, AreStanding, HaveNoEntries, seats_for, seats_of}
+use Rattle.actor_rounds.specs.Longer.{IsOneOf}
+use Rattle.actor_rounds.specs.Rounds.{Drains, EndsWith, all_pass, made_of}
+use Rattle.actor_rounds.proofs.NewFacts.{new_roles_for, new_seats_for}
 use Rattle.script_lines.specs.declared.actors.Actor.{Actor}
 use Rattle.script_text.specs.declared.script.Line.{Line}
 use Rattle.script_text.specs.declared.script.Script.{Script}
 use Rattle.actor_turns.specs.declared.part.Part.{Part}
 use Rattle.actor_turns.specs.Calls.{AreOfLife, seat_at}
 use Rattle.actor_turns.proofs.Lives.{seat_within}
-use Rattle.actor_work.specs.Working.{HasWorked}
+use Rattle.actor_work.specs.Work.Working.{HasWorked}
 use Rattle.shared_work.specs.Lines.{AreOfLines}
 use Rattle.script_runs.specs.Budget.{first_budget, raised}
 use Rattle.script_runs.specs.Parts.{first_actor_seat}
 use Rattle.script_runs.specs.Replays.{EndsAs, Progress}
-use Rattle.drain_rounds.proofs.Resting.{new_rest}
+use Rattle.actor_rounds.proofs.Resting.{new_rest}
 use Rattle.script_runs.proofs.Staging.{after_first}
 use Rattle.script_threads.specs.Runs.{IsRun, progress_after}
 use Rattle.script_threads.specs.Started.{EachStarted, after_lives, drain_seat, seat_after, started, started_part}

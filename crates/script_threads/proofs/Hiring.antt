@@ -10,8 +10,8 @@ use Rattle.call_types.specs.declared.request.SeatKind.{SeatKind}
 use Rattle.call_types.specs.declared.request.SeatKind.TheVariants.{User}
 use Rattle.binder_model.specs.Told.{own}
 use Rattle.shared_world.specs.Passes.{AddsNoSeats}
-use Rattle.shared_lives.proofs.Seats.{actors_by_seats}
-use Rattle.size_calls.specs.Calls.{AreByActors, IsByActor}
+use Rattle.actor_work.proofs.Lives.Seats.{actors_by_seats}
+use Rattle.size_law.specs.Calls.Calls.{AreByActors, IsByActor}
 use Rattle.script_lines.specs.declared.actors.Actor.{Actor}
 use Rattle.script_text.specs.declared.script.Line.{Line}
 use Rattle.script_text.specs.declared.script.Script.{Script}
@@ -24,9 +24,9 @@ use Rattle.shared_work.specs.Kinds.{does_of, needs_of}
 use Rattle.shared_work.specs.Lines.{AreOfLines, DoLines, asked_by, call_of, user_call}
 use Rattle.shared_work.specs.Seats.{IsOneSeat, seats_at}
 use Rattle.shared_work.proofs.Using.{did}
-use Rattle.crew_actors.specs.declared.actor.ActorCalls.{ActorCalls}
-use Rattle.crew_actors.specs.Acting.{HasActed, HasActedIn, MayAct}
-use Rattle.crew_actors.proofs.Histories.{actors_in_histories}
+use Rattle.actor_work.specs.declared.members.actor.ActorCalls.{ActorCalls}
+use Rattle.actor_work.specs.Crew.Acting.{HasActed, HasActedIn, MayAct}
+use Rattle.actor_work.proofs.Crew.Histories.{actors_in_histories}
 use Rattle.script_runs.specs.Limits.{IsReadable}
 use Rattle.script_runs.specs.Parts.{first_actor_seat, role_of}
 use Rattle.script_threads.specs.Started.{EachStarted, after_lives, drain_seat, seat_after, started, started_part}

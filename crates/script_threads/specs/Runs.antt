@@ -3,7 +3,7 @@
 use Rattle.std.specs.Prelude.{ℕ, ◌≡◌, List, Option}
 use Rattle.call_types.specs.declared.entry.Entry.{Entry}
 use Rattle.world_core.specs.declared.drained.Drained.{Drained}
-use Rattle.drain_rounds.specs.Rounds.{all_pass}
+use Rattle.actor_rounds.specs.Rounds.{all_pass}
 use Rattle.script_text.specs.declared.script.Script.{Script}
 use Rattle.script_runs.specs.Replays.{EndsAs, IsDrainAt, Progress, first_progress}
 use Rattle.script_threads.specs.Started.{drain_seat}

@@ -3,14 +3,14 @@
 use Rattle.std.specs.Prelude.{ℕ, ◌≡◌, ◌≤◌, ◌<◌, ◌⊎◌, ◌+◌, List, []}
 use Rattle.call_types.specs.declared.entry.Entry.{Entry}
 use Rattle.binder_model.specs.Told.{own}
-use Rattle.drain_rounds.specs.Rounds.{all_pass}
+use Rattle.actor_rounds.specs.Rounds.{all_pass}
 use Rattle.script_lines.specs.declared.actors.Actor.{Actor}
 use Rattle.script_text.specs.declared.script.Script.{Script}
 use Rattle.actor_turns.specs.declared.part.Part.{Part}
 use Rattle.actor_turns.specs.Calls.{AreCalls}
 use Rattle.actor_turns.specs.Diligent.{IsDiligentLife}
 use Rattle.actor_turns.specs.Parts.{lives_of}
-use Rattle.actor_work.specs.Working.{HasWorked, IsSilentLife}
+use Rattle.actor_work.specs.Work.Working.{HasWorked, IsSilentLife}
 use Rattle.shared_work.specs.Lines.{AreOfLines}
 use Rattle.script_runs.specs.Parts.{role_of}
 use Rattle.script_threads.specs.Started.{EachActor, drain_seat}

@@ -8,7 +8,7 @@ ghost use Rattle.script_threads.specs.Started.{drain_seat, started_for, workers_
 ghost use Rattle.script_threads.specs.Steps.Hired.{HaveJoined, IsActorHired, IsCrew, IsHiredFor, IsUserHired};
 
 use actor_turns::part::Part;
-use crew_actors::actor::{ActorCalls, hire};
+use actor_work::members::actor::{ActorCalls, hire};
 use fault_io::gate::Gate;
 use kube_types::copies::{OutOfMemory, Plain};
 use kube_types::text::{Names, Text};

@@ -1,12 +1,12 @@
 //! A script run on threads.
 
 ghost use Rattle.std.specs.Prelude.{◌≡◌, ◌≤◌, ◌<◌, IfOk};
-ghost use Rattle.size_calls.specs.Calls.{AreByActors};
+ghost use Rattle.size_law.specs.Calls.Calls.{AreByActors};
 ghost use Rattle.script_runs.specs.Limits.{IsReadable};
 ghost use Rattle.script_threads.specs.Runs.{IsRun};
 
 use crate::threads::work_all;
-use drain_rounds::drainers::Drainers;
+use actor_rounds::drainers::Drainers;
 use fault_io::gate::Gate;
 use kube_types::copies::OutOfMemory;
 use script_runs::budget::raised;

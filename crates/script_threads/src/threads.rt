@@ -1,7 +1,7 @@
 //! Users, workers and agents on threads.
 
 ghost use Rattle.std.specs.Prelude.{◌≡◌, ◌≤◌, ◌<◌, [], IfOk};
-ghost use Rattle.size_calls.specs.Calls.{AreByActors};
+ghost use Rattle.size_law.specs.Calls.Calls.{AreByActors};
 ghost use Rattle.script_runs.specs.Limits.{IsReadable};
 ghost use Rattle.script_threads.specs.Started.{drain_seat};
 ghost use Rattle.script_threads.specs.Threads.{IsThreadedWork};

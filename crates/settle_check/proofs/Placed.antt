@@ -24,11 +24,11 @@ use Rattle.model_laws.proofs.Histories.{rows_stand_in_order}
 use Rattle.model_laws.proofs.Identity.{key-created}
 use Rattle.model_laws.proofs.Imported.{from_key, import_row}
 use Rattle.model_laws.proofs.Lists.{none_some}
-use Rattle.safety_invariant.specs.Whence.{IsNext}
-use Rattle.safety_invariant.specs.Writes.{Writes}
-use Rattle.safety_invariant.proofs.Moves.{moves}
-use Rattle.safety_invariant.proofs.Whence.{bound_next, finished_next, marked_next, status_next, updated_next}
-use Rattle.safety_law.proofs.Passing.{each_sound}
+use Rattle.safety_law.specs.Invariant.Whence.{IsNext}
+use Rattle.safety_law.specs.Invariant.Writes.{Writes}
+use Rattle.safety_law.proofs.Invariant.Moves.{moves}
+use Rattle.safety_law.proofs.Invariant.Whence.{bound_next, finished_next, marked_next, status_next, updated_next}
+use Rattle.safety_law.proofs.Law.Passing.{each_sound}
 use Rattle.delayed_binding.specs.ChoiceLaw.{HaveNoNamespace}
 use Rattle.delayed_binding.proofs.Rounds.{empty_is}
 

@@ -1,5 +1,3 @@
-pub mod Bounds
-pub mod Lowers
-pub mod Measure
-pub mod Small
-pub mod Tries
+pub mod Left
+pub mod Binding
+pub mod Upkeep

@@ -1,7 +1,7 @@
 -- What an object, a slot and a round cost at most in calls, computed.
 use Rattle.std.proofs.Common.{refl}
-use Rattle.slot_costs.specs.Slots.{again_calls, ops_sweep_calls}
-use Rattle.short_rounds.specs.ShortRounds.{agent_sweep_calls, sweep_calls}
+use Rattle.settle_round_calls.specs.Slots.Slots.{again_calls, ops_sweep_calls}
+use Rattle.settle_round_calls.specs.Rest.ShortRounds.{agent_sweep_calls, sweep_calls}
 use Rattle.settling_examples.specs.Ending.{copies, faults_upto}
 use Rattle.settling_examples.specs.Costs.{CostExamples, LessExamples, SlotExamples, SweepExamples, SweptExamples}
 

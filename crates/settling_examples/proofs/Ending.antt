@@ -19,15 +19,15 @@ use Rattle.binder_model.specs.Store.{leaves}
 use Rattle.binder_model.specs.World.{effect, on_devices, world, world_after}
 use Rattle.model_laws.proofs.Lists.{none_some, one}
 use Rattle.model_laws.proofs.Readings.{found_stands}
-use Rattle.settle_measure.specs.Measure.{faults_left}
-use Rattle.settle_measure.specs.Small.{completed, open_claim, volume_of}
+use Rattle.settle_measure.specs.Left.Measure.{faults_left}
+use Rattle.settle_measure.specs.Left.Small.{completed, open_claim, volume_of}
 use Rattle.worker_core.specs.declared.role.Role.{Role}
-use Rattle.drain_rounds.specs.Drainers.{agent_of, seats_for}
-use Rattle.epoch_law.specs.Epochs.{IsCurrent}
-use Rattle.settle_law.proofs.Rounds.{is_agent}
+use Rattle.actor_rounds.specs.Drainers.{agent_of, seats_for}
+use Rattle.settle_progress.specs.Epochs.Epochs.{IsCurrent}
+use Rattle.settle_progress.proofs.Drains.Rounds.{is_agent}
 use Rattle.script_runs.specs.Parts.{drain_roles}
 use Rattle.kube_types.specs.VolumePlaces.{count_before, has_size, those_in}
-use Rattle.drain_budget.specs.Measured.{SharesWell, WaitingPodNames, is_immediate}
+use Rattle.settle_budget.specs.Drains.Measured.{SharesWell, WaitingPodNames, is_immediate}
 use Rattle.settling_examples.specs.Ending.{AgentExamples, AllowanceExamples, BudgetExamples, CallExamples, ClassExamples, LineExamples, NamingExamples, NumberExamples, SharingExamples, SizeExamples, class_of, copies, faults_upto, one_node, pod_on, script_naming, setup_with, shared_rows, takes, three_volumes, world_with}
 
 abbrev is_agent_role : Role → Bool

@@ -7,7 +7,7 @@ use Rattle.call_types.specs.declared.request.Request.TheVariants as requests
 use Rattle.binder_model.specs.Imports.{imported_object}
 use Rattle.binder_model.specs.Same.{same_uid}
 use Rattle.model_laws.proofs.Lists.{one as same_in}
-use Rattle.settle_law.specs.Held.{HoldsMountsAlone, LetsMountPass}
+use Rattle.settle_progress.specs.Drains.Held.{HoldsMountsAlone, LetsMountPass}
 use Rattle.settling_examples.specs.Held.{HeldExamples, lets_other, other, two_pods}
 
 alone : HoldsMountsAlone lets_other

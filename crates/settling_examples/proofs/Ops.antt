@@ -12,7 +12,7 @@ use Rattle.binder_model.specs.Imports.{imported_object}
 use Rattle.binder_model.specs.Store.{leaves}
 use Rattle.binder_model.specs.World.{world}
 use Rattle.model_laws.proofs.Lists.{none_some}
-use Rattle.settle_measure.specs.Small.{open_claim}
+use Rattle.settle_measure.specs.Left.Small.{open_claim}
 use Rattle.settling_examples.specs.Ending.{faults_upto}
 use Rattle.settling_examples.specs.Ops.{LeftExamples, NoneDueExamples, OpsExamples, with_claim, with_pool}
 

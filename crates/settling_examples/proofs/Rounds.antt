@@ -1,7 +1,7 @@
 -- Rounds that make few calls, computed.
 use Rattle.std.proofs.Common.{arith}
 use Rattle.binder_model.specs.World.{world}
-use Rattle.short_rounds.proofs.Short.{small_worlds_have_short_rounds}
+use Rattle.settle_round_calls.proofs.Rest.Short.{small_worlds_have_short_rounds}
 use Rattle.settling_examples.specs.Rounds.{RoundExamples}
 
 pub round_examples : RoundExamples

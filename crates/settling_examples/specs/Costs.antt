@@ -8,10 +8,10 @@ use Rattle.kube_types.specs.declared.objects.Object.TheVariants.{Class, Claim, N
 use Rattle.kube_types.specs.Bindings.{no_provisioner}
 use Rattle.call_types.specs.declared.request.SeatKind.{SeatKind}
 use Rattle.call_types.specs.declared.request.SeatKind.TheVariants as seats
-use Rattle.settle_measure.specs.Small.{free, meta, open_claim}
-use Rattle.slot_costs.specs.Costs.{made_calls, own_calls}
-use Rattle.slot_costs.specs.Slots.{again_calls, ended_in, objects_calls, ops_sweep_calls}
-use Rattle.short_rounds.specs.ShortRounds.{agent_sweep_calls, less_calls, ops_most, sweep_calls, swept_calls}
+use Rattle.settle_measure.specs.Left.Small.{free, meta, open_claim}
+use Rattle.settle_round_calls.specs.Slots.Costs.{made_calls, own_calls}
+use Rattle.settle_round_calls.specs.Slots.Slots.{again_calls, ended_in, objects_calls, ops_sweep_calls}
+use Rattle.settle_round_calls.specs.Rest.ShortRounds.{agent_sweep_calls, less_calls, ops_most, sweep_calls, swept_calls}
 use Rattle.settling_examples.specs.Ending.{class_of, copies, faults_upto, pod_on, setup_with, world_with}
 use Rattle.settling_examples.specs.Near.{claim_with}
 

@@ -22,14 +22,14 @@ use Rattle.script_lines.specs.declared.actors.Actor.TheVariants.{Agent}
 use Rattle.script_text.specs.declared.script.Line.{Line}
 use Rattle.script_text.specs.declared.script.Line.TheVariants.{Drain, Turn}
 use Rattle.script_text.specs.declared.script.Script.{Script}
-use Rattle.settle_measure.specs.Small.{completed, meta, open_claim, volume_of}
-use Rattle.drain_budget.specs.Budget.{IsSmallWorld, enough_calls}
-use Rattle.short_rounds.specs.ShortRounds.{HasShortRounds, stated_calls}
-use Rattle.drain_budget.specs.Measured.{SharesWell}
-use Rattle.drain_budget.specs.Selections.{NoneProvisionsLate}
-use Rattle.drain_law.specs.Naming.{ArePodsOnNamed}
+use Rattle.settle_measure.specs.Left.Small.{completed, meta, open_claim, volume_of}
+use Rattle.settle_budget.specs.Drains.Budget.{IsSmallWorld, enough_calls}
+use Rattle.settle_round_calls.specs.Rest.ShortRounds.{HasShortRounds, stated_calls}
+use Rattle.settle_budget.specs.Drains.Measured.{SharesWell}
+use Rattle.settle_budget.specs.Drains.Selections.{NoneProvisionsLate}
+use Rattle.replay_laws.specs.Drains.Naming.{ArePodsOnNamed}
 use Rattle.kube_types.specs.VolumePlaces.{IsNth, has_size}
-use Rattle.replay_settles.specs.Settling.{AllowsSettling, LeaveAgents, NoAgentIsStale}
+use Rattle.replay_laws.specs.Settles.Settling.{AllowsSettling, LeaveAgents, NoAgentIsStale}
 
 -- a world of these objects
 abbrev pub world_with : List Object → World

@@ -13,9 +13,9 @@ use Rattle.binder_model.specs.Due.{IsDue}
 use Rattle.binder_model.specs.ObjectKeys.{pod_key}
 use Rattle.binder_model.specs.Store.{first_moment}
 use Rattle.binder_model.specs.World.{world}
-use Rattle.drain_rounds.specs.Rounds.{Lets}
-use Rattle.settle_measure.specs.Small.{meta, open_claim}
-use Rattle.settle_law.specs.Held.{AreUidsOf, HoldsMountsAlone, LetsMountPass}
+use Rattle.actor_rounds.specs.Rounds.{Lets}
+use Rattle.settle_measure.specs.Left.Small.{meta, open_claim}
+use Rattle.settle_progress.specs.Drains.Held.{AreUidsOf, HoldsMountsAlone, LetsMountPass}
 use Rattle.settling_examples.specs.Ending.{setup_with}
 
 -- the gate

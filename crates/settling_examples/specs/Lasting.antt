@@ -9,9 +9,9 @@ use Rattle.call_types.specs.declared.reply.Reply.TheVariants.{Done, Left, Refuse
 use Rattle.binder_model.specs.Devices.{Devices, no_devices}
 use Rattle.binder_model.specs.Store.{first_moment}
 use Rattle.binder_model.specs.World.{World}
-use Rattle.settle_measure.specs.Small.{free, open_claim, taken_volume}
-use Rattle.write_law.specs.Lasting.{IsBackFault, IsLastingOnDevices, IsLastingWrite}
-use Rattle.alike_law.specs.Alike.{AreAlike}
+use Rattle.settle_measure.specs.Left.Small.{free, open_claim, taken_volume}
+use Rattle.settle_writes.specs.Writes.Lasting.{IsBackFault, IsLastingOnDevices, IsLastingWrite}
+use Rattle.settle_alike.specs.Alike.Alike.{AreAlike}
 
 -- the volume at another version
 abbrev pub at_nine : VolumeData → VolumeData

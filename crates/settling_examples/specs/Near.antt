@@ -4,8 +4,8 @@ use Rattle.std.specs.Prelude.{List, ℕ, [], ◌∷◌, codes}
 use Rattle.kube_types.specs.declared.objects.Claim.{Claim as ClaimData}
 use Rattle.kube_types.specs.declared.objects.Object.TheVariants.{Claim}
 use Rattle.kube_types.specs.Bindings.{selected_node}
-use Rattle.settle_measure.specs.Small.{completed, open_claim}
-use Rattle.near_law.specs.Near.{AreNear}
+use Rattle.settle_measure.specs.Left.Small.{completed, open_claim}
+use Rattle.settle_alike.specs.Near.Near.{AreNear}
 use Rattle.settling_examples.specs.Ending.{world_with}
 
 -- the open claim, with this node

@@ -18,7 +18,7 @@ use Rattle.binder_model.specs.Run.{Run}
 use Rattle.binder_model.specs.Store.{first_moment}
 use Rattle.binder_model.specs.World.{effect, reply_to, world}
 use Rattle.model_laws.specs.Worked.{amount, c, claim, named}
-use Rattle.object_count.specs.Objects.{creations}
+use Rattle.settle_budget.specs.Objects.Objects.{creations}
 
 -- a back end with a pool of 10 gibibytes
 abbrev pub pool_setup : Setup

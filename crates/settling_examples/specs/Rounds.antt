@@ -7,11 +7,11 @@ use Rattle.call_types.specs.declared.entry.Entry.{Entry}
 use Rattle.call_types.specs.declared.setup.Setup.{Setup}
 use Rattle.binder_model.specs.Due.{IsFirstDue}
 use Rattle.binder_model.specs.World.{world}
-use Rattle.settle_measure.specs.Measure.{faults_left}
-use Rattle.drain_rounds.specs.declared.drainers.Drainer.{Drainer}
-use Rattle.drain_rounds.specs.Rounds.{Drains, Goes, IsRound, all_pass}
-use Rattle.short_law.specs.Rounds.{size_of_world}
-use Rattle.short_rounds.specs.ShortRounds.{EachRoundIsShort}
+use Rattle.settle_measure.specs.Left.Measure.{faults_left}
+use Rattle.actor_rounds.specs.declared.drainers.Drainer.{Drainer}
+use Rattle.actor_rounds.specs.Rounds.{Drains, Goes, IsRound, all_pass}
+use Rattle.settle_calls.specs.Slots.Rounds.{size_of_world}
+use Rattle.settle_round_calls.specs.Rest.ShortRounds.{EachRoundIsShort}
 
 -- a drain with so many calls whose first round makes all of them, in a world of two objects and claims that are named, with no planned fault ahead
 pub record GoesOn (calls : ℕ) : Type 0 where

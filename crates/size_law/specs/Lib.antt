@@ -1,3 +1,2 @@
-pub mod Fitting
-pub mod Enough
-pub mod Examples
+pub mod Law
+pub mod Calls

@@ -88,7 +88,7 @@ module _ (s : ActorState) (mine : List Entry) (e : Entry) (request : Request) (b
           let call : u.call ≡ e.request = one u.call request c ∙ sym asks_it in
           record {
             caches = after;
-            under_way = goes_on s.role u mine e reply way call is.told is.answered;
+            settle_round_calls = goes_on s.role u mine e reply way call is.told is.answered;
             pass = kept_pass s.role s.pass mine e stands.pass (call_reads_none s.role u mine e way call);
             memory = memory;
             licensed = all_licensed;
@@ -112,10 +112,10 @@ module _ (s : ActorState) (mine : List Entry) (e : Entry) (request : Request) (b
 
       by : (g : Option Given) → GivenStands s.role s.memory g s.under → s.given ≡ g → StandsFor (given_told (learned s caches request reply) request reply g) (e ∷ mine)
       by None f eg = none_some (ap (given_call s) (sym eg) ∙ ask)
-      by (Some givens.Task) f eg = under s.under refl stands.under_way (ap (given_call s) (sym eg) ∙ ask)
+      by (Some givens.Task) f eg = under s.under refl stands.settle_round_calls (ap (given_call s) (sym eg) ∙ ask)
       by (Some givens.Start) f eg = record {
         caches = after;
-        under_way = subst (λ u. AnyIsUnderWay s.role u (e ∷ mine)) (sym f) tt;
+        settle_round_calls = subst (λ u. AnyIsUnderWay s.role u (e ∷ mine)) (sym f) tt;
         pass = kept_pass s.role s.pass mine e stands.pass (start_read eg);
         memory = memory;
         licensed = all_licensed;
@@ -125,7 +125,7 @@ module _ (s : ActorState) (mine : List Entry) (e : Entry) (request : Request) (b
       }
       by (Some (givens.Read k)) f eg = record {
         caches = after;
-        under_way = subst (λ u. AnyIsUnderWay s.role u (e ∷ mine)) (sym f.1) tt;
+        settle_round_calls = subst (λ u. AnyIsUnderWay s.role u (e ∷ mine)) (sym f.1) tt;
         pass = read k (ask_of (cache_of k s.caches)) refl (one _ request (ap (given_call s) (sym eg) ∙ ask));
         memory = memory;
         licensed = all_licensed;
@@ -146,10 +146,10 @@ module _ (s : ActorState) (mine : List Entry) (e : Entry) (request : Request) (b
     where
       under : (u : Option Under) → s.under ≡ u → option_map call_under u ≡ Some request → StandsFor (lost_under s u) (e ∷ mine)
       under None eu c = none_some c
-      under (Some u) eu c = record { caches = quiet_caches lost; under_way = tt; pass = untold_pass s.role s.pass mine e stands.pass lost; memory = untold_memory s mine e stands.memory lost; licensed = all_licensed; own = own; start = starts; given = tt }
+      under (Some u) eu c = record { caches = quiet_caches lost; settle_round_calls = tt; pass = untold_pass s.role s.pass mine e stands.pass lost; memory = untold_memory s mine e stands.memory lost; licensed = all_licensed; own = own; start = starts; given = tt }
 
       rest : s.under ≡ None → StandsFor (record s { given = None }) (e ∷ mine)
-      rest none = record { caches = quiet_caches lost; under_way = subst (λ u. AnyIsUnderWay s.role u (e ∷ mine)) (sym none) tt; pass = untold_pass s.role s.pass mine e stands.pass lost; memory = untold_memory s mine e stands.memory lost; licensed = all_licensed; own = own; start = starts; given = tt }
+      rest none = record { caches = quiet_caches lost; settle_round_calls = subst (λ u. AnyIsUnderWay s.role u (e ∷ mine)) (sym none) tt; pass = untold_pass s.role s.pass mine e stands.pass lost; memory = untold_memory s mine e stands.memory lost; licensed = all_licensed; own = own; start = starts; given = tt }
 
       by : (g : Option Given) → GivenStands s.role s.memory g s.under → s.given ≡ g → StandsFor (lost_given s g) (e ∷ mine)
       by None f eg = none_some (ap (given_call s) (sym eg) ∙ ask)
@@ -161,11 +161,11 @@ pub lost_before : (s : ActorState) (mine : List Entry) → StandsFor s mine → 
 lost_before s mine stands = by s.given
   where
     rest : StandsFor (record s { given = None }) mine
-    rest = record { caches = stands.caches; under_way = stands.under_way; pass = stands.pass; memory = stands.memory; licensed = stands.licensed; own = stands.own; start = stands.start; given = tt }
+    rest = record { caches = stands.caches; settle_round_calls = stands.settle_round_calls; pass = stands.pass; memory = stands.memory; licensed = stands.licensed; own = stands.own; start = stands.start; given = tt }
 
     under : (u : Option Under) → StandsFor (lost_under s u) mine
     under None = rest
-    under (Some u) = record { caches = stands.caches; under_way = tt; pass = stands.pass; memory = stands.memory; licensed = stands.licensed; own = stands.own; start = stands.start; given = tt }
+    under (Some u) = record { caches = stands.caches; settle_round_calls = tt; pass = stands.pass; memory = stands.memory; licensed = stands.licensed; own = stands.own; start = stands.start; given = tt }
 
     by : (g : Option Given) → StandsFor (lost_given s g) mine
     by (Some givens.Task) = under s.under
@@ -174,7 +174,7 @@ lost_before s mine stands = by s.given
     by None = rest
 
 pub woken_stands : (s : ActorState) (mine : List Entry) → StandsFor s mine → StandsFor (woken s) mine
-woken_stands s mine stands = record { caches = stands.caches; under_way = stands.under_way; pass = λ quiet place kind lt. absurd (omega (arith, lt)); memory = stands.memory; licensed = stands.licensed; own = stands.own; start = stands.start; given = stands.given }
+woken_stands s mine stands = record { caches = stands.caches; settle_round_calls = stands.settle_round_calls; pass = λ quiet place kind lt. absurd (omega (arith, lt)); memory = stands.memory; licensed = stands.licensed; own = stands.own; start = stands.start; given = stands.given }
 
 -- answers of functions
 

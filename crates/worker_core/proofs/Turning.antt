@@ -61,7 +61,7 @@ decided_way role memory c mine stand order listed is after under w (Drops key fi
 
 -- another call is given
 given_stands : (s : ActorState) (mine : List Entry) (given : Option Given) → StandsFor s mine → GivenStands s.role s.memory given s.under → StandsFor (record s { given = given }) mine
-given_stands s mine given stands fits = record { caches = stands.caches; under_way = stands.under_way; pass = stands.pass; memory = stands.memory; licensed = stands.licensed; own = stands.own; start = stands.start; given = fits }
+given_stands s mine given stands fits = record { caches = stands.caches; settle_round_calls = stands.settle_round_calls; pass = stands.pass; memory = stands.memory; licensed = stands.licensed; own = stands.own; start = stands.start; given = fits }
 
 pub turn_stands : (s new : ActorState) (answer : Next) (mine : List Entry) → AreRows (all_objects s.caches) → StandsFor s mine → IsTurn s new answer → StandsFor new mine
 turn_stands s new answer mine order stands = by s.memory.stale s.under (start_call s.role s.memory) (unlisted s) (passing s) refl refl refl refl
@@ -70,10 +70,10 @@ turn_stands s new answer mine order stands = by s.memory.stale s.under (start_ca
     follows_at place kind at = at_follows s.role.kind (kinds_of s.role.kind) place kind (kinds_follow s.role.kind) at
 
     keys : (w : Work) (under : Option Under) → AnyIsUnderWay s.role under mine → s.under ≡ None → start_call s.role s.memory ≡ None → AfterKeys s new answer w under → StandsFor new mine
-    keys w (Some u) way none started b = subst (λ x. StandsFor x mine) (sym b.state) (record { caches = stands.caches; under_way = way; pass = stands.pass; memory = stands.memory; licensed = stands.licensed; own = stands.own; start = stands.start; given = tt })
+    keys w (Some u) way none started b = subst (λ x. StandsFor x mine) (sym b.state) (record { caches = stands.caches; settle_round_calls = way; pass = stands.pass; memory = stands.memory; licensed = stands.licensed; own = stands.own; start = stands.start; given = tt })
     keys w None way none started (inl b) = subst (λ x. StandsFor x mine) (sym b.state) (record {
       caches = stands.caches;
-      under_way = stands.under_way;
+      settle_round_calls = stands.settle_round_calls;
       pass = λ q place kind lt. absurd (omega (arith, lt));
       memory = stands.memory;
       licensed = stands.licensed;
@@ -81,7 +81,7 @@ turn_stands s new answer mine order stands = by s.memory.stale s.under (start_ca
       start = stands.start;
       given = (follows_at 0 b.kind b.first, none, started);
     })
-    keys w None way none started (inr b) = subst (λ x. StandsFor x mine) (sym b.state) (record { caches = stands.caches; under_way = stands.under_way; pass = stands.pass; memory = stands.memory; licensed = stands.licensed; own = stands.own; start = stands.start; given = tt })
+    keys w None way none started (inr b) = subst (λ x. StandsFor x mine) (sym b.state) (record { caches = stands.caches; settle_round_calls = stands.settle_round_calls; pass = stands.pass; memory = stands.memory; licensed = stands.licensed; own = stands.own; start = stands.start; given = tt })
 
     by : (stale : Bool) (u : Option Under) (start : Option Request) (l p : Option Kind) → s.under ≡ u → start_call s.role s.memory ≡ start → unlisted s ≡ l → passing s ≡ p → TurnBy s new answer stale u start l p → StandsFor new mine
     by true u start l p eu es el ep t = subst (λ x. StandsFor x mine) (sym t.state) (given_stands s mine None stands tt)

@@ -8,22 +8,22 @@ use Rattle.binder_model.specs.World.{world}
 use Rattle.world_core.specs.declared.drained.Drained.{Drained}
 use Rattle.world_core.specs.declared.drained.Drained.TheVariants.{Settled, Spent}
 use Rattle.settle_check.proofs.Settled.{not_settled}
-use Rattle.drain_rounds.specs.declared.drainers.Drainer.{Drainer}
-use Rattle.drain_rounds.specs.Drainers.{AreSeats, AreStanding, seats_of}
-use Rattle.drain_rounds.specs.Rounds.{Drains, EndsWith, IsRound, Lets, all_pass}
-use Rattle.drain_rounds.proofs.DrainFacts.{drains_grow}
-use Rattle.drain_rounds.proofs.RoundFacts.{round_grows}
-use Rattle.drain_budget.specs.Measured.{SharesWell}
-use Rattle.drain_budget.specs.Selections.{NoneProvisionsLate}
-use Rattle.slot_law.proofs.Held.{all_holds}
-use Rattle.paid_law.proofs.Slots.{older_run}
-use Rattle.settle_law.specs.Settling.{MayDrain}
-use Rattle.settle_law.proofs.Drained.{drained_rounds_last}
-use Rattle.settle_law.proofs.Held.{held_rounds_last}
-use Rattle.drain_budget.proofs.Selections.{static_drains_settle}
-use Rattle.tries_law.proofs.Trying.{shared_drains_settle}
-use Rattle.every_round.proofs.Drains.{every_drained_round_is_short}
-use Rattle.every_round.proofs.Sum.{every_round_is_short}
+use Rattle.actor_rounds.specs.declared.drainers.Drainer.{Drainer}
+use Rattle.actor_rounds.specs.Drainers.{AreSeats, AreStanding, seats_of}
+use Rattle.actor_rounds.specs.Rounds.{Drains, EndsWith, IsRound, Lets, all_pass}
+use Rattle.actor_rounds.proofs.DrainFacts.{drains_grow}
+use Rattle.actor_rounds.proofs.RoundFacts.{round_grows}
+use Rattle.settle_budget.specs.Drains.Measured.{SharesWell}
+use Rattle.settle_budget.specs.Drains.Selections.{NoneProvisionsLate}
+use Rattle.settle_slot.proofs.Slot.Held.{all_holds}
+use Rattle.settle_pays.proofs.Pays.Slots.{older_run}
+use Rattle.settle_progress.specs.Drains.Settling.{MayDrain}
+use Rattle.settle_progress.proofs.Drains.Drained.{drained_rounds_last}
+use Rattle.settle_progress.proofs.Drains.Held.{held_rounds_last}
+use Rattle.settle_budget.proofs.Drains.Selections.{static_drains_settle}
+use Rattle.settle_tries.proofs.Tries.Trying.{shared_drains_settle}
+use Rattle.settle_round_calls.proofs.Rounds.Drains.{every_drained_round_is_short}
+use Rattle.settle_round_calls.proofs.Rounds.Sum.{every_round_is_short}
 use Rattle.worker_threads.specs.Settling.{DrainSettles, IsSettledBy, RoundIsShort, RoundLasts, RoundsOfDrainAreShort, RoundsOfDrainLast}
 
 -- ---- a round

@@ -7,20 +7,20 @@ use Rattle.binder_model.specs.Promises.{IsRunOf}
 use Rattle.binder_model.specs.World.{world}
 use Rattle.world_core.specs.declared.drained.Drained.{Drained}
 use Rattle.world_core.specs.declared.drained.Drained.TheVariants.{Settled, Spent}
-use Rattle.write_law.specs.Lasting.{HasLasting}
-use Rattle.slot_law.specs.Gates.{HoldsMountsAlone}
-use Rattle.epoch_law.specs.Silent.{OnlyOvertakenAreSilent}
-use Rattle.drain_rounds.specs.declared.drainers.Drainer.{Drainer}
-use Rattle.drain_rounds.specs.Rounds.{Drains, Lets, all_pass}
-use Rattle.settle_law.specs.Drained.{EachRoundLasts}
-use Rattle.settle_law.specs.Held.{LetsMountPass}
-use Rattle.settle_law.specs.Rounds.{HasDue}
-use Rattle.all_pay.specs.All.{ImportsAllow}
-use Rattle.drain_budget.specs.Budget.{AreAlwaysInOrder}
-use Rattle.drain_budget.specs.Measured.{SharesWell}
-use Rattle.drain_budget.specs.Rounds.{MaySettle}
-use Rattle.drain_budget.specs.Selections.{HasBudget, NoneProvisionsLate}
-use Rattle.short_rounds.specs.ShortRounds.{EachRoundIsShort, HasShortRounds, stated_calls}
+use Rattle.settle_writes.specs.Writes.Lasting.{HasLasting}
+use Rattle.settle_slot.specs.Slot.Gates.{HoldsMountsAlone}
+use Rattle.settle_progress.specs.Epochs.Silent.{OnlyOvertakenAreSilent}
+use Rattle.actor_rounds.specs.declared.drainers.Drainer.{Drainer}
+use Rattle.actor_rounds.specs.Rounds.{Drains, Lets, all_pass}
+use Rattle.settle_progress.specs.Drains.Drained.{EachRoundLasts}
+use Rattle.settle_progress.specs.Drains.Held.{LetsMountPass}
+use Rattle.settle_progress.specs.Drains.Rounds.{HasDue}
+use Rattle.settle_pays.specs.Drains.All.{ImportsAllow}
+use Rattle.settle_budget.specs.Drains.Budget.{AreAlwaysInOrder}
+use Rattle.settle_budget.specs.Drains.Measured.{SharesWell}
+use Rattle.settle_budget.specs.Drains.Rounds.{MaySettle}
+use Rattle.settle_budget.specs.Drains.Selections.{HasBudget, NoneProvisionsLate}
+use Rattle.settle_round_calls.specs.Rest.ShortRounds.{EachRoundIsShort, HasShortRounds, stated_calls}
 
 -- ---- a round
 

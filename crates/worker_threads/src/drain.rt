@@ -4,14 +4,14 @@ ghost use Rattle.std.specs.Prelude.{◌≡◌, ◌≤◌, ◌<◌, ◌-◌, ℕ,
 ghost use Rattle.binder_model.specs.Told.{own};
 ghost use Rattle.binder_model.specs.Due.{IsSettled};
 ghost use Rattle.settle_check.specs.WorldOf.{world_of};
-ghost use Rattle.size_calls.specs.Calls.{AreByActors};
-ghost use Rattle.drain_rounds.specs.Drainers.{AreStanding, roles_of, seats_of};
-ghost use Rattle.drain_rounds.specs.Longer.{HasGrown, IsLonger, IsOneOf, users_of};
-ghost use Rattle.drain_rounds.specs.Rounds.{Drains, EndsHere, EndsWith, all_pass, made_of};
+ghost use Rattle.size_law.specs.Calls.Calls.{AreByActors};
+ghost use Rattle.actor_rounds.specs.Drainers.{AreStanding, roles_of, seats_of};
+ghost use Rattle.actor_rounds.specs.Longer.{HasGrown, IsLonger, IsOneOf, users_of};
+ghost use Rattle.actor_rounds.specs.Rounds.{Drains, EndsHere, EndsWith, all_pass, made_of};
 ghost use Rattle.worker_threads.specs.Settling.{DrainSettles, RoundsOfDrainAreShort, RoundsOfDrainLast};
 
 use crate::round::round;
-use drain_rounds::drainers::Drainers;
+use actor_rounds::drainers::Drainers;
 use kube_types::copies::OutOfMemory;
 use kube_types::key::key_of;
 use settle_check::first_due;

@@ -1,6 +1,6 @@
 //! Rounds of actors on one world, while something is due.
 //!
-//! Promises: `round::round` wakes each drainer in its turn and runs it until it is idle, exactly as `Rounds` of `drain_rounds`
+//! Promises: `round::round` wakes each drainer in its turn and runs it until it is idle, exactly as `Rounds` of `actor_rounds`
 //! says: the scheduler, ops, the binder, claim protection, volume protection, then an agent of each node.
 //! `drain::drain` makes such rounds while something is due and calls are left; a settled world gets no call. The
 //! history is the earlier one and then as many entries as were made, all of the drainers' seats and told, none of

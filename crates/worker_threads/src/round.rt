@@ -2,16 +2,16 @@
 
 ghost use Rattle.std.specs.Prelude.{◌≡◌, ◌≤◌, ◌<◌, ◌-◌, ℕ, IfOk, OnOk, OnErr, false, true};
 ghost use Rattle.binder_model.specs.Told.{own};
-ghost use Rattle.size_calls.specs.Calls.{AreByActors};
-ghost use Rattle.drain_rounds.specs.Drainers.{AreAtRest, AreIdle, AreStanding, roles_of, seats_of};
-ghost use Rattle.drain_rounds.specs.Longer.{GrowsWithin, HasGrown, IsLonger, IsOneOf, users_of};
-ghost use Rattle.drain_rounds.specs.Rounds.{IsRound, OrdersNone, ServesSeats, all_pass};
+ghost use Rattle.size_law.specs.Calls.Calls.{AreByActors};
+ghost use Rattle.actor_rounds.specs.Drainers.{AreAtRest, AreIdle, AreStanding, roles_of, seats_of};
+ghost use Rattle.actor_rounds.specs.Longer.{GrowsWithin, HasGrown, IsLonger, IsOneOf, users_of};
+ghost use Rattle.actor_rounds.specs.Rounds.{IsRound, OrdersNone, ServesSeats, all_pass};
 ghost use Rattle.worker_threads.specs.Settling.{RoundIsShort, RoundLasts};
 
-use drain_rounds::drainers::Drainers;
-use drain_rounds::turns::turns;
+use actor_rounds::answering::answers::Answers;
+use actor_rounds::drainers::Drainers;
+use actor_rounds::turns::turns;
 use kube_types::copies::OutOfMemory;
-use seat_calls::answers::Answers;
 
 /// What a round came to: how many calls it made, and whether each actor was idle at the end of its turn.
 #[derive(Clone, Copy, Debug, PartialEq, Eq)]

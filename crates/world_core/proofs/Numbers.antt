@@ -11,7 +11,7 @@ use Rattle.binder_model.specs.Answers.{Outcome, is_user}
 use Rattle.binder_model.specs.Devices.{Data, Devices, DeviceAnswer, epoch_of, is_planned, provision_new, provision, erase, unless_planned, unless_stale, take_node, with_mounts, device_answer}
 use Rattle.binder_model.specs.Watching.{oldest}
 use Rattle.binder_model.specs.World.{base, World, Effect, OnStore, OnDevices, SetsMoment, is_time, world, effect, world_after, on_devices, set_time, watch}
-use Rattle.safety_invariant.proofs.DeviceMoves.{device_moves}
+use Rattle.safety_law.proofs.Invariant.DeviceMoves.{device_moves}
 
 -- an answer counts one call or none
 record IsCounted (d : Devices) (a : DeviceAnswer) : Type 0 where

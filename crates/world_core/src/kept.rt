@@ -82,7 +82,7 @@ impl KeptWorld {
     }
 
     /// The world. Its history is a run, and safe at every point.
-    #[tactic(auto, using(safety_law::proofs::Law::run_implies_safe))]
+    #[tactic(auto, using(safety_law::proofs::Law::Law::run_implies_safe))]
     pub fn world(&self) -> &World
         ensures value { result.now ≡ self.now }
         ensures of { IsRunOf self.now.setup self.now.past }

@@ -9,7 +9,7 @@ use Rattle.worker_core.specs.Stands.{IsNew, PassStands, StandsFor}
 use Rattle.worker_core.specs.States.{ActorState}
 use Rattle.actor_turns.specs.declared.part.Part.{Part}
 use Rattle.actor_turns.specs.declared.player.Player.{Player}
-use Rattle.seat_calls.specs.Answered.{Lets}
+use Rattle.actor_rounds.specs.Answers.Answered.{Lets}
 use Rattle.actor_turns.specs.Calls.{AreCalls, IsCall, MayEnd, and_idle, is_held, seat_at}
 use Rattle.actor_turns.specs.Parts.{lives_of}
 

@@ -4,10 +4,10 @@ ghost use Rattle.binder_model.specs.Imports.{ImportsPass};
 
 use audit_check::audit;
 use audit_check::verdict::Verdict;
+use call_types::histories::History;
 use history_read::errors::HistoryError;
 use history_read::reading::read_history;
 use history_text::histories::print_history;
-use history_type::History;
 use kube_types::copies::OutOfMemory;
 use std::alloc::Global;
 

@@ -34,10 +34,10 @@ use Rattle.model_laws.specs.Worked.{volume}
 use Rattle.model_examples.proofs.Tellings.{IsIn, differ, found_in, one}
 use Rattle.world_core.specs.declared.drained.Drained.{Drained}
 use Rattle.world_core.specs.declared.drained.Drained.TheVariants.{Spent}
-use Rattle.drain_rounds.specs.declared.drainers.Drainer.{Drainer}
-use Rattle.drain_rounds.specs.Drainers.{AreNew, roles_for, roles_of, seats_of}
-use Rattle.drain_rounds.specs.Rounds.{all_pass}
-use Rattle.drain_rounds.proofs.NewFacts.{new_roles_for, new_seats_for}
+use Rattle.actor_rounds.specs.declared.drainers.Drainer.{Drainer}
+use Rattle.actor_rounds.specs.Drainers.{AreNew, roles_for, roles_of, seats_of}
+use Rattle.actor_rounds.specs.Rounds.{all_pass}
+use Rattle.actor_rounds.proofs.NewFacts.{new_roles_for, new_seats_for}
 use Rattle.script_text.specs.declared.script.Line.{Line}
 use Rattle.script_text.specs.declared.script.Line.TheVariants as lines
 use Rattle.script_text.specs.declared.script.Script.{Script}

@@ -12,7 +12,7 @@ use Rattle.call_types.specs.declared.request.Request.TheVariants as requests
 use Rattle.call_types.specs.declared.request.SeatKind.TheVariants as seats
 use Rattle.binder_model.specs.Reading.{follows}
 use Rattle.worker_core.specs.Stands.{HasNoNews}
-use Rattle.seat_calls.specs.Answered.{all_pass}
+use Rattle.actor_rounds.specs.Answers.Answered.{all_pass}
 use Rattle.actor_turns.specs.declared.loss.Fate.TheVariants.{Told}
 use Rattle.actor_turns.specs.declared.part.Part.{Part}
 use Rattle.actor_turns.specs.Fates.{fate_of}

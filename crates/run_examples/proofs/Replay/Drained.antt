@@ -27,8 +27,8 @@ use Rattle.binder_model.specs.World.{effect, on_devices, world, world_after}
 use Rattle.model_examples.specs.DueActions.{pending_a}
 use Rattle.model_examples.specs.Samples.{key_a}
 use Rattle.model_examples.proofs.Tellings.{IsIn, differ, found_in, one}
-use Rattle.drain_rounds.specs.Drainers.{HaveNoEntries, seats_of}
-use Rattle.drain_rounds.specs.Rounds.{IsSpent, NothingDue, all_pass}
+use Rattle.actor_rounds.specs.Drainers.{HaveNoEntries, seats_of}
+use Rattle.actor_rounds.specs.Rounds.{IsSpent, NothingDue, all_pass}
 use Rattle.script_text.specs.declared.script.Script.{Script}
 use Rattle.script_runs.specs.Drains.{DrainComesTo}
 use Rattle.script_runs.specs.Parts.{drain_seat}

@@ -13,12 +13,12 @@ use Rattle.worker_core.specs.Stands.{IsNew, StandsFor}
 use Rattle.worker_core.specs.States.{ActorState}
 use Rattle.worker_core.proofs.Begins.{begins}
 use Rattle.attention_law.proofs.Kept.{new_queues, wakes_queues}
-use Rattle.drain_rounds.specs.declared.drainers.Drainer.{Drainer}
-use Rattle.drain_rounds.specs.Drainers.{AreAtRest, AreNew, AreNewAgents, AreStanding, HaveNoEntries, IsNewAt, StandsWhole, agent_of, of_kind, roles_of, seats_of}
-use Rattle.drain_rounds.proofs.NewFacts.{new_roles_for, new_seats_for, new_stand}
+use Rattle.actor_rounds.specs.declared.drainers.Drainer.{Drainer}
+use Rattle.actor_rounds.specs.Drainers.{AreAtRest, AreNew, AreNewAgents, AreStanding, HaveNoEntries, IsNewAt, StandsWhole, agent_of, of_kind, roles_of, seats_of}
+use Rattle.actor_rounds.proofs.NewFacts.{new_roles_for, new_seats_for, new_stand}
 use Rattle.script_text.specs.declared.script.Script.{Script}
 use Rattle.script_runs.specs.Parts.{drain_roles, drain_seat, drain_seats}
-use Rattle.drain_rounds.proofs.Resting.{new_rest}
+use Rattle.actor_rounds.proofs.Resting.{new_rest}
 use Rattle.run_examples.specs.Replay.Runs.{begun_as, knows_nothing, no_caches}
 
 -- ---- caches that know nothing
@@ -55,7 +55,7 @@ begun_stands role = begins role (begun_as role) (begun_new role)
 woken_stands : (s : ActorState) (mine : List Entry) → StandsFor s mine → StandsFor (woken s) mine
 woken_stands s mine stands = record {
   caches = stands.caches;
-  under_way = stands.under_way;
+  settle_round_calls = stands.settle_round_calls;
   pass = λ quiet place kind low at. absurd (omega (arith, low));
   memory = stands.memory;
   licensed = stands.licensed;

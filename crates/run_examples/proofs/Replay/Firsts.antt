@@ -28,12 +28,12 @@ use Rattle.worker_core.specs.Stands.{AnyIsUnderWay, Begun, IsUnderWay, StandsFor
 use Rattle.worker_core.specs.States.{ActorState, call_in, read_of_kind, read_request, start_call}
 use Rattle.worker_core.specs.Turns.{IsTurn, TurnBy, first_unlisted, is_listed, passing, unlisted}
 use Rattle.worker_core.proofs.ByKind.{built_fresh}
-use Rattle.drain_rounds.specs.declared.drainers.Drainer.{Drainer}
-use Rattle.drain_rounds.specs.Drainers.{of_kind, roles_of, seats_of}
-use Rattle.drain_rounds.specs.Rounds.{Asks, Drains, Ends, Goes, IsHeld, IsIdle, IsReady, IsRound, IsSpent, NothingDue, Runs, Turns, all_pass, told_entry}
-use Rattle.drain_rounds.proofs.DrainFacts.{drains_longer}
-use Rattle.drain_rounds.proofs.RoundFacts.{round_longer}
-use Rattle.drain_rounds.proofs.RunFacts.{run_longer, still_role, turn_role}
+use Rattle.actor_rounds.specs.declared.drainers.Drainer.{Drainer}
+use Rattle.actor_rounds.specs.Drainers.{of_kind, roles_of, seats_of}
+use Rattle.actor_rounds.specs.Rounds.{Asks, Drains, Ends, Goes, IsHeld, IsIdle, IsReady, IsRound, IsSpent, NothingDue, Runs, Turns, all_pass, told_entry}
+use Rattle.actor_rounds.proofs.DrainFacts.{drains_longer}
+use Rattle.actor_rounds.proofs.RoundFacts.{round_longer}
+use Rattle.actor_rounds.proofs.RunFacts.{run_longer, still_role, turn_role}
 use Rattle.script_text.specs.declared.script.Line.{Line}
 use Rattle.script_text.specs.declared.script.Script.{Script}
 use Rattle.script_runs.specs.Parts.{drain_seat, drain_seats}
@@ -139,7 +139,7 @@ lists_next s given answer mine kind is stands first never turn = by s.memory.sta
 
     by : (stale : Bool) (u : Option Under) (start : Option Request) (l p : Option Kind) → s.memory.stale ≡ stale → s.under ≡ u → start_call s.role s.memory ≡ start → unlisted s ≡ l → TurnBy s given answer stale u start l p → ListsNext s answer
     by true u start l p es eu et el t = absurd (true≢false (sym es ∙ fresh))
-    by false (Some u) start l p es eu et el t = absurd (no_way s.role kind u mine is first never (subst (λ (o : Option Under). AnyIsUnderWay s.role o mine) eu stands.under_way))
+    by false (Some u) start l p es eu et el t = absurd (no_way s.role kind u mine is first never (subst (λ (o : Option Under). AnyIsUnderWay s.role o mine) eu stands.settle_round_calls))
     by false None (Some request) l p es eu et el t = none_some (ap (λ (r : Role). start_call r s.memory) (sym is) ∙ et)
     by false None None (Some k) p es eu et el t = record { kind = k; lacks = el; call = t.call ∙ ap (λ (r : Request). nexts.Call r) (asked_list s.caches k (lacking_from s.caches (kinds_of s.role.kind) k el)) }
     by false None None None p es eu et el t =

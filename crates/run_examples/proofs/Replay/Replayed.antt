@@ -13,8 +13,8 @@ use Rattle.binder_model.specs.World.{effect, on_devices, world, world_after}
 use Rattle.world_core.specs.declared.drained.Drained.{Drained}
 use Rattle.world_core.specs.declared.drained.Drained.TheVariants.{Settled, Spent}
 use Rattle.binder_model.specs.Due.{IsSettled}
-use Rattle.drain_rounds.specs.Drainers.{HaveNoEntries, seats_of}
-use Rattle.drain_rounds.specs.Rounds.{NothingDue, all_pass}
+use Rattle.actor_rounds.specs.Drainers.{HaveNoEntries, seats_of}
+use Rattle.actor_rounds.specs.Rounds.{NothingDue, all_pass}
 use Rattle.script_text.specs.declared.script.Line.{Line}
 use Rattle.script_text.specs.declared.script.Line.TheVariants as lines
 use Rattle.script_text.specs.declared.script.Script.{Script}

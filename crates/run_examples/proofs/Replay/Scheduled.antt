@@ -14,9 +14,9 @@ use Rattle.worker_core.specs.declared.turn.Outcome.TheVariants as outcomes
 use Rattle.worker_core.specs.Absorbs.{absorbed, woken}
 use Rattle.worker_core.specs.States.{ActorState}
 use Rattle.worker_core.specs.Turns.{IsTurn}
-use Rattle.drain_rounds.specs.declared.drainers.Drainer.{Drainer}
-use Rattle.drain_rounds.specs.Drainers.{HaveNoEntries, StandsWhole, of_kind, seats_of}
-use Rattle.drain_rounds.specs.Rounds.{Asks, Ends, Goes, IsReady, IsRound, IsSpent, Runs, Turns, all_pass}
+use Rattle.actor_rounds.specs.declared.drainers.Drainer.{Drainer}
+use Rattle.actor_rounds.specs.Drainers.{HaveNoEntries, StandsWhole, of_kind, seats_of}
+use Rattle.actor_rounds.specs.Rounds.{Asks, Ends, Goes, IsReady, IsRound, IsSpent, Runs, Turns, all_pass}
 use Rattle.script_text.specs.declared.script.Script.{Script}
 use Rattle.script_runs.specs.Parts.{drain_seat}
 use Rattle.script_runs.specs.Replays.{IsDrain, first_progress}

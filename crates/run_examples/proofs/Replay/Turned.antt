@@ -23,7 +23,7 @@ use Rattle.run_examples.specs.Replay.Calls.{told_calls, watches, whole_pass}
 use Rattle.run_examples.specs.Replay.Replays.{FewerExamples, after_a_pass, plain_part}
 use Rattle.run_examples.proofs.Replay.Counted.{end_cases}
 use Rattle.run_examples.proofs.Replay.Brought.{brought_at, only_life, silent_binder, watch_brings_none}
-use Rattle.seat_calls.specs.Answered.{all_pass}
+use Rattle.actor_rounds.specs.Answers.Answered.{all_pass}
 
 -- ---- calls leave entries
 

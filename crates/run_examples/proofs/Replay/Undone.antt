@@ -36,7 +36,7 @@ use Rattle.run_examples.specs.Replay.Replays.{plain_part}
 use Rattle.run_examples.specs.Replay.Turns.{LeftExamples, NeededExamples, StaleExamples, agent_n, agent_part, is_stale, lists, lost_node, made_all, made_fewer, only_watches, pending_a, six, takes}
 use Rattle.run_examples.proofs.Replay.Brought.{brought_at, no_binder_is_stale, only_life, silent_binder, watch_brings_none}
 use Rattle.run_examples.proofs.Replay.Lived.{same_calls}
-use Rattle.seat_calls.specs.Answered.{all_pass}
+use Rattle.actor_rounds.specs.Answers.Answered.{all_pass}
 
 -- ---- of an actor that loses no call
 

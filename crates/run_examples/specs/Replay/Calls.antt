@@ -13,7 +13,7 @@ use Rattle.actor_turns.specs.declared.part.Part.{Part}
 use Rattle.script_runs.specs.Examples.{binder_1, two_binders}
 use Rattle.script_runs.specs.Parts.{part_of}
 use Rattle.actor_turns.specs.Calls.{AreCalls, IsCall, MayEnd, seat_at}
-use Rattle.seat_calls.specs.Answered.{Lets, all_pass}
+use Rattle.actor_rounds.specs.Answers.Answered.{Lets, all_pass}
 
 -- it loses its second call after the effect and its fourth before it, and is restarted after its first and third
 abbrev pub part : Part

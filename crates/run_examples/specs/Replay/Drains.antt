@@ -17,9 +17,9 @@ use Rattle.call_types.specs.declared.request.SeatKind.TheVariants as seats
 use Rattle.binder_model.specs.ObjectKeys.{volume_key}
 use Rattle.model_laws.specs.Worked.{volume, volume_at}
 use Rattle.world_core.specs.declared.drained.Drained.TheVariants.{Settled, Spent}
-use Rattle.drain_rounds.specs.declared.drainers.Drainer.{Drainer}
-use Rattle.drain_rounds.specs.Drainers.{AreNew, roles_of, seats_of}
-use Rattle.drain_rounds.specs.Rounds.{all_pass}
+use Rattle.actor_rounds.specs.declared.drainers.Drainer.{Drainer}
+use Rattle.actor_rounds.specs.Drainers.{AreNew, roles_of, seats_of}
+use Rattle.actor_rounds.specs.Rounds.{all_pass}
 use Rattle.script_text.specs.declared.script.Line.TheVariants as lines
 use Rattle.script_text.specs.declared.script.Script.{Script}
 use Rattle.model_examples.specs.DueActions.{pending_a}

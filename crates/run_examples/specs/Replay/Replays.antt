@@ -16,7 +16,7 @@ use Rattle.script_runs.specs.Parts.{part_of, role_of}
 use Rattle.actor_turns.specs.Calls.{and_idle}
 use Rattle.script_runs.specs.Replays.{IsReplay, IsTurnLine, Progress, and_made, first_progress}
 use Rattle.run_examples.specs.Replay.Calls.{reads, some_key, told_calls, whole_pass}
-use Rattle.seat_calls.specs.Answered.{all_pass}
+use Rattle.actor_rounds.specs.Answers.Answered.{all_pass}
 
 abbrev pub empty_script : Script
 empty_script = script_of [] []

@@ -19,8 +19,8 @@ use Rattle.worker_core.specs.Memories.{no_memory}
 use Rattle.worker_core.specs.Roles.{kinds_of}
 use Rattle.worker_core.specs.States.{ActorState}
 use Rattle.attention_law.specs.Queues.{QueueStands}
-use Rattle.drain_rounds.specs.Drainers.{of_kind}
-use Rattle.drain_rounds.specs.Rounds.{Lets, Runs, all_pass}
+use Rattle.actor_rounds.specs.Drainers.{of_kind}
+use Rattle.actor_rounds.specs.Rounds.{Lets, Runs, all_pass}
 
 -- ---- an actor that was told nothing
 

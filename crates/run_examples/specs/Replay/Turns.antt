@@ -26,7 +26,7 @@ use Rattle.actor_turns.specs.Calls.{and_idle}
 use Rattle.script_runs.specs.Replays.{IsTurnLine, Progress, and_made, first_progress}
 use Rattle.run_examples.specs.Replay.Calls.{told_calls, watches}
 use Rattle.run_examples.specs.Replay.Replays.{plain_part}
-use Rattle.seat_calls.specs.Answered.{all_pass}
+use Rattle.actor_rounds.specs.Answers.Answered.{all_pass}
 
 -- ---- a turn goes on only where its life is not idle
 

@@ -1,8 +1,8 @@
 -- What stands for how far a replay has come: a world, the actors, and the numbers of the drains. A choice of this project.
 use Rattle.std.specs.Prelude.{ℕ, ◌≡◌, ◌≤◌, ◌<◌, ◌+◌, true, List, [], ◌∷◌, ◌++◌, Option, Some, None, bytes_eq, drop, map, slice_get, if◌then◌else◌}
 use Rattle.attention_law.specs.Diligence.{entries}
-use Rattle.drain_rounds.specs.Drainers.{AreAtRest, AreStanding, roles_of, seats_of}
-use Rattle.drain_rounds.specs.Rounds.{all_pass}
+use Rattle.actor_rounds.specs.Drainers.{AreAtRest, AreStanding, roles_of, seats_of}
+use Rattle.actor_rounds.specs.Rounds.{all_pass}
 use Rattle.world_core.specs.declared.drained.Drained.{Drained}
 use Rattle.world_core.specs.declared.drained.Drained.TheVariants.{Settled, Spent}
 use Rattle.script_lines.specs.declared.actors.Worker.{Worker as WorkerData}

@@ -11,8 +11,8 @@ use Rattle.shared_work.specs.declared.lines.UserLines.{UserLines}
 use Rattle.shared_work.specs.declared.worker.OneOf.{OneOf}
 use Rattle.shared_work.specs.declared.worker.OneOf.TheVariants.{First, Second}
 use Rattle.shared_work.specs.Seats.{seats_at}
-use Rattle.crew_actors.specs.declared.actor.ActorCalls.{ActorCalls}
-use Rattle.crew_actors.specs.Acting.{MayAct, seats_of_lives}
+use Rattle.actor_work.specs.declared.members.actor.ActorCalls.{ActorCalls}
+use Rattle.actor_work.specs.Crew.Acting.{MayAct, seats_of_lives}
 use Rattle.script_runs.specs.Parts.{first_actor_seat, role_of}
 use Rattle.script_threads.specs.Started.{after_lives, seat_after, started, started_part}
 

@@ -4,10 +4,10 @@ use Rattle.std.proofs.lemmas.List.Elements.{All-nil, All-cons, All-head}
 use Rattle.call_types.specs.declared.entry.Entry.{Entry}
 use Rattle.call_types.specs.declared.setup.Setup.{Setup}
 use Rattle.history_text.specs.Output.{history_text, with_lines}
-use Rattle.history_laws.specs.Given.{IsEntry, IsTextHistory, IsNumber, IsPool, IsSetup}
-use Rattle.history_laws.specs.Texts.{IsTextOf, lines_before_end}
-use Rattle.printable_law.specs.Laws.{HasOneHistory, IsAskedGiven, IsGivenRun}
-use Rattle.printable_law.proofs.Texts.{has_one}
+use Rattle.history_laws.specs.Read.Given.{IsEntry, IsTextHistory, IsNumber, IsPool, IsSetup}
+use Rattle.history_laws.specs.Read.Texts.{IsTextOf, lines_before_end}
+use Rattle.history_laws.specs.Runs.Laws.{HasOneHistory, IsAskedGiven, IsGivenRun}
+use Rattle.history_laws.proofs.Runs.Texts.{has_one}
 use Rattle.text_examples.specs.Printable.Given.{GivenExamples, bare, finds_nothing, looks, watches_far}
 
 bare_given : IsSetup bare

@@ -13,7 +13,7 @@ use Rattle.call_types.specs.declared.entry.Entry.{Entry}
 use Rattle.call_types.specs.declared.setup.Setup.{Setup}
 use Rattle.history_read.specs.declared.errors.Reason.{Reason}
 use Rattle.history_read.specs.declared.errors.BadLine.{BadLine}
-use Rattle.history_type.specs.declared.History.{History}
+use Rattle.call_types.specs.declared.histories.History.{History}
 
 abbrev pub no_setup : Setup
 no_setup = record { pools = []; faults = []; imports = [] }

@@ -11,9 +11,9 @@ use Rattle.call_types.specs.declared.request.SeatKind.TheVariants.{User}
 use Rattle.call_types.specs.declared.reply.Reply.TheVariants.{Refused}
 use Rattle.call_types.specs.declared.reply.Refusal.TheVariants.{NotFound}
 use Rattle.history_text.specs.Output.{history_text, with_lines}
-use Rattle.history_laws.specs.Given.{IsTextHistory, IsSetup}
-use Rattle.history_laws.specs.Texts.{IsTextOf, lines_before_end}
-use Rattle.printable_law.specs.Laws.{HasOneHistory, IsAskedGiven, IsGivenRun}
+use Rattle.history_laws.specs.Read.Given.{IsTextHistory, IsSetup}
+use Rattle.history_laws.specs.Read.Texts.{IsTextOf, lines_before_end}
+use Rattle.history_laws.specs.Runs.Laws.{HasOneHistory, IsAskedGiven, IsGivenRun}
 
 abbrev pub bare : Setup
 bare = record { pools = []; faults = []; imports = [] }

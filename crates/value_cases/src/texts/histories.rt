@@ -1,11 +1,11 @@
 //! Lines of histories that are read, and printed again: a call, a blank and a text, in which `;;` stands for a line feed.
 
 use crate::texts::words::{bytes_of, letters, with_feeds, with_marks, word};
+use call_types::histories::History;
 use history_read::errors::HistoryError;
 use history_read::reading::read_history;
 use history_read::refusals::refusal_line;
 use history_text::histories::print_history;
-use history_type::History;
 use plain_data::copies::OutOfMemory;
 use sample_objects::lines::split;
 use sample_objects::words::number;

@@ -3,7 +3,7 @@ use Rattle.call_types.specs.declared.ask.Ask.{Ask}
 use Rattle.call_types.specs.declared.request.SeatKind.{SeatKind}
 use Rattle.binder_model.specs.Licence.{Licensed}
 use Rattle.binder_model.specs.Told.{own}
-use Rattle.seat_calls.specs.Asked.{IsAskOf}
+use Rattle.actor_rounds.specs.Answers.Asked.{IsAskOf}
 use Rattle.worker_core.specs.declared.turn.Next.{Next}
 use Rattle.worker_core.specs.declared.role.Role.{Role}
 use Rattle.worker_core.specs.Roles.{IsBuiltKind}

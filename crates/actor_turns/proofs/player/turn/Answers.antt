@@ -2,7 +2,7 @@ use Rattle.std.proofs.Common.{◌∙◌, ◌+◌, ◌<◌, ◌^◌, inl, inr, ap
 use Rattle.call_types.specs.declared.entry.Entry.{Entry}
 use Rattle.actor_turns.specs.declared.part.Part.{Part}
 use Rattle.actor_turns.specs.Steps.Living.{HasLived}
-use Rattle.seat_calls.specs.Answered.{Lets}
+use Rattle.actor_rounds.specs.Answers.Answered.{Lets}
 use Rattle.worker_core.specs.States.{ActorState}
 use Rattle.actor_turns.specs.Steps.Playing.{HasStepped, IsLife, Plays}
 use Rattle.actor_turns.proofs.Lived.{lived_all, woken_lives}

@@ -1,8 +1,8 @@
 use Rattle.std.proofs.Common.{◌≡◌, ◌≤◌, ◌+◌, ◌-◌, ℕ, List}
 use Rattle.attention_law.specs.Diligence.{Call}
 use Rattle.call_types.specs.declared.entry.Entry.{Entry}
-use Rattle.size_calls.specs.Calls.{AreByActors}
-use Rattle.seat_calls.specs.Answered.{all_pass}
+use Rattle.size_law.specs.Calls.Calls.{AreByActors}
+use Rattle.actor_rounds.specs.Answers.Answered.{all_pass}
 use Rattle.worker_core.specs.declared.role.Role.{Role}
 use Rattle.actor_turns.specs.Steps.Living.{Lives}
 use Rattle.actor_turns.specs.Steps.Playing.{HasGone, Plays, SomePlays}

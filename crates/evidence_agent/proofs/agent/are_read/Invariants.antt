@@ -1,7 +1,7 @@
 use Rattle.std.proofs.Common.{◌≤◌, ◌-◌, List, drop, length, reverse}
 use Rattle.call_types.specs.declared.entry.Entry.{Entry}
 use Rattle.binder_model.specs.AgentLicence.{AreReadReady}
-use Rattle.evidence_places.specs.Steps.Since.{Above}
+use Rattle.evidence_agent.specs.Places.Steps.Since.{Above}
 use Rattle.evidence_agent.proofs.agent.are_read.Given as goal
 
 -- what is left of both is to be tested still

@@ -1,6 +1,6 @@
 use Rattle.std.proofs.Common.{◌<◌, length, arith, subst}
-use Rattle.evidence_places.specs.Steps.Since.{IsPodList}
-use Rattle.evidence_places.proofs.Since.{read_stands}
+use Rattle.evidence_agent.specs.Places.Steps.Since.{IsPodList}
+use Rattle.evidence_agent.proofs.Places.Since.{read_stands}
 use Rattle.evidence_agent.proofs.agent.is_listed.Goals as goal
 
 pub returns-else-place-entries : goal.returns-else-place-entries

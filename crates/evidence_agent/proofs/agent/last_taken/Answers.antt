@@ -1,8 +1,8 @@
 use Rattle.std.proofs.Common.{◌≡◌, Some, ◌∙◌, ap, arith, reverse, subst}
 use Rattle.call_types.specs.declared.entry.Entry.{Entry}
 use Rattle.binder_model.specs.AgentLicence.{epoch_in}
-use Rattle.evidence_places.specs.declared.topics.Matter.TheVariants as matters
-use Rattle.evidence_places.specs.Topics.{about_name}
+use Rattle.evidence_agent.specs.declared.by_place.topics.Matter.TheVariants as matters
+use Rattle.evidence_agent.specs.Places.Topics.{about_name}
 use Rattle.evidence_agent.proofs.Sight.{taken_by}
 use Rattle.evidence_agent.proofs.agent.last_taken.Goals as goal
 

@@ -1,7 +1,7 @@
 use Rattle.std.proofs.Common.{◌≡◌, ◌<◌, length, true, ◌∙◌, arith, sym, reverse, subst}
 use Rattle.std.proofs.lemmas.List.{get_or_default}
 use Rattle.call_types.specs.declared.entry.Entry.{Entry}
-use Rattle.evidence_places.specs.Steps.Since.{gets}
+use Rattle.evidence_agent.specs.Places.Steps.Since.{gets}
 use Rattle.evidence_agent.specs.Steps.Seen.{key_with_parts}
 use Rattle.evidence_agent.proofs.Sight.{read_by}
 use Rattle.evidence_agent.proofs.agent.read_behind.Goals as goal

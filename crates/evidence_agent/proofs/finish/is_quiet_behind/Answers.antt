@@ -1,5 +1,5 @@
 use Rattle.std.proofs.Common.{reverse, sym, subst}
-use Rattle.evidence_places.specs.Steps.Since.{IsUpto}
+use Rattle.evidence_agent.specs.Places.Steps.Since.{IsUpto}
 use Rattle.evidence_agent.proofs.Sight.{quiet_by}
 use Rattle.evidence_agent.proofs.finish.is_quiet_behind.Goals as goal
 

@@ -1,6 +1,6 @@
 use Rattle.std.proofs.Common.{◌≡◌, ◌<◌, length, true, arith, sym, ◌∙◌, subst}
 use Rattle.call_types.specs.declared.entry.Entry.{Entry}
-use Rattle.evidence_places.specs.Steps.Since.{tells_unmounted}
+use Rattle.evidence_agent.specs.Places.Steps.Since.{tells_unmounted}
 use Rattle.evidence_agent.proofs.Sight.{unmounted_by}
 use Rattle.evidence_agent.proofs.finish.is_unmounted.Goals as goal
 

@@ -2,7 +2,7 @@ use Rattle.std.proofs.Common.{◌≡◌, List}
 use Rattle.kube_types.specs.declared.objects.Object.{Object}
 use Rattle.call_types.specs.declared.entry.Entry.{Entry}
 use Rattle.binder_model.specs.Told.{SomeOf}
-use Rattle.evidence_places.specs.Places.{TellsAt}
+use Rattle.evidence_agent.specs.Places.Places.{TellsAt}
 use Rattle.evidence_agent.specs.Pods.{ArePods}
 use Rattle.evidence_agent.proofs.pods.tell_list.Given as goal
 

@@ -1,6 +1,6 @@
 use Rattle.std.proofs.Common.{subst}
 use Rattle.std.proofs.lemmas.Result.{on_ok_weaker}
-use Rattle.evidence_places.specs.Places.{TellsAt}
+use Rattle.evidence_agent.specs.Places.Places.{TellsAt}
 use Rattle.evidence_agent.proofs.pods.tell_object.Goals as goal
 
 pub returns-in-Pod : goal.returns-in-Pod

@@ -2,7 +2,7 @@ use Rattle.std.proofs.Common.{sym, subst}
 use Rattle.std.proofs.lemmas.Result.{on_ok_weaker}
 use Rattle.kube_types.specs.declared.objects.Object.TheVariants.{Pod}
 use Rattle.kube_types.specs.declared.objects.Pod.{Pod as PodData}
-use Rattle.evidence_places.specs.Places.{TellsAt}
+use Rattle.evidence_agent.specs.Places.Places.{TellsAt}
 use Rattle.evidence_agent.proofs.pods.tell_pod.Goals as goal
 
 pub returns-in_ok-kept-in-Some : goal.returns-in_ok-kept-in-Some

@@ -5,7 +5,7 @@ use Rattle.kube_types.specs.declared.objects.Object.TheVariants.{Class, Claim}
 use Rattle.kube_types.specs.Bindings.{class_of_claim}
 use Rattle.binder_model.specs.ObjectKeys.{claim_key, class_key}
 use Rattle.binder_model.specs.Told.{IsNewest}
-use Rattle.licence_ops.proofs.Creating.{create_absent, create_classless, create_row}
+use Rattle.licence_writes.proofs.OpsRows.Creating.{create_absent, create_classless, create_row}
 use Rattle.licence_record.proofs.Judging.{lift, no}
 use Rattle.licence_writes.proofs.create.create_for.Goals as goal
 

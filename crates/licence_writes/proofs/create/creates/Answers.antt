@@ -1,5 +1,5 @@
 use Rattle.std.proofs.Common.{reverse}
-use Rattle.licence_ops.specs.Providing.{Creates}
+use Rattle.licence_writes.specs.OpsRows.Providing.{Creates}
 use Rattle.licence_record.proofs.Judging.{exact, paged}
 use Rattle.licence_writes.proofs.Growing.{creates_grows}
 use Rattle.licence_writes.proofs.create.creates.Goals as goal

@@ -1,4 +1,4 @@
-use Rattle.licence_ops.proofs.Creating.{create_none, create_unknown}
+use Rattle.licence_writes.proofs.OpsRows.Creating.{create_none, create_unknown}
 use Rattle.licence_record.proofs.Judging.{no}
 use Rattle.licence_writes.proofs.create.may_create.Goals as goal
 

@@ -1,5 +1,5 @@
 use Rattle.std.proofs.Common.{rules}
-use Rattle.licence_ops.proofs.Providing.{labels_row}
+use Rattle.licence_writes.proofs.OpsRows.Providing.{labels_row}
 use Rattle.licence_record.proofs.Judging.{lift}
 use Rattle.licence_writes.proofs.provision.are_node_labels.Goals as goal
 

@@ -2,7 +2,7 @@ use Rattle.std.proofs.Common.{subst}
 use Rattle.kube_types.specs.declared.objects.Object.TheVariants.{Class}
 use Rattle.binder_model.specs.ObjectKeys.{class_key}
 use Rattle.binder_model.specs.Told.{IsNewest}
-use Rattle.licence_ops.proofs.Providing.{provided_row}
+use Rattle.licence_writes.proofs.OpsRows.Providing.{provided_row}
 use Rattle.licence_record.proofs.Judging.{lift}
 use Rattle.licence_writes.proofs.provision.is_provided.Goals as goal
 

@@ -1,4 +1,4 @@
-use Rattle.licence_ops.proofs.Providing.{provision_row}
+use Rattle.licence_writes.proofs.OpsRows.Providing.{provision_row}
 use Rattle.licence_record.proofs.Judging.{lift, weaker}
 use Rattle.licence_writes.proofs.provision.may_provision.Goals as goal
 

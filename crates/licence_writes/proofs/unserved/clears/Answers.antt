@@ -1,5 +1,5 @@
 use Rattle.std.proofs.Common.{rules}
-use Rattle.licence_ops.proofs.Providing.{clear_row}
+use Rattle.licence_writes.proofs.OpsRows.Providing.{clear_row}
 use Rattle.licence_record.proofs.Judging.{lift}
 use Rattle.licence_writes.proofs.unserved.clears.Goals as goal
 

@@ -1,5 +1,5 @@
 use Rattle.std.proofs.Common.{◌≡◌, ◌+◌, ◌*◌, ◌∙◌, ap, sym, subst, arith, length, ℕ}
-use Rattle.size_calls.specs.Calls.{AreByActors}
+use Rattle.size_law.specs.Calls.Calls.{AreByActors}
 use Rattle.world_core.specs.Kept.{History}
 use Rattle.script_runs.specs.Steps.Standing.{MadeAtMost}
 use Rattle.script_runs.proofs.Beginning.{replays, so_far_first, so_far_on}

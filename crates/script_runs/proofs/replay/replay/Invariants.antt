@@ -1,5 +1,5 @@
 use Rattle.std.proofs.Common.{◌*◌}
-use Rattle.size_calls.specs.Calls.{AreByActors}
+use Rattle.size_law.specs.Calls.Calls.{AreByActors}
 use Rattle.script_runs.specs.Steps.Standing.{MadeAtMost, SoFar, SomeStands}
 use Rattle.script_runs.proofs.replay.replay.Given as goal
 

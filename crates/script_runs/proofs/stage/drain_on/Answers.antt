@@ -2,7 +2,7 @@ use Rattle.std.proofs.Common.{refl, subst, arith}
 use Rattle.binder_model.specs.Due.{IsSettled}
 use Rattle.binder_model.specs.World.{world}
 use Rattle.world_core.specs.Kept.{History}
-use Rattle.drain_rounds.specs.Rounds.{NothingDue}
+use Rattle.actor_rounds.specs.Rounds.{NothingDue}
 use Rattle.script_runs.proofs.stage.drain_on.Goals as goal
 
 pub returns-then-stays_settled-clause-rounds : goal.returns-then-stays_settled-clause-rounds

@@ -3,9 +3,9 @@
 use audit_check::audit;
 use audit_check::verdict::Verdict;
 use call_types::entry::Entry;
+use call_types::histories::History;
 use call_types::reply::Reply;
 use call_types::request::{Request, SeatKind};
-use history_type::History;
 use plain_data::copies::{OutOfMemory, Plain};
 use plain_data::items::Items;
 use sample_objects::setups::bare;

@@ -3,11 +3,11 @@ use Rattle.call_types.specs.declared.setup.Setup.{Setup}
 use Rattle.binder_model.specs.Promises.{IsRunOf}
 use Rattle.world_core.specs.Kept.{History}
 use Rattle.world_core.specs.declared.drained.Drained.{Drained}
-use Rattle.drain_rounds.specs.Drainers.{AreSeats, seats_of}
-use Rattle.drain_rounds.specs.Longer.{HasGrown, IsLonger, IsOneOf}
-use Rattle.drain_rounds.specs.Rounds.{EndsHere, Goes, made_of}
-use Rattle.drain_rounds.proofs.Entries.{grown_others, grown_then, on_err}
-use Rattle.drain_rounds.proofs.DrainFacts.{drained_all, drained_longer, drains_none, ends_few}
+use Rattle.actor_rounds.specs.Drainers.{AreSeats, seats_of}
+use Rattle.actor_rounds.specs.Longer.{HasGrown, IsLonger, IsOneOf}
+use Rattle.actor_rounds.specs.Rounds.{EndsHere, Goes, made_of}
+use Rattle.actor_rounds.proofs.Entries.{grown_others, grown_then, on_err}
+use Rattle.actor_rounds.proofs.DrainFacts.{drained_all, drained_longer, drains_none, ends_few}
 use Rattle.worker_threads.proofs.Settling.{drain_lasts, drain_settles, drain_short}
 use Rattle.worker_threads.proofs.drain.drain.Goals as goal
 

@@ -1,10 +1,10 @@
 use Rattle.std.proofs.Common.{◌≡◌, ◌≤◌, ℕ, List}
-use Rattle.size_calls.specs.Calls.{AreByActors}
+use Rattle.size_law.specs.Calls.Calls.{AreByActors}
 use Rattle.call_types.specs.declared.entry.Entry.{Entry}
-use Rattle.drain_rounds.specs.declared.drainers.Drainer.{Drainer}
-use Rattle.drain_rounds.specs.Drainers.{AreStanding, roles_of, seats_of}
-use Rattle.drain_rounds.specs.Longer.{HasGrown, users_of}
-use Rattle.drain_rounds.specs.Rounds.{Drains, all_pass}
+use Rattle.actor_rounds.specs.declared.drainers.Drainer.{Drainer}
+use Rattle.actor_rounds.specs.Drainers.{AreStanding, roles_of, seats_of}
+use Rattle.actor_rounds.specs.Longer.{HasGrown, users_of}
+use Rattle.actor_rounds.specs.Rounds.{Drains, all_pass}
 use Rattle.worker_threads.proofs.drain.drain.Given as goal
 
 abbrev pub invariant-rounds : goal.invariant-rounds

@@ -1,10 +1,10 @@
 use Rattle.std.proofs.Common.{◌≡◌, ◌-◌, ◌≤◌, subst, arith, Bool, ℕ}
-use Rattle.seat_calls.specs.Answered.{Lets}
-use Rattle.drain_rounds.specs.Drainers.{AreSeats}
-use Rattle.drain_rounds.specs.Rounds.{IsRound}
-use Rattle.drain_rounds.proofs.Entries.{grown_others}
-use Rattle.drain_rounds.proofs.Resting.{round_rests}
-use Rattle.drain_rounds.proofs.RoundFacts.{round_grows, round_left, round_longer, round_part}
+use Rattle.actor_rounds.specs.Answers.Answered.{Lets}
+use Rattle.actor_rounds.specs.Drainers.{AreSeats}
+use Rattle.actor_rounds.specs.Rounds.{IsRound}
+use Rattle.actor_rounds.proofs.Entries.{grown_others}
+use Rattle.actor_rounds.proofs.Resting.{round_rests}
+use Rattle.actor_rounds.proofs.RoundFacts.{round_grows, round_left, round_longer, round_part}
 use Rattle.worker_threads.proofs.Settling.{round_lasts, round_short}
 use Rattle.worker_threads.proofs.round.round.Goals as goal
 

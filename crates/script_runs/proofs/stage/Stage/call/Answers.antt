@@ -1,5 +1,5 @@
 use Rattle.std.proofs.Common.{refl, subst, sym}
-use Rattle.size_calls.specs.Calls.{AreByActors}
+use Rattle.size_law.specs.Calls.Calls.{AreByActors}
 use Rattle.script_runs.proofs.Staging.{user_moved}
 use Rattle.script_runs.proofs.stage.Stage.call.Goals as goal
 

@@ -1,6 +1,6 @@
 use Rattle.std.proofs.Common.{◌≡◌, ◌+◌, ◌-◌, ap, refl, subst, sym, arith, ℕ}
 use Rattle.world_core.specs.Kept.{History}
-use Rattle.drain_rounds.specs.Rounds.{EndsWith, made_of}
+use Rattle.actor_rounds.specs.Rounds.{EndsWith, made_of}
 use Rattle.script_runs.specs.Budget.{raised}
 use Rattle.script_runs.specs.Steps.Settled.{IsNoted}
 use Rattle.script_runs.proofs.Casting.{drains_after}

@@ -1,6 +1,0 @@
-pub mod Entries
-pub mod RunFacts
-pub mod RoundFacts
-pub mod DrainFacts
-pub mod NewFacts
-pub mod Resting

@@ -1,4 +1,0 @@
-pub mod Calling
-pub mod Drainers
-pub mod Longer
-pub mod Rounds

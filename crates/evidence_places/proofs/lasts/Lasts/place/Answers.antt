@@ -1,7 +1,0 @@
-use Rattle.std.proofs.Common.{ap, ◌∙◌}
-use Rattle.evidence_places.specs.Rows.{place_in}
-use Rattle.evidence_places.specs.Topics.{topic_by}
-use Rattle.evidence_places.proofs.lasts.Lasts.place.Goals as goal
-
-pub returns : goal.returns
-returns c = λ mine all. c.place_in.ensures ∙ ap (place_in (topic_by c.args.about.now)) (c.deref.ensures.value ∙ c.self.view_is) ∙ all (topic_by c.args.about.now)

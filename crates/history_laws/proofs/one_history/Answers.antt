@@ -1,5 +1,0 @@
-use Rattle.history_laws.proofs.OneHistory.{one_history}
-use Rattle.history_laws.proofs.one_history.Goals as goal
-
-pub returns : goal.returns
-returns c = one_history

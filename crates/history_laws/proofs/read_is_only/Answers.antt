@@ -1,5 +1,0 @@
-use Rattle.history_laws.proofs.ReadGives.{read_is_only}
-use Rattle.history_laws.proofs.read_is_only.Goals as goal
-
-pub returns : goal.returns
-returns c = read_is_only

@@ -1,5 +1,0 @@
-use Rattle.seat_lock.specs.Passes.{IsPassOf}
-use Rattle.lock_cases.proofs.tests.work.Given as goal
-
-abbrev pub invariant-loop : goal.invariant-loop
-invariant-loop g l = IsPassOf l.lock l.pass

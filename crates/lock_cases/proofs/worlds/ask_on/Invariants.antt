@@ -1,5 +1,0 @@
-use Rattle.shared_world.specs.Passes.{IsOf}
-use Rattle.lock_cases.proofs.worlds.ask_on.Given as goal
-
-abbrev pub invariant-loop : goal.invariant-loop
-invariant-loop g l = IsOf l.shared l.pass

@@ -1,6 +1,0 @@
-use Rattle.node_law.proofs.Nodes.{pods_are_on_given_nodes}
-use Rattle.node_law.proofs.pods_are_on_given_nodes.Goals as goal
-
--- a pod is bound to a node that stands
-pub returns : goal.returns
-returns c = pods_are_on_given_nodes

@@ -1,6 +1,0 @@
-use Rattle.safety_invariant.proofs.DeviceMoves.{device_moves}
-use Rattle.safety_invariant.proofs.calls_move_the_devices.Goals as goal
-
--- src/lib.rt:35:1
-pub returns : goal.returns
-returns c = device_moves

@@ -1,5 +1,0 @@
-use Rattle.safety_law.proofs.FirstWorld.{first_world_is_good}
-use Rattle.safety_law.proofs.imports_start_well.Goals as goal
-
-pub returns : goal.returns
-returns c = first_world_is_good

@@ -1,0 +1,17 @@
+pub mod MembersBack
+pub mod EditsBack
+pub mod LinesBack
+pub mod LinesGood
+pub mod LinesRead
+pub mod Lengths
+pub mod Agents
+pub mod TextsRead
+pub mod Kept
+pub mod Shallow
+pub mod Values
+pub mod MembersGive
+pub mod LinesGive
+pub mod SetupGives
+pub mod TextsGive
+pub mod Again
+pub mod Imports

@@ -1,0 +1,4 @@
+pub mod Given
+pub mod Limits
+pub mod Scripts
+pub mod Laws

@@ -1,0 +1,3 @@
+pub mod Drains
+pub mod Nodes
+pub mod Objects

@@ -1,0 +1,4 @@
+pub mod Tasks
+pub mod Events
+pub mod Passes
+pub mod Slots

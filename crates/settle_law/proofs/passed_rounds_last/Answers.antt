@@ -1,6 +1,0 @@
-use Rattle.settle_law.proofs.Drained.{passed_rounds_last}
-use Rattle.settle_law.proofs.passed_rounds_last.Goals as goal
-
--- where nothing is held back, all calls pass
-pub returns : goal.returns
-returns c = passed_rounds_last

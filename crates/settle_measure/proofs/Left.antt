@@ -1,0 +1,10 @@
+pub mod Aside
+pub mod Bounds
+pub mod Entries
+pub mod Faults
+pub mod Others
+pub mod Small
+pub mod Sums
+pub mod Trying
+pub mod Volumes
+pub mod Words

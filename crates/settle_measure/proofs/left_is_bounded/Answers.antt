@@ -1,6 +1,0 @@
-use Rattle.settle_measure.proofs.Bounds.{left_is_bounded}
-use Rattle.settle_measure.proofs.left_is_bounded.Goals as goal
-
--- What is left is bounded by the kinds of the objects
-pub returns : goal.returns
-returns c = left_is_bounded

@@ -1,0 +1,5 @@
+pub mod Bounds
+pub mod Lowers
+pub mod Measure
+pub mod Small
+pub mod Tries

@@ -1,0 +1,4 @@
+pub mod Pays
+pub mod Scheduler
+pub mod Actors
+pub mod Drains

@@ -1,0 +1,5 @@
+pub mod Epochs
+pub mod Wakes
+pub mod Rounds
+pub mod Agents
+pub mod Drains

@@ -1,0 +1,73 @@
+-- How many calls a round makes at most: the stated number.
+-- A choice of this project.
+use Rattle.std.specs.Prelude.{ℕ, ◌≤◌, ◌+◌, ◌*◌, ◌-◌, ◌/◌, Bool, List, length, ⊤}
+use Rattle.call_types.specs.declared.entry.Entry.{Entry}
+use Rattle.call_types.specs.declared.setup.Setup.{Setup}
+use Rattle.binder_model.specs.Promises.{IsRunOf}
+use Rattle.binder_model.specs.World.{World, world}
+use Rattle.settle_measure.specs.Left.Measure.{claims_in, faults_left, pods_in, volumes_in}
+use Rattle.actor_rounds.specs.declared.drainers.Drainer.{Drainer}
+use Rattle.actor_rounds.specs.Drainers.{AreAtRest, AreRoles, roles_of}
+use Rattle.actor_rounds.specs.Rounds.{Drains, Goes, IsRound, IsSpent, Lets, NothingDue}
+use Rattle.settle_slot.specs.Slot.Gates.{HoldsMountsAlone}
+use Rattle.settle_calls.specs.Slots.Rounds.{size_of_world}
+use Rattle.settle_calls.specs.Slots.Slots.{writes_since}
+use Rattle.settle_write_counts.specs.Scheduler.Pods.{pods_writes}
+use Rattle.settle_write_counts.specs.Rounds.Counts.{nodes_in}
+use Rattle.settle_write_counts.specs.Rounds.Rounds.{pods_size}
+
+-- ---- by the writes of the round
+
+-- how many calls a sweep of ops costs at most beyond those that the writes before it have left: the kinds that it follows are listed again where it
+-- made 513 writes since it read them, and each of these has seven calls left for its event, which is never told. What is listed costs it two for each
+-- claim, three for each volume that has ended, and six for each of its four kinds
+unfoldable pub sweep_calls : ℕ → ℕ → ℕ
+sweep_calls claims volumes = (2 * claims + 3 * volumes + 24) - 7 * 513
+
+-- and a sweep of an agent, which follows pods alone
+unfoldable pub agent_sweep_calls : ℕ → ℕ
+agent_sweep_calls pods = (3 * pods + 3) - 7 * 513
+
+-- how often ops may write at most in a round: a volume for each claim, the end of each volume, each node that was selected for a claim or that the
+-- scheduler selects, and phase Failed for each planned fault that is ahead
+abbrev pub ops_most : Setup → World → ℕ
+ops_most setup w = claims_in w.store.rows + volumes_in w.store.rows + nodes_in w + pods_writes w + faults_left setup w.devices
+
+-- how many calls so many actors make at most, by what stood when the round began and by the writes of the round. Each write costs eight. Of the
+-- rest a claim costs ops two and a volume three, and pods cost an agent three; the others pay nothing beside their writes and their passes
+abbrev pub less_calls : ℕ → ℕ → ℕ → ℕ → ℕ → ℕ
+less_calls actors claims volumes pods writes = 8 * writes + (2 * claims + 3 * volumes + actors * (3 * pods + 65))
+
+-- after each 513 writes of ops there may be a sweep, and after each 513 of an agent, which writes once for each pod
+abbrev pub swept_calls : Setup → World → ℕ
+swept_calls setup w = sweep_calls (claims_in w.store.rows) (volumes_in w.store.rows) * (ops_most setup w / 513) + agent_sweep_calls (pods_size w) * (pods_in w.store.rows / 513)
+
+-- of a round of the actors of a drain that begins with nothing under way and in which Mounts alone may be held back, in a world of any size. A Mount that
+-- is held back counts as a call
+abbrev pub RoundsCostLess : Type 0
+RoundsCostLess =
+    (setup : Setup) (lets : Lets) (ds after : List Drainer) (h past : List Entry) (b left : ℕ) (whole : Bool) → AreRoles (roles_of ds) → AreAtRest ds → IsRunOf setup past → HoldsMountsAlone lets → IsRound lets past left ds h b after whole
+    → b ≤ left + (less_calls (length ds) (claims_in (world setup h).store.rows) (volumes_in (world setup h).store.rows) (pods_size (world setup h)) (writes_since setup h past) + swept_calls setup (world setup h))
+
+-- ---- by the sizes
+
+-- 256 for each object, each claim that a pod names, each planned fault that is ahead, and 16 more
+abbrev pub stated_calls : Setup → World → ℕ
+stated_calls setup w = 256 * (size_of_world w + faults_left setup w.devices + 16)
+
+-- a world whose rounds are short: it has at most 8,192 objects, however many claims the pods name and faults are planned
+abbrev pub HasShortRounds : World → Type 0
+HasShortRounds w = length w.store.rows ≤ 8192
+
+-- such is each with at most 512 objects and claims that pods name
+abbrev pub SmallWorldsHaveShortRounds : Type 0
+SmallWorldsHaveShortRounds = (w : World) → size_of_world w ≤ 512 → HasShortRounds w
+
+-- ---- drains
+
+-- each round of the drain that begins so is short
+abbrev pub EachRoundIsShort : (lets : Lets) (setup : Setup) (after : List Drainer) (past : List Entry) (left : ℕ) (ds : List Drainer) (h : List Entry) (b : ℕ) → Drains lets setup after past left ds h b → Type 0
+EachRoundIsShort lets setup after past left ds h b (NothingDue settled same entries rest) = ⊤
+EachRoundIsShort lets setup after past left ds h b (IsSpent first due none same entries rest) = ⊤
+EachRoundIsShort lets setup after past left ds h b (Goes first due some between middle rest whole round more) =
+    (HasShortRounds (world setup h) → b ≤ rest + stated_calls setup (world setup h)) × EachRoundIsShort lets setup after past left between middle rest more

@@ -1,0 +1,113 @@
+//! What rounds of a drain move that leave as much to do, and that there are few of them after one another.
+//!
+//! Promises: an entry of a run that pays and leaves as much to do moves the node of a claim, if anything: the scheduler
+//! gives one, ops takes one back (`entries_move_nodes`); so such entries leave the world near (`paid_leave_near`). A
+//! slot that ends idle decides each key that the actor had cached when it was woken, whatever is written in it before
+//! (`cached_are_decided`); and each lasting entry of a slot that begins at rest is a call of what was decided in it
+//! (`lasting_are_decided`), of a scheduler one of the writes of its choice for a pod (`decided_are_for_pods`). A claim
+//! whose node ops takes back was to lose it as the slot began (`taken_were_due`). A whole round tells ops each
+//! volume and claim that stands, and the scheduler each pod (`rounds_cache`). So a quiet round, a whole one that leaves
+//! as much to do, leaves the world near (`quiet_rounds_leave_near`), and at its end nothing is due but that pods are
+//! prepared (`quiet_rounds_end`). A claim that has no node at the end of the next such round had none behind the
+//! scheduler's slot, or was written in it by a decision of the scheduler (`taken_were_given`). Claims stay shared well
+//! in each round (`rounds_share_well`).
+//!
+//! A pod that is to be prepared at the end of a quiet round, where nothing but pods was to be prepared when it began and
+//! claims are shared well, was to be prepared then too, and was tried: the scheduler decided it in its slot, on the first
+//! node that serves it behind the one that was refused last, and the devices cannot give there what is to be
+//! provisioned. Up to this decision no claim of the pod was written, and when the slot ends each of them that needs a
+//! volume has this node (`waiting_are_tried`). Where a pod was tried in two quiet rounds after one another, each time by
+//! the decision that was made for it (`WasTried`), the second search begins behind the node that was tried in the first:
+//! this is the node that the scheduler remembers as refused last for one of the pod's claims (`searches_go_on`). So
+//! quiet rounds after one another are ten at most where a drain begins, and nine behind a whole round
+//! (`quiet_rounds_are_few`), and a drain of a small world in which claims are shared well ends settled with the stated
+//! budget (`shared_drains_settle`).
+//!
+//! What the search rests on: no row that a seat was told refuses the node that stands selected, so that this node is the
+//! claim's, where the seat sees the claim open; what the scheduler is told in a slot stands then, or was written since
+//! its last slot began; and a claim that needs no volume keeps its node in a quiet round.
+
+ghost use Rattle.settle_tries.specs.Tries.Coming.{DecidedAreForPods, LastingAreDecided};
+ghost use Rattle.settle_tries.specs.Tries.Deciding.{CachedAreDecided};
+ghost use Rattle.settle_tries.specs.Tries.Going.{SearchesGoOn};
+ghost use Rattle.settle_tries.specs.Tries.Moving.{EntriesMoveNodes, PaidLeaveNear};
+ghost use Rattle.settle_tries.specs.Tries.Quiet.{QuietRoundsEnd, QuietRoundsLeaveNear, RoundsCache};
+ghost use Rattle.settle_tries.specs.Tries.Sharing.{RoundsShareWell};
+ghost use Rattle.settle_tries.specs.Tries.Taking.{TakenWereDue, TakenWereGiven};
+ghost use Rattle.settle_tries.specs.Tries.Trying.{QuietRoundsAreFew, SharedDrainsSettle};
+ghost use Rattle.settle_tries.specs.Tries.Waiting.{WaitingAreTried};
+
+/// An entry that pays and leaves as much to do moves the node of a claim, if anything.
+pub fn entries_move_nodes()
+    ensures { EntriesMoveNodes }
+{}
+
+/// Such entries leave the world near.
+pub fn paid_leave_near()
+    ensures { PaidLeaveNear }
+{}
+
+/// A slot decides each cached key, whatever is written in it before.
+pub fn cached_are_decided()
+    ensures { CachedAreDecided }
+{}
+
+/// What lasts of a slot that begins at rest was decided in it.
+pub fn lasting_are_decided()
+    ensures { LastingAreDecided }
+{}
+
+/// Of a scheduler it is one of the writes of its choice for a pod that no node runs.
+pub fn decided_are_for_pods()
+    ensures { DecidedAreForPods }
+{}
+
+/// A claim from which ops takes a node back was to lose it.
+pub fn taken_were_due()
+    ensures { TakenWereDue }
+{}
+
+/// A whole round tells its actors what stands.
+pub fn rounds_cache()
+    ensures { RoundsCache }
+{}
+
+/// A quiet round leaves the world near.
+pub fn quiet_rounds_leave_near()
+    ensures { QuietRoundsLeaveNear }
+{}
+
+/// At its end nothing is due but that pods are prepared.
+pub fn quiet_rounds_end()
+    ensures { QuietRoundsEnd }
+{}
+
+/// A round leaves the claims shared well.
+pub fn rounds_share_well()
+    ensures { RoundsShareWell }
+{}
+
+/// So a claim without a node at the end of a quiet round was without one behind the scheduler's slot, or was written in it.
+pub fn taken_were_given()
+    ensures { TakenWereGiven }
+{}
+
+/// A pod that waits at the end of a quiet round was to be prepared before it, and was tried in it.
+pub fn waiting_are_tried()
+    ensures { WaitingAreTried }
+{}
+
+/// The search of a quiet round begins behind the node that was tried in the round before.
+pub fn searches_go_on()
+    ensures { SearchesGoOn }
+{}
+
+/// So quiet rounds after one another are few.
+pub fn quiet_rounds_are_few()
+    ensures { QuietRoundsAreFew }
+{}
+
+/// So drains of small worlds in which claims are shared well end settled.
+pub fn shared_drains_settle()
+    ensures { SharedDrainsSettle }
+{}

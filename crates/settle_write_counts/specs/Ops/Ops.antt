@@ -1,0 +1,59 @@
+-- How many writes the provisioner and reclaimer does in a slot, by the objects with which the slot begins.
+-- A choice of this project.
+use Rattle.std.specs.Prelude.{ℕ, ◌≡◌, ◌≤◌, ◌+◌, ◌*◌, Bool, false, not, ◌||◌, List, Option, Some, None}
+use Rattle.kube_types.specs.declared.objects.Object.{Object}
+use Rattle.kube_types.specs.declared.objects.Object.TheVariants.{Volume, Claim}
+use Rattle.kube_types.specs.declared.uid.Uid.{Uid}
+use Rattle.kube_types.specs.Bindings.{is_deleting, is_ended}
+use Rattle.kube_types.specs.Keys.{row_at}
+use Rattle.call_types.specs.declared.entry.Entry.{Entry}
+use Rattle.call_types.specs.declared.request.SeatKind.TheVariants as seats
+use Rattle.call_types.specs.declared.setup.Setup.{Setup}
+use Rattle.binder_model.specs.ObjectKeys.{volume_key}
+use Rattle.binder_model.specs.Promises.{IsRunOf}
+use Rattle.binder_model.specs.Provisioning.{data_name}
+use Rattle.binder_model.specs.World.{World, world}
+use Rattle.settle_measure.specs.Left.Measure.{claims_in, faults_left, total, unless, volumes_in}
+use Rattle.worker_core.specs.Absorbs.{woken}
+use Rattle.worker_core.specs.States.{ActorState}
+use Rattle.actor_rounds.specs.Rounds.{Lets, Runs}
+use Rattle.settle_calls.specs.Slots.Slots.{writes_since}
+use Rattle.settle_write_counts.specs.Rounds.Counts.{AnnotationsAreInOrder, nodes_in}
+
+-- a volume stands there that has not ended
+abbrev pub is_open : Option Object → Bool
+is_open (Some (Volume v)) = not (is_ended v.phase)
+is_open row = false
+
+-- for the claim of this UID a volume is to be made
+abbrev pub to_make : List Object → Option Uid → ℕ
+to_make rows None = 0
+to_make rows (Some uid) = unless (is_open (row_at (volume_key (data_name uid)) rows)) 1
+
+-- the volume that is to be made for a claim, and the deletion of a volume that has ended and stays
+abbrev pub ops_left : List Object → Object → ℕ
+ops_left rows (Volume v) = unless (not (is_ended v.phase) || is_deleting v.meta) 1
+ops_left rows (Claim c) = to_make rows c.meta.uid
+ops_left rows o = 0
+
+-- these, the nodes that may be taken back, and phase Failed for each planned fault that is ahead
+abbrev pub settle_write_counts : Setup → World → ℕ
+settle_write_counts setup w = total (ops_left w.store.rows) w.store.rows + nodes_in w + faults_left setup w.devices
+
+-- the provisioner and reclaimer, run with nothing under way: each of its writes lowers that number, and no call of it raises it
+abbrev pub OpsWritesFall : Type 0
+OpsWritesFall =
+    (setup : Setup) (lets : Lets) (seat : ℕ) (old after : ActorState) (h past : List Entry) (b left : ℕ) (idle : Bool) → old.role.kind ≡ seats.Ops → IsRunOf setup past → (old.memory.stale ≡ false → old.under ≡ None)
+    → Runs lets seat after past left idle (woken old) h b → writes_since setup h past + settle_write_counts setup (world setup past) ≤ settle_write_counts setup (world setup h)
+
+-- it is no more than these, in any world
+abbrev pub OpsWritesAreBounded : Type 0
+OpsWritesAreBounded = (setup : Setup) (w : World) → settle_write_counts setup w ≤ claims_in w.store.rows + volumes_in w.store.rows + nodes_in w + faults_left setup w.devices
+
+-- so where the annotations of claims are in order it writes twice for each claim at most, and once for each volume and for each planned fault
+-- that is ahead
+abbrev pub OpsSlotsWriteLittle : Type 0
+OpsSlotsWriteLittle =
+    (setup : Setup) (lets : Lets) (seat : ℕ) (old after : ActorState) (h past : List Entry) (b left : ℕ) (idle : Bool) → old.role.kind ≡ seats.Ops → IsRunOf setup past → (old.memory.stale ≡ false → old.under ≡ None)
+    → AnnotationsAreInOrder (world setup h) → Runs lets seat after past left idle (woken old) h b
+    → writes_since setup h past ≤ 2 * claims_in (world setup h).store.rows + volumes_in (world setup h).store.rows + faults_left setup (world setup h).devices

@@ -1,6 +1,0 @@
-use Rattle.short_rounds.proofs.Short.{small_worlds_have_short_rounds}
-use Rattle.short_rounds.proofs.small_worlds_have_short_rounds.Goals as goal
-
--- what a scheduler may write is among what is counted
-pub returns : goal.returns
-returns c = small_worlds_have_short_rounds
