@@ -82,7 +82,8 @@ module _ (setup : Setup) (after : List Drainer) (past : List Entry) (left : ℕ)
       subst (λ n. IsLonger (seats_of ds) n h past) made (longer_then (seats_of ds) (b - rest) (rest - left) h middle past (round_longer _ _ _ _ _ _ _ round) then_)
 
 -- a drain that ends has made the rounds that it has made
-pub ends_here : (setup : Setup) (ds : List Drainer) (past : List Entry) (budget left : ℕ) (drained : Drained) → EndsHere setup past budget left (Some drained) → Drains all_pass setup ds past left ds past left
+pub ends_here : (setup : Setup) (ds : List Drainer) (past : List Entry) (budget left : ℕ) (drained : Drained)
+    → EndsHere setup past budget left (Some drained) → Drains all_pass setup ds past left ds past left
 ends_here setup ds past budget left (Settled made) ends = NothingDue ends.0 refl refl refl
 ends_here setup ds past budget left (Spent made key due) ends =
     let count = ends.1 in
@@ -99,7 +100,8 @@ drained_all setup initial ds first past budget left d goes ends =
     let rest : left ≡ budget - made_of d = omega arith in
     subst (λ (n : ℕ). Drains all_pass setup ds past n initial first budget) rest (goes ds past left (ends_here setup ds past budget left d ends))
 
-pub drained_longer : (setup : Setup) (initial ds : List Drainer) (first past : List Entry) (budget made : ℕ) → made ≤ budget → Drains all_pass setup ds past (budget - made) initial first budget → IsLonger (seats_of initial) made first past
+pub drained_longer : (setup : Setup) (initial ds : List Drainer) (first past : List Entry) (budget made : ℕ) → made ≤ budget
+    → Drains all_pass setup ds past (budget - made) initial first budget → IsLonger (seats_of initial) made first past
 drained_longer setup initial ds first past budget made few all =
     let count : budget - (budget - made) ≡ made = omega arith in
     subst (λ (n : ℕ). IsLonger (seats_of initial) n first past) count (drains_longer setup ds past (budget - made) initial first budget all)

@@ -12,7 +12,24 @@ use Rattle.model_laws.proofs.Lists.{none_some, one}
 use Rattle.worker_core.specs.declared.role.Role.{Role}
 use Rattle.attention_law.proofs.Kept.{new_queues}
 use Rattle.actor_rounds.specs.declared.drainers.Drainer.{Drainer}
-use Rattle.actor_rounds.specs.Drainers.{AreAdded, AreNew, AreNewAgents, AreSeats, AreStanding, HaveNoEntries, IsAdded, IsNewAt, StandsWhole, agent_of, of_kind, roles_for, roles_of, seats_for, seats_from, seats_of}
+use Rattle.actor_rounds.specs.Drainers.{
+  AreAdded,
+  AreNew,
+  AreNewAgents,
+  AreSeats,
+  AreStanding,
+  HaveNoEntries,
+  IsAdded,
+  IsNewAt,
+  StandsWhole,
+  agent_of,
+  of_kind,
+  roles_for,
+  roles_of,
+  seats_for,
+  seats_from,
+  seats_of,
+}
 
 -- ---- the seats
 
@@ -58,7 +75,8 @@ nor_lower s lower seats less other zero at = let is = one lower s at in absurd (
 nor_lower s lower seats less other (suc i) at = other i at
 
 -- the seats of new drainers
-pub new_seats : (first : ℕ) (nodes : List (List ℕ)) (ds : List Drainer) (new : AreNew first nodes ds) → seats_of ds ≡ (first + 2) ∷ (first + 1) ∷ first ∷ (first + 3) ∷ (first + 4) ∷ seats_of new.agents
+pub new_seats : (first : ℕ) (nodes : List (List ℕ)) (ds : List Drainer) (new : AreNew first nodes ds)
+    → seats_of ds ≡ (first + 2) ∷ (first + 1) ∷ first ∷ (first + 3) ∷ (first + 4) ∷ seats_of new.agents
 new_seats first nodes ds new =
     ap seats_of new.are
     ∙ ap (λ s. s ∷ new.ops.seat ∷ new.binder.seat ∷ new.claims.seat ∷ new.volumes.seat ∷ seats_of new.agents) new.scheduler_is.at
@@ -91,7 +109,8 @@ new_roles_for first nodes ds new =
     ∙ ap (λ (r : Role). of_kind seats.Scheduler ∷ of_kind seats.Ops ∷ r ∷ new.claims.actor.role ∷ new.volumes.actor.role ∷ roles_of new.agents) new.binder_is.is_new.is
     ∙ ap (λ (r : Role). of_kind seats.Scheduler ∷ of_kind seats.Ops ∷ of_kind seats.Binder ∷ r ∷ new.volumes.actor.role ∷ roles_of new.agents) new.claims_is.is_new.is
     ∙ ap (λ (r : Role). of_kind seats.Scheduler ∷ of_kind seats.Ops ∷ of_kind seats.Binder ∷ of_kind seats.ClaimProtect ∷ r ∷ roles_of new.agents) new.volumes_is.is_new.is
-    ∙ ap (λ (rs : List Role). of_kind seats.Scheduler ∷ of_kind seats.Ops ∷ of_kind seats.Binder ∷ of_kind seats.ClaimProtect ∷ of_kind seats.VolumeProtect ∷ rs) (agents_roles (first + 5) nodes new.agents new.agents_are)
+    ∙ ap (λ (rs : List Role). of_kind seats.Scheduler ∷ of_kind seats.Ops ∷ of_kind seats.Binder ∷ of_kind seats.ClaimProtect
+    ∷ of_kind seats.VolumeProtect ∷ rs) (agents_roles (first + 5) nodes new.agents new.agents_are)
 
 pub new_differ : (first : ℕ) (nodes : List (List ℕ)) (ds : List Drainer) → AreNew first nodes ds → AreSeats (seats_of ds)
 new_differ first nodes ds new =
@@ -127,7 +146,8 @@ agents_stand first [] ds new = subst AllStand (sym new) (λ place d at. none_som
 agents_stand first (node ∷ nodes) [] new = absurd new
 agents_stand first (node ∷ nodes) (x ∷ ds) new = one_more x ds (new_whole seats.Agent node first x new.0) (agents_stand (first + 1) nodes ds new.1)
 
-each_stands : (ds : List Drainer) → AllStand ds → (past : List Entry) → HaveNoEntries (seats_of ds) past → (place : ℕ) (d : Drainer) → slice_get ds place ≡ Some d → StandsWhole d.actor (own d.seat past)
+each_stands : (ds : List Drainer) → AllStand ds → (past : List Entry) → HaveNoEntries (seats_of ds) past → (place : ℕ) (d : Drainer)
+    → slice_get ds place ≡ Some d → StandsWhole d.actor (own d.seat past)
 each_stands [] all past none place d at = none_some at
 each_stands (x ∷ ds) all past none zero d at = subst (λ (y : Drainer). StandsWhole y.actor (own y.seat past)) (one x d at) (subst (λ m. StandsWhole x.actor m) (sym none.0) (all 0 x refl))
 each_stands (x ∷ ds) all past none (suc place) d at = each_stands ds (λ i y there. all (suc i) y there) past none.1 place d at
@@ -143,11 +163,13 @@ new_stand first nodes ds new past none =
 
 -- ---- how they are made
 
-pub one_added : (kind : SeatKind) (seat : ℕ) (node : List ℕ) (before after : List Drainer) (d : Drainer) → node ≡ [] → IsNewAt kind node seat d → after ≡ before ++ d ∷ [] → IsAdded kind seat before after
+pub one_added : (kind : SeatKind) (seat : ℕ) (node : List ℕ) (before after : List Drainer) (d : Drainer) → node ≡ [] → IsNewAt kind node seat d
+    → after ≡ before ++ d ∷ [] → IsAdded kind seat before after
 one_added kind seat node before after d none new pushed = record { worker = d; are = pushed; new = subst (λ (n : List ℕ). IsNewAt kind n seat d) none new }
 
 -- each pushed after those before it
-five_items : (a b c d e : Drainer) (none ones two three four five : List Drainer) → none ≡ [] → ones ≡ none ++ a ∷ [] → two ≡ ones ++ b ∷ [] → three ≡ two ++ c ∷ [] → four ≡ three ++ d ∷ [] → five ≡ four ++ e ∷ []
+five_items : (a b c d e : Drainer) (none ones two three four five : List Drainer) → none ≡ [] → ones ≡ none ++ a ∷ [] → two ≡ ones ++ b ∷ []
+    → three ≡ two ++ c ∷ [] → four ≡ three ++ d ∷ [] → five ≡ four ++ e ∷ []
     → five ≡ a ∷ b ∷ c ∷ d ∷ e ∷ []
 five_items a b c d e none ones two three four five is_none is_one is_two is_three is_four is_five =
     let first : ones ≡ a ∷ [] = is_one ∙ ap (λ xs. xs ++ a ∷ []) is_none in
@@ -166,7 +188,8 @@ all_new first nodes none ones two three four five items is_none scheduler ops bi
   claims = claims.worker;
   volumes = volumes.worker;
   agents = agents.agents;
-  are = agents.are ∙ ap (λ xs. xs ++ agents.agents) (five_items scheduler.worker ops.worker binder.worker claims.worker volumes.worker none ones two three four five is_none scheduler.are ops.are binder.are claims.are volumes.are);
+  are = agents.are ∙ ap (λ xs. xs ++ agents.agents)
+      (five_items scheduler.worker ops.worker binder.worker claims.worker volumes.worker none ones two three four five is_none scheduler.are ops.are binder.are claims.are volumes.are);
   scheduler_is = scheduler.new;
   ops_is = ops.new;
   binder_is = let here : first + 0 ≡ first = omega arith in subst (λ (n : ℕ). IsNewAt seats.Binder [] n binder.worker) here binder.new;
@@ -176,14 +199,17 @@ all_new first nodes none ones two three four five items is_none scheduler ops bi
 }
 
 -- agents so far, and one more
-pub added_more : (first seat : ℕ) (nodes items : List (List ℕ)) (index : ℕ) (initial before after : List Drainer) (node : List ℕ) (d : Drainer) → index < length items → node ≡ get_or items index node → IsNewAt seats.Agent node seat d → after ≡ before ++ d ∷ []
+pub added_more : (first seat : ℕ) (nodes items : List (List ℕ)) (index : ℕ) (initial before after : List Drainer) (node : List ℕ) (d : Drainer)
+    → index < length items → node ≡ get_or items index node → IsNewAt seats.Agent node seat d → after ≡ before ++ d ∷ []
     → ((agents : List Drainer) → AreNewAgents seat (drop index items) agents → AreAdded first nodes initial (before ++ agents))
     → (agents : List Drainer) → AreNewAgents (seat + 1) (drop (index + 1) items) agents → AreAdded first nodes initial (after ++ agents)
 added_more first seat nodes items index initial before after node d within read new pushed goes agents later =
-    let here : drop index items ≡ node ∷ drop (index + 1) items = drop-cons items index node within ∙ ap (λ n. n ∷ drop (suc index) items) (sym read) ∙ ap (λ (k : ℕ). node ∷ drop k items) (sym (add-one index)) in
+    let here : drop index items ≡ node ∷ drop (index + 1) items = drop-cons items index node within ∙ ap (λ n. n ∷ drop (suc index) items) (sym read)
+    ∙ ap (λ (k : ℕ). node ∷ drop k items) (sym (add-one index)) in
     subst (λ (xs : List Drainer). AreAdded first nodes initial xs) (sym (append_assoc before (d ∷ []) agents) ∙ ap (λ xs. xs ++ agents) (sym pushed))
     (goes (d ∷ agents) (subst (λ (rest : List (List ℕ)). AreNewAgents seat rest (d ∷ agents)) (sym here) (new, later)))
 
-pub all_added : (first seat : ℕ) (nodes items : List (List ℕ)) (index : ℕ) (initial now : List Drainer) → length items ≤ index → ((agents : List Drainer) → AreNewAgents seat (drop index items) agents → AreAdded first nodes initial (now ++ agents)) → AreAdded first nodes initial now
+pub all_added : (first seat : ℕ) (nodes items : List (List ℕ)) (index : ℕ) (initial now : List Drainer) → length items ≤ index
+    → ((agents : List Drainer) → AreNewAgents seat (drop index items) agents → AreAdded first nodes initial (now ++ agents)) → AreAdded first nodes initial now
 all_added first seat nodes items index initial now over goes =
     subst (λ (xs : List Drainer). AreAdded first nodes initial xs) (append-nil now) (goes [] (subst (λ (rest : List (List ℕ)). AreNewAgents seat rest []) (sym (drop_all index items over)) refl))

@@ -1,5 +1,40 @@
 -- What follows from how a round was made.
-use Rattle.std.proofs.Common.{◌≡◌, ◌≢◌, ◌∙◌, ◌+◌, ◌-◌, ◌≤◌, ◌<◌, ℕ, zero, suc, List, [], ◌∷◌, ◌++◌, Bool, true, false, true≢false, ◌&&◌, Some, refl, sym, ap, subst, inl, inr, arith, set, take, drop, length, get_or, append_assoc, add-one}
+use Rattle.std.proofs.Common.{
+  ◌≡◌,
+  ◌≢◌,
+  ◌∙◌,
+  ◌+◌,
+  ◌-◌,
+  ◌≤◌,
+  ◌<◌,
+  ℕ,
+  zero,
+  suc,
+  List,
+  [],
+  ◌∷◌,
+  ◌++◌,
+  Bool,
+  true,
+  false,
+  true≢false,
+  ◌&&◌,
+  Some,
+  refl,
+  sym,
+  ap,
+  subst,
+  inl,
+  inr,
+  arith,
+  set,
+  take,
+  drop,
+  length,
+  get_or,
+  append_assoc,
+  add-one,
+}
 use Rattle.std.specs.Bool.{⊤}
 use Rattle.std.specs.Prelude.{◌==◌, ◌⊎◌, map, slice_get, option_map}
 use Rattle.std.proofs.lemmas.Bool.Decides.{Decides-eqb}
@@ -167,25 +202,29 @@ from_here lets past left ds i d ran h middle b rest idle after whole at seat run
     let lt : i < length ds = slice_get_within ds i d at in
     let one : i < i + 1 = omega arith in
     let rest_same : drop (i + 1) (set ds i ran) ≡ drop (i + 1) ds = drop-set-lt (i + 1) ds i ran one in
-    let here : drop i ds ≡ d ∷ drop (i + 1) ds = drop-cons ds i d lt ∙ ap (λ (x : Drainer). x ∷ drop (suc i) ds) (get_or_from_slice_get ds i d d at) ∙ ap (λ (n : ℕ). d ∷ drop n ds) (sym (add-one i)) in
+    let here : drop i ds ≡ d ∷ drop (i + 1) ds = drop-cons ds i d lt ∙ ap (λ (x : Drainer). x ∷ drop (suc i) ds) (get_or_from_slice_get ds i d d at)
+    ∙ ap (λ (n : ℕ). d ∷ drop n ds) (sym (add-one i)) in
     subst (λ (xs : List Drainer). IsRound lets past left xs h b (ran ∷ after) (idle && whole)) (sym here)
     (Turns d ran middle rest idle seat runs (subst (λ (xs : List Drainer). IsRound lets past left xs middle rest after whole) rest_same more))
 
 pub turn_more : (lets : Lets) (initial : List Drainer) (first : List Entry) (budget : ℕ) (ds : List Drainer) (i : ℕ) (d ran : Drainer) (h middle : List Entry) (b rest : ℕ) (so_far idle : Bool)
-    → ((past : List Entry) (left : ℕ) (after : List Drainer) (whole : Bool) → IsRound lets past left (drop i ds) h b after whole → IsRound lets past left initial first budget (take i ds ++ after) (so_far && whole))
+    → ((past : List Entry) (left : ℕ) (after : List Drainer) (whole : Bool) → IsRound lets past left (drop i ds) h b after whole
+    → IsRound lets past left initial first budget (take i ds ++ after) (so_far && whole))
     → slice_get ds i ≡ Some d → ran.seat ≡ d.seat → Runs lets d.seat ran.actor middle rest idle (woken d.actor) h b
     → (past : List Entry) (left : ℕ) (after : List Drainer) (whole : Bool) → IsRound lets past left (drop (i + 1) (set ds i ran)) middle rest after whole
     → IsRound lets past left initial first budget (take (i + 1) (set ds i ran) ++ after) ((so_far && idle) && whole)
 turn_more lets initial first budget ds i d ran h middle b rest so_far idle goes at seat runs past left after whole more =
     let lt : i < length ds = slice_get_within ds i d at in
-    let lists : take i ds ++ (ran ∷ after) ≡ take (i + 1) (set ds i ran) ++ after = sym (ap (λ (xs : List Drainer). xs ++ after) (take_more_set ds i ran lt) ∙ append_assoc (take i ds) (ran ∷ []) after) in
+    let lists : take i ds ++ (ran ∷ after) ≡ take (i + 1) (set ds i ran) ++ after =
+    sym (ap (λ (xs : List Drainer). xs ++ after) (take_more_set ds i ran lt) ∙ append_assoc (take i ds) (ran ∷ []) after) in
     let made = goes past left (ran ∷ after) (idle && whole) (from_here lets past left ds i d ran h middle b rest idle after whole at seat runs more) in
     subst (λ (xs : List Drainer). IsRound lets past left initial first budget xs ((so_far && idle) && whole)) lists
     (subst (λ (w : Bool). IsRound lets past left initial first budget (take i ds ++ (ran ∷ after)) w) (sym (and_assoc so_far idle whole)) made)
 
 -- all turns
 pub turns_end : (lets : Lets) (initial : List Drainer) (first : List Entry) (budget : ℕ) (ds : List Drainer) (n : ℕ) (h : List Entry) (b : ℕ) (so_far : Bool) → n ≡ length ds
-    → ((past : List Entry) (left : ℕ) (after : List Drainer) (whole : Bool) → IsRound lets past left (drop n ds) h b after whole → IsRound lets past left initial first budget (take n ds ++ after) (so_far && whole))
+    → ((past : List Entry) (left : ℕ) (after : List Drainer) (whole : Bool) → IsRound lets past left (drop n ds) h b after whole
+    → IsRound lets past left initial first budget (take n ds ++ after) (so_far && whole))
     → IsRound lets h b initial first budget ds so_far
 turns_end lets initial first budget ds n h b so_far all goes =
     let none : drop n ds ≡ [] = ap (λ (k : ℕ). drop k ds) all ∙ drop_all ds in
@@ -220,7 +259,8 @@ roles_set ds i d ran at role = map-set_same (λ (x : Drainer). x.actor.role) ds 
 -- the first of them is no agent
 pub first_steady : (ds : List Drainer) (roles : List Role) (place : ℕ) (d : Drainer) → roles_of ds ≡ roles → AreRoles roles → place ≡ 0 → slice_get ds place ≡ Some d → d.actor.role.kind ≢ Agent
 first_steady ds roles place d same these first at agent =
-    let here : slice_get (roles_of ds) 0 ≡ Some d.actor.role = slice_get-map (λ (x : Drainer). x.actor.role) ds 0 ∙ ap (option_map (λ (x : Drainer). x.actor.role)) (ap (slice_get ds) (sym first) ∙ at) in
+    let here : slice_get (roles_of ds) 0 ≡ Some d.actor.role = slice_get-map (λ (x : Drainer). x.actor.role) ds 0
+    ∙ ap (option_map (λ (x : Drainer). x.actor.role)) (ap (slice_get ds) (sym first) ∙ at) in
     let its : of_kind Scheduler ≡ d.actor.role = some_is (of_kind Scheduler) d.actor.role (sym (ap (λ (rs : List Role). slice_get rs 0) (same ∙ these.are)) ∙ here) in
     let two : Scheduler ≡ Agent = ap (λ (r : Role). r.kind) its ∙ agent in
     absurd (cc)

@@ -1,6 +1,6 @@
 -- What follows from how an actor was run.
 use Rattle.std.proofs.Common.{◌≡◌, ◌∙◌, ◌+◌, ◌-◌, ◌≤◌, ◌<◌, ℕ, List, [], ◌∷◌, Bool, true, false, true≢false, Option, Some, None, refl, sym, ap, subst, inl, inr, arith, Result, Ok, Err, IfOk}
-use Rattle.kube_types.specs.declared.parts.Kind.{Kind}
+use Rattle.kube_parts.specs.declared.parts.Kind.{Kind}
 use Rattle.call_types.specs.declared.entry.Entry.{Entry}
 use Rattle.call_types.specs.declared.reply.Reply.{Reply}
 use Rattle.call_types.specs.declared.request.Request.{Request}
@@ -48,7 +48,8 @@ kept_after_keys s new answer w (Some u) x = ap kept x.state
 kept_after_keys s new answer w None (inl x) = ap kept x.state
 kept_after_keys s new answer w None (inr x) = ap kept x.state
 
-kept_by : (s new : ActorState) (answer : Next) (stale : Bool) (under : Option Under) (start : Option Request) (lacking passes : Option Kind) → TurnBy s new answer stale under start lacking passes → kept new ≡ kept s
+kept_by : (s new : ActorState) (answer : Next) (stale : Bool) (under : Option Under) (start : Option Request) (lacking passes : Option Kind)
+    → TurnBy s new answer stale under start lacking passes → kept new ≡ kept s
 kept_by s new answer true under start lacking passes x = ap kept x.state
 kept_by s new answer false (Some u) start lacking passes x = ap kept x.state
 kept_by s new answer false None (Some request) lacking passes x = ap kept x.state
@@ -73,7 +74,8 @@ pub told_role : (s : ActorState) (caches : AllKnown) (request : Request) (reply 
 told_role s caches request reply = answer_role s caches request (Told reply)
 
 -- so does a call, with its answer or lost
-pub still_role : (s given after : ActorState) (answer : Next) (request : Request) (outcome : Outcome) → IsTurn s given answer → after ≡ absorbed given after.caches request outcome → after.role ≡ s.role
+pub still_role : (s given after : ActorState) (answer : Next) (request : Request) (outcome : Outcome) → IsTurn s given answer
+    → after ≡ absorbed given after.caches request outcome → after.role ≡ s.role
 still_role s given after answer request outcome turn state = ap (λ (t : ActorState). t.role) state ∙ answer_role given after.caches request outcome ∙ turn_role s given answer turn
 
 module _ (lets : Lets) (seat : ℕ) (after : ActorState) (past : List Entry) (left : ℕ) (idle : Bool) where
@@ -154,11 +156,13 @@ abbrev entry_of : ℕ → SeatKind → Request → Reply → Entry
 entry_of seat kind request reply = record { seat = seat; kind = kind; request = request; reply = reply; told = true }
 
 -- it is the actor's
-entry_told : (seat : ℕ) (kind : SeatKind) (given : ActorState) (request : Request) (reply : Reply) (h past : List Entry) → kind ≡ given.role.kind → past ≡ entry_of seat kind request reply ∷ h → past ≡ told_entry seat given request reply ∷ h
+entry_told : (seat : ℕ) (kind : SeatKind) (given : ActorState) (request : Request) (reply : Reply) (h past : List Entry) → kind ≡ given.role.kind
+    → past ≡ entry_of seat kind request reply ∷ h → past ≡ told_entry seat given request reply ∷ h
 entry_told seat kind given request reply h past same is = is ∙ ap (λ (k : SeatKind). entry_of seat k request reply ∷ h) same
 
 -- the run goes on after it
-pub call_runs : (lets : Lets) (seat : ℕ) (kind : SeatKind) (s given next : ActorState) (request : Request) (outcome : Outcome) (h new : List Entry) (b : ℕ) → 0 < b → IsReady seat s h → IsTurn s given (Call request) → kind ≡ given.role.kind
+pub call_runs : (lets : Lets) (seat : ℕ) (kind : SeatKind) (s given next : ActorState) (request : Request) (outcome : Outcome) (h new : List Entry)
+    (b : ℕ) → 0 < b → IsReady seat s h → IsTurn s given (Call request) → kind ≡ given.role.kind
     → next ≡ absorbed given next.caches request outcome → CameTo lets seat kind request outcome h new
     → (after : ActorState) (past : List Entry) (left : ℕ) (idle : Bool) → Runs lets seat after past left idle next new (b - 1) → Runs lets seat after past left idle s h b
 call_runs lets seat kind s given next request (Told reply) h new b some ready turn same state came after past left idle more =
@@ -167,8 +171,10 @@ call_runs lets seat kind s given next request Lost h new b some ready turn same 
     IsHeld given next request some ready turn came.0 state (subst (λ p. Runs lets seat after past left idle next p (b - 1)) came.1 more)
 
 -- the actor stands for the entries of its seat after it
-pub call_stands : (lets : Lets) (seat : ℕ) (kind : SeatKind) (given next : ActorState) (request : Request) (outcome : Outcome) (h new : List Entry) → kind ≡ given.role.kind → CameTo lets seat kind request outcome h new → AreOwn (own seat new)
-    → ((mine : List Entry) (e : Entry) (reply : Reply) → outcome ≡ Told reply → IsTold e request reply → e.kind ≡ given.role.kind → AreOwn (e ∷ mine) → StandsFor given mine → StandsFor next (e ∷ mine))
+pub call_stands : (lets : Lets) (seat : ℕ) (kind : SeatKind) (given next : ActorState) (request : Request) (outcome : Outcome) (h new : List Entry)
+    → kind ≡ given.role.kind → CameTo lets seat kind request outcome h new → AreOwn (own seat new)
+    → ((mine : List Entry) (e : Entry) (reply : Reply) → outcome ≡ Told reply → IsTold e request reply → e.kind ≡ given.role.kind → AreOwn (e ∷ mine)
+    → StandsFor given mine → StandsFor next (e ∷ mine))
     → ((mine : List Entry) → outcome ≡ Lost → StandsFor given mine → StandsFor next mine)
     → StandsFor given (own seat h) → StandsFor next (own seat new)
 call_stands lets seat kind given next request (Told reply) h new same came mine told lost stands =
@@ -178,32 +184,38 @@ call_stands lets seat kind given next request (Told reply) h new same came mine 
 call_stands lets seat kind given next request Lost h new same came mine told lost stands = subst (λ p. StandsFor next (own seat p)) (sym came.1) (lost (own seat h) refl stands)
 
 -- the entries have grown by it
-pub call_grown : (lets : Lets) (seat : ℕ) (kind : SeatKind) (request : Request) (outcome : Outcome) (first h new : List Entry) → CameTo lets seat kind request outcome h new → HasGrown (seat ∷ []) first h → HasGrown (seat ∷ []) first new
+pub call_grown : (lets : Lets) (seat : ℕ) (kind : SeatKind) (request : Request) (outcome : Outcome) (first h new : List Entry)
+    → CameTo lets seat kind request outcome h new → HasGrown (seat ∷ []) first h → HasGrown (seat ∷ []) first new
 call_grown lets seat kind request (Told reply) first h new came before = grown_more seat first h new (entry_of seat kind request reply) before came.1 refl refl
 call_grown lets seat kind request Lost first h new came before = subst (HasGrown (seat ∷ []) first) (sym came.1) before
 
 -- none of them is a user's
-pub call_users : (lets : Lets) (seat : ℕ) (kind : SeatKind) (request : Request) (outcome : Outcome) (h new : List Entry) → IsBuiltKind kind → CameTo lets seat kind request outcome h new → users_of new ≡ users_of h
+pub call_users : (lets : Lets) (seat : ℕ) (kind : SeatKind) (request : Request) (outcome : Outcome) (h new : List Entry) → IsBuiltKind kind
+    → CameTo lets seat kind request outcome h new → users_of new ≡ users_of h
 call_users lets seat kind request (Told reply) h new built came = users_as_before h new (entry_of seat kind request reply) came.1 built
 call_users lets seat kind request Lost h new built came = ap users_of came.1
 
 -- each is of an actor
-pub call_actors : (lets : Lets) (seat : ℕ) (kind : SeatKind) (given : ActorState) (request : Request) (outcome : Outcome) (h new : List Entry) → IsBuiltKind kind → kind ≡ given.role.kind → StandsFor given (own seat h) → asked given ≡ Some request
+pub call_actors : (lets : Lets) (seat : ℕ) (kind : SeatKind) (given : ActorState) (request : Request) (outcome : Outcome) (h new : List Entry)
+    → IsBuiltKind kind → kind ≡ given.role.kind → StandsFor given (own seat h) → asked given ≡ Some request
     → CameTo lets seat kind request outcome h new → AreByActors h → AreByActors new
-call_actors lets seat kind given request (Told reply) h new built same stands asks came before = by_actor given h new (entry_of seat kind request reply) came.1 (subst IsBuiltKind same built) same stands asks before
+call_actors lets seat kind given request (Told reply) h new built same stands asks came before =
+    by_actor given h new (entry_of seat kind request reply) came.1 (subst IsBuiltKind same built) same stands asks before
 call_actors lets seat kind given request Lost h new built same stands asks came before = subst AreByActors (sym came.1) before
 
 -- a turn, and a call with its answer, leave the queue standing
 pub turned_whole : (s new : ActorState) (answer : Next) (mine : List Entry) → IsTurn s new answer → StandsFor new mine → StandsWhole s mine → StandsWhole new mine
 turned_whole s new answer mine turn told whole = record { told = told; queue = turns_queues s new answer turn whole.queue }
 
-pub called_whole : (s given after : ActorState) (answer : Next) (request : Request) (outcome : Outcome) (before mine : List Entry) → IsTurn s given answer → after ≡ absorbed given after.caches request outcome → StandsFor after mine
+pub called_whole : (s given after : ActorState) (answer : Next) (request : Request) (outcome : Outcome) (before mine : List Entry)
+    → IsTurn s given answer → after ≡ absorbed given after.caches request outcome → StandsFor after mine
     → StandsWhole s before → StandsWhole after mine
 called_whole s given after answer request outcome before mine turn state told whole =
     record { told = told; queue = subst QueueStands (sym state) (answers_queues given after.caches request outcome (turns_queues s given answer turn whole.queue)) }
 
 -- a woken actor that has a call left makes one, where its epoch is not stale
-pub busy_where : {E X : Type 0} (lets : Lets) (seat : ℕ) (after s : ActorState) (past h : List Entry) (b : ℕ) (r : Result Ran E) → IfOk r (λ (ran : Ran). Runs lets seat after past ran.left ran.idle s h b)
+pub busy_where : {E X : Type 0} (lets : Lets) (seat : ℕ) (after s : ActorState) (past h : List Entry) (b : ℕ) (r : Result Ran E)
+    → IfOk r (λ (ran : Ran). Runs lets seat after past ran.left ran.idle s h b)
     → WokenIsBusy s → (X → s.memory.stale ≡ false) → IfOk r (λ (ran : Ran). X → 0 < b → ran.left < b)
 busy_where lets seat after s past h b (Ok ran) runs busy fresh = λ x. run_busy lets seat after past ran.left ran.idle s h b runs busy (fresh x)
 busy_where lets seat after s past h b (Err e) runs busy fresh = tt

@@ -2,9 +2,9 @@
 -- rounds while something is due. Some calls may be held back from the world. The newest entry of a history stands first.
 -- A choice of this project.
 use Rattle.std.specs.Prelude.{ℕ, ◌≡◌, ◌<◌, ◌+◌, ◌-◌, Bool, true, false, ◌&&◌, List, [], ◌∷◌, Option, Some, None}
-use Rattle.kube_types.specs.declared.key.Key.{Key}
-use Rattle.kube_types.specs.declared.names.Due.{Due}
-use Rattle.kube_types.specs.Keys.{AreRows}
+use Rattle.kube_objects.specs.declared.key.Key.{Key}
+use Rattle.kube_parts.specs.declared.names.Due.{Due}
+use Rattle.kube_objects.specs.Keys.{AreRows}
 use Rattle.call_types.specs.declared.entry.Entry.{Entry}
 use Rattle.call_types.specs.declared.request.Request.{Request}
 use Rattle.call_types.specs.declared.reply.Reply.{Reply}
@@ -65,7 +65,8 @@ pub data IsRound (lets : Lets) (past : List Entry) (left : ℕ) : List Drainer �
 -- rounds are made while something is due and the budget is not spent
 pub data Drains (lets : Lets) (setup : Setup) (after : List Drainer) (past : List Entry) (left : ℕ) : List Drainer → List Entry → ℕ → Type 0 where
   NothingDue : {ds : List Drainer} {h : List Entry} {b : ℕ} → IsSettled setup (world setup h) → after ≡ ds → past ≡ h → left ≡ b → Drains lets setup after past left ds h b
-  IsSpent : {ds : List Drainer} {h : List Entry} {b : ℕ} (first : Key × Due) → IsFirstDue setup (world setup h) (Some first) → b ≡ 0 → after ≡ ds → past ≡ h → left ≡ b → Drains lets setup after past left ds h b
+  IsSpent : {ds : List Drainer} {h : List Entry} {b : ℕ} (first : Key × Due) → IsFirstDue setup (world setup h) (Some first) → b ≡ 0 → after ≡ ds
+      → past ≡ h → left ≡ b → Drains lets setup after past left ds h b
   Goes : {ds : List Drainer} {h : List Entry} {b : ℕ} (first : Key × Due) → IsFirstDue setup (world setup h) (Some first) → 0 < b
       → (between : List Drainer) (middle : List Entry) (rest : ℕ) (whole : Bool) → IsRound lets middle rest ds h b between whole
       → Drains lets setup after past left between middle rest → Drains lets setup after past left ds h b

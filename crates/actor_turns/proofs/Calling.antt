@@ -28,7 +28,8 @@ use Rattle.actor_turns.proofs.Since.{lost_since, none_since, told_since}
 abbrev entry_of : ℕ → SeatKind → Request → Reply → Bool → Entry
 entry_of seat kind request reply told = record { seat = seat; kind = kind; request = request; reply = reply; told = told }
 
-module _ (lets : Lets) (seat : ℕ) (before after : List Entry) (old new : ActorState) (kind : SeatKind) (request : Request) (reply : Reply) (of : kind ≡ old.role.kind) (own_is : AreOwn (own seat after)) (passes : lets before request ≡ true) where
+module _ (lets : Lets) (seat : ℕ) (before after : List Entry) (old new : ActorState) (kind : SeatKind) (request : Request) (reply : Reply)
+    (of : kind ≡ old.role.kind) (own_is : AreOwn (own seat after)) (passes : lets before request ≡ true) where
   others : (told : Bool) → after ≡ entry_of seat kind request reply told ∷ before → (other : ℕ) → other ≢ seat → own other after ≡ own other before
   others told is other differs = ap (own other) is ∙ own_other (entry_of seat kind request reply told) before other differs
 
@@ -40,12 +41,15 @@ module _ (lets : Lets) (seat : ℕ) (before after : List Entry) (old new : Actor
 
   pub told_called : IsBuiltKind old.role.kind → asked old ≡ Some request → after ≡ entry_of seat kind request reply true ∷ before
       → new ≡ absorbed old new.caches request (outcomes.Told reply)
-      → ((mine : List Entry) (e : Entry) (r : Reply) → outcomes.Told reply ≡ outcomes.Told r → IsTold e request r → e.kind ≡ old.role.kind → AreOwn (e ∷ mine) → StandsFor old mine → StandsFor new (e ∷ mine))
+      → ((mine : List Entry) (e : Entry) (r : Reply) → outcomes.Told reply ≡ outcomes.Told r → IsTold e request r → e.kind ≡ old.role.kind
+      → AreOwn (e ∷ mine) → StandsFor old mine → StandsFor new (e ∷ mine))
       → HasCalled seat (IsCallBy lets false Told seat kind) before after old new
   told_called built ask is state absorbs = record {
     call = record { request = request; reply = reply; passes = passes; is = is };
     role = ap (λ (x : ActorState). x.role) state ∙ answer_role old new.caches request (outcomes.Told reply);
-    since = λ earlier since. subst (StandsSince new earlier) (sym (front true is)) (told_since old new earlier (own seat before) (entry_of seat kind request reply true) request reply built ask answered state (absorbs (own seat before) (entry_of seat kind request reply true) reply refl answered of (are_own true is)) since);
+    since = λ earlier since. subst (StandsSince new earlier) (sym (front true is))
+        (told_since old new earlier (own seat before) (entry_of seat kind request reply true) request reply built ask answered state
+        (absorbs (own seat before) (entry_of seat kind request reply true) reply refl answered of (are_own true is)) since);
     others = others true is;
   }
     where
@@ -54,24 +58,29 @@ module _ (lets : Lets) (seat : ℕ) (before after : List Entry) (old new : Actor
 
   pub untold_called : after ≡ entry_of seat kind request reply false ∷ before
       → new ≡ absorbed old new.caches request outcomes.Lost
-      → ((mine : List Entry) (e : Entry) → outcomes.Lost ≡ outcomes.Lost → e.told ≡ false → e.request ≡ request → e.kind ≡ old.role.kind → AreOwn (e ∷ mine) → StandsFor old mine → StandsFor new (e ∷ mine))
+      → ((mine : List Entry) (e : Entry) → outcomes.Lost ≡ outcomes.Lost → e.told ≡ false → e.request ≡ request → e.kind ≡ old.role.kind
+      → AreOwn (e ∷ mine) → StandsFor old mine → StandsFor new (e ∷ mine))
       → HasCalled seat (IsCallBy lets false LostAfter seat kind) before after old new
   untold_called is state absorbs = record {
     call = record { request = request; reply = reply; passes = passes; is = is };
     role = ap (λ (x : ActorState). x.role) state ∙ answer_role old new.caches request outcomes.Lost;
-    since = λ earlier since. subst (StandsSince new earlier) (sym (front false is)) (lost_since old new earlier (own seat before) (entry_of seat kind request reply false) request refl state (absorbs (own seat before) (entry_of seat kind request reply false) refl refl refl of (are_own false is)) since);
+    since = λ earlier since. subst (StandsSince new earlier) (sym (front false is))
+        (lost_since old new earlier (own seat before) (entry_of seat kind request reply false) request refl state
+        (absorbs (own seat before) (entry_of seat kind request reply false) refl refl refl of (are_own false is)) since);
     others = others false is;
   }
 
   pub told_goes : after ≡ entry_of seat kind request reply true ∷ before
       → new ≡ absorbed old new.caches request (outcomes.Told reply)
-      → ((mine : List Entry) (e : Entry) (r : Reply) → outcomes.Told reply ≡ outcomes.Told r → IsTold e request r → e.kind ≡ old.role.kind → AreOwn (e ∷ mine) → StandsFor old mine → StandsFor new (e ∷ mine))
+      → ((mine : List Entry) (e : Entry) (r : Reply) → outcomes.Told reply ≡ outcomes.Told r → IsTold e request r → e.kind ≡ old.role.kind
+      → AreOwn (e ∷ mine) → StandsFor old mine → StandsFor new (e ∷ mine))
       → GoesOn seat false Told request before after old new
   told_goes is state absorbs role s earlier since played turns mine = record {
     call = Some e;
     left = refl;
     own = ap (λ m. e ∷ m) mine ∙ sym (front true is);
-    played = Hears s since e request reply played refl answered (record { turned = old; turns = turns; takes = state }) (absorbs (entries (since ++ earlier)) e reply refl answered of (subst (λ m. AreOwn (e ∷ m)) (sym mine) (are_own true is)) turns.stands);
+    played = Hears s since e request reply played refl answered (record { turned = old; turns = turns; takes = state })
+        (absorbs (entries (since ++ earlier)) e reply refl answered of (subst (λ m. AreOwn (e ∷ m)) (sym mine) (are_own true is)) turns.stands);
   }
     where
       e : Entry
@@ -82,19 +91,22 @@ module _ (lets : Lets) (seat : ℕ) (before after : List Entry) (old new : Actor
 
   pub untold_goes : after ≡ entry_of seat kind request reply false ∷ before
       → new ≡ absorbed old new.caches request outcomes.Lost
-      → ((mine : List Entry) (e : Entry) → outcomes.Lost ≡ outcomes.Lost → e.told ≡ false → e.request ≡ request → e.kind ≡ old.role.kind → AreOwn (e ∷ mine) → StandsFor old mine → StandsFor new (e ∷ mine))
+      → ((mine : List Entry) (e : Entry) → outcomes.Lost ≡ outcomes.Lost → e.told ≡ false → e.request ≡ request → e.kind ≡ old.role.kind
+      → AreOwn (e ∷ mine) → StandsFor old mine → StandsFor new (e ∷ mine))
       → GoesOn seat false LostAfter request before after old new
   untold_goes is state absorbs role s earlier since played turns mine = record {
     call = Some (entry_of seat kind request reply false);
     left = refl;
     own = ap (λ m. entry_of seat kind request reply false ∷ m) mine ∙ sym (front false is);
     played = Misses s since (entry_of seat kind request reply false) request played refl refl refl (record { turned = old; turns = turns; takes = state })
-        (absorbs (entries (since ++ earlier)) (entry_of seat kind request reply false) refl refl refl of (subst (λ m. AreOwn (entry_of seat kind request reply false ∷ m)) (sym mine) (are_own false is)) turns.stands);
+        (absorbs (entries (since ++ earlier)) (entry_of seat kind request reply false) refl refl refl of
+        (subst (λ m. AreOwn (entry_of seat kind request reply false ∷ m)) (sym mine) (are_own false is)) turns.stands);
   }
 
 -- a call that leaves no entry: one that is lost before its effect, or is held back
 
-module _ (seat : ℕ) (past : List Entry) (old new : ActorState) (request : Request) (state : new ≡ absorbed old new.caches request outcomes.Lost) (absorbs : (mine : List Entry) → outcomes.Lost ≡ outcomes.Lost → StandsFor old mine → StandsFor new mine) where
+module _ (seat : ℕ) (past : List Entry) (old new : ActorState) (request : Request) (state : new ≡ absorbed old new.caches request outcomes.Lost)
+    (absorbs : (mine : List Entry) → outcomes.Lost ≡ outcomes.Lost → StandsFor old mine → StandsFor new mine) where
   none_called : (Call : List Entry → List Entry → Type 0) → Call past past → HasCalled seat Call past past old new
   none_called Call call = record {
     call = call;
@@ -117,9 +129,11 @@ module _ (seat : ℕ) (past : List Entry) (old new : ActorState) (request : Requ
   pub lost_goes : GoesOn seat false LostBefore request past past old new
   lost_goes = none_goes false LostBefore refl
 
-  pub held_called : (lets : Lets) (kind : SeatKind) (fate : Fate) (after : List Entry) → Licensed kind (own seat past) request → lets past request ≡ false → after ≡ past → HasCalled seat (IsCallBy lets true fate seat kind) past after old new
+  pub held_called : (lets : Lets) (kind : SeatKind) (fate : Fate) (after : List Entry) → Licensed kind (own seat past) request
+      → lets past request ≡ false → after ≡ past → HasCalled seat (IsCallBy lets true fate seat kind) past after old new
   held_called lets kind fate after licensed held is =
-      subst (λ p. HasCalled seat (IsCallBy lets true fate seat kind) past p old new) (sym is) (none_called (IsCallBy lets true fate seat kind) (record { request = request; licensed = licensed; held = held; is = refl }))
+      subst (λ p. HasCalled seat (IsCallBy lets true fate seat kind) past p old new) (sym is)
+      (none_called (IsCallBy lets true fate seat kind) (record { request = request; licensed = licensed; held = held; is = refl }))
 
   pub held_goes : (fate : Fate) (after : List Entry) → after ≡ past → GoesOn seat true fate request past after old new
   held_goes fate after is = subst (λ p. GoesOn seat true fate request past p old new) (sym is) (none_goes true fate refl)
@@ -127,7 +141,8 @@ module _ (seat : ℕ) (past : List Entry) (old new : ActorState) (request : Requ
 -- ---- what a call came to
 
 -- it is what the answer says
-pub came_as : (lets : Lets) (seat : ℕ) (kind : SeatKind) (request : Request) (told : Bool) (reply answer : Option Reply) (past new : List Entry) → reply ≡ answer → IsAnswered lets seat kind request told reply past new → IsAnswered lets seat kind request told answer past new
+pub came_as : (lets : Lets) (seat : ℕ) (kind : SeatKind) (request : Request) (told : Bool) (reply answer : Option Reply) (past new : List Entry)
+    → reply ≡ answer → IsAnswered lets seat kind request told reply past new → IsAnswered lets seat kind request told answer past new
 came_as lets seat kind request told reply answer past new is came = subst (λ r. IsAnswered lets seat kind request told r past new) is came
 
 -- where all pass nothing is held back

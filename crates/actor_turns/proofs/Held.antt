@@ -49,10 +49,12 @@ left_agree held others part seat (suc n) agree = by (seat_at part (suc n) == sea
     leaves h = not h && leaves_entry (fate_of part.losses (suc n))
 
     by : (b : Bool) → is_held held (suc n) ≡ is_held others (suc n) → left_by held part seat n ≡ left_by others part seat n
-        → (if b then leaves (is_held held (suc n)) ∷ left_by held part seat n else left_by held part seat n) ≡ (if b then leaves (is_held others (suc n)) ∷ left_by others part seat n else left_by others part seat n)
+        → (if b then leaves (is_held held (suc n)) ∷ left_by held part seat n else left_by held part seat n)
+        ≡ (if b then leaves (is_held others (suc n)) ∷ left_by others part seat n else left_by others part seat n)
     by true same rest = ap (λ h. leaves h ∷ left_by held part seat n) same ∙ ap (λ ls. leaves (is_held others (suc n)) ∷ ls) rest
     by false same rest = rest
 
 -- a call that was held back, or not, where the same were
-pub call_agree : (lets : Lets) (held others : List ℕ) (part : Part) (n : ℕ) (past new : List Entry) → is_held held n ≡ is_held others n → IsCall lets others part n past new → IsCall lets held part n past new
+pub call_agree : (lets : Lets) (held others : List ℕ) (part : Part) (n : ℕ) (past new : List Entry) → is_held held n ≡ is_held others n
+    → IsCall lets others part n past new → IsCall lets held part n past new
 call_agree lets held others part n past new same call = subst (λ b. IsCallBy lets b (fate_of part.losses n) (seat_at part n) part.kind past new) (sym same) call

@@ -2,7 +2,7 @@
 use Rattle.std.proofs.Common.{◌≡◌, ◌≢◌, ◌⊎◌, ℕ, zero, suc, ◌<◌, ◌≤◌, ◌+◌, List, [], ◌∷◌, ◌++◌, map, Bool, true, false, Some, inl, inr, refl, sym, ◌∙◌, ap, subst, arith}
 use Rattle.std.specs.Prelude.{◌==◌, ◌&&◌, is_some, nat_lt, not}
 use Rattle.std.proofs.lemmas.Bool.Decides.{Decides-eqb, nat_tests}
-use Rattle.kube_types.specs.Keys.{AreRows}
+use Rattle.kube_objects.specs.Keys.{AreRows}
 use Rattle.call_types.specs.declared.entry.Entry.{Entry}
 use Rattle.call_types.specs.declared.request.Request.{Request}
 use Rattle.binder_model.specs.Told.{own}
@@ -48,8 +48,10 @@ left_none held part seat (suc n) lt =
     by false e h = rw e h
 
 -- the next call is of its life
-left_own : (held : List ℕ) (part : Part) (seat n : ℕ) → seat ≡ seat_at part (n + 1) → left_by held part seat (n + 1) ≡ (not (is_held held (n + 1)) && leaves_entry (fate_of part.losses (n + 1))) ∷ left_by held part seat n
-left_own held part seat n is = let step : suc n ≡ n + 1 = omega arith in subst (λ m. left_by held part seat m ≡ (not (is_held held m) && leaves_entry (fate_of part.losses m)) ∷ left_by held part seat n) step (here (subst (λ m. seat ≡ seat_at part m) (sym step) is))
+left_own : (held : List ℕ) (part : Part) (seat n : ℕ) → seat ≡ seat_at part (n + 1)
+    → left_by held part seat (n + 1) ≡ (not (is_held held (n + 1)) && leaves_entry (fate_of part.losses (n + 1))) ∷ left_by held part seat n
+left_own held part seat n is = let step : suc n ≡ n + 1 = omega arith in
+    subst (λ m. left_by held part seat m ≡ (not (is_held held m) && leaves_entry (fate_of part.losses m)) ∷ left_by held part seat n) step (here (subst (λ m. seat ≡ seat_at part m) (sym step) is))
   where
     here : seat ≡ seat_at part (suc n) → left_by held part seat (suc n) ≡ (not (is_held held (suc n)) && leaves_entry (fate_of part.losses (suc n))) ∷ left_by held part seat n
     here at = let same : (seat_at part (suc n) == seat) ≡ true = (Decides-eqb (seat_at part (suc n)) seat).1 (sym at) in rw same refl
@@ -75,7 +77,8 @@ none_diligent role kind first fourth earlier between later is four key due = abs
 no_life : (held : List ℕ) (part : Part) (seat made : ℕ) (past : List Entry) → own seat past ≡ [] → seat_at part made < seat → AreOfLife held part seat made past []
 no_life held part seat made past none before = record { of_seat = sym none; left = sym (left_none held part seat made before) }
 
-needed_life : (held : List ℕ) (role : Role) (part : Part) (seat made : ℕ) (past : List Entry) (earlier : List Call) (s : ActorState) → Living held role part seat made past earlier s → IsNeededLife held role part seat made past earlier
+needed_life : (held : List ℕ) (role : Role) (part : Part) (seat made : ℕ) (past : List Entry) (earlier : List Call) (s : ActorState)
+    → Living held role part seat made past earlier s → IsNeededLife held role part seat made past earlier
 needed_life held role part seat made past earlier s living = record {
   since = living.since;
   are = living.are;
@@ -83,7 +86,8 @@ needed_life held role part seat made past earlier s living = record {
   silent = played_is_silent role s (living.since ++ earlier) (played_on role s earlier living.since living.played);
 }
 
-ended_life : (held : List ℕ) (role : Role) (part : Part) (seat made : ℕ) (past : List Entry) (earlier : List Call) (s : ActorState) → IsBuiltKind role.kind → Living held role part seat made past earlier s → HasLasted held role part seat made past earlier
+ended_life : (held : List ℕ) (role : Role) (part : Part) (seat made : ℕ) (past : List Entry) (earlier : List Call) (s : ActorState)
+    → IsBuiltKind role.kind → Living held role part seat made past earlier s → HasLasted held role part seat made past earlier
 ended_life held role part seat made past earlier s built living = record {
   diligent = record { calls = living.since ++ earlier; are = living.are; diligent = played_is_diligent role s (living.since ++ earlier) built (played_on role s earlier living.since living.played) };
   needed = needed_life held role part seat made past earlier s living;
@@ -94,7 +98,8 @@ ended_life held role part seat made past earlier s built living = record {
     played = played_on role s earlier living.since living.played
 
 -- what others do leaves it
-kept_life : (held then_held : List ℕ) (role : Role) (part : Part) (seat made then_made : ℕ) (past later : List Entry) (earlier : List Call) → own seat later ≡ own seat past → left_by then_held part seat then_made ≡ left_by held part seat made
+kept_life : (held then_held : List ℕ) (role : Role) (part : Part) (seat made then_made : ℕ) (past later : List Entry) (earlier : List Call)
+    → own seat later ≡ own seat past → left_by then_held part seat then_made ≡ left_by held part seat made
     → HasLasted held role part seat made past earlier → HasLasted then_held role part seat then_made later earlier
 kept_life held then_held role part seat made then_made past later earlier same left life = record {
   diligent = record {
@@ -112,7 +117,8 @@ kept_life held then_held role part seat made then_made past later earlier same l
 }
 
 -- a life that no call has reached
-unborn_life : (held : List ℕ) (role : Role) (part : Part) (seat made : ℕ) (past : List Entry) (earlier : List Call) → own seat past ≡ [] → seat_at part made < seat → earlier ≡ [] → HasLasted held role part seat made past earlier
+unborn_life : (held : List ℕ) (role : Role) (part : Part) (seat made : ℕ) (past : List Entry) (earlier : List Call) → own seat past ≡ []
+    → seat_at part made < seat → earlier ≡ [] → HasLasted held role part seat made past earlier
 unborn_life held role part seat made past earlier none before first = record {
   diligent = record { calls = []; are = no_life held part seat made past none before; diligent = none_diligent role };
   needed = subst (IsNeededLife held role part seat made past) (sym first) (record { since = []; are = no_life held part seat made past none before; needed = tt; silent = tt });
@@ -120,7 +126,8 @@ unborn_life held role part seat made past earlier none before first = record {
 }
 
 -- each life so far, and each later one
-pub each_lasted : (role : Role) (x : Player) (past : List Entry) (told : ℕ → List Entry) (idle : ℕ → List Call) → Plays x past told → Lives role x past idle → (seat : ℕ) → x.part.first ≤ seat → seat < x.part.first + lives_of x.part → HasLasted x.held role x.part seat x.made past (idle seat)
+pub each_lasted : (role : Role) (x : Player) (past : List Entry) (told : ℕ → List Entry) (idle : ℕ → List Call) → Plays x past told
+    → Lives role x past idle → (seat : ℕ) → x.part.first ≤ seat → seat < x.part.first + lives_of x.part → HasLasted x.held role x.part seat x.made past (idle seat)
 each_lasted role x past told idle plays lives seat low high = by (nat_lt seat x.seat) (nat_lt x.seat seat) refl refl
   where
     by : (b a : Bool) → nat_lt seat x.seat ≡ b → nat_lt x.seat seat ≡ a → HasLasted x.held role x.part seat x.made past (idle seat)
@@ -133,7 +140,8 @@ each_lasted role x past told idle plays lives seat low high = by (nat_lt seat x.
         let same : x.seat ≡ seat = grind (arith, nat_tests) in
         subst (λ s. HasLasted x.held role x.part s x.made past (idle s)) same (ended_life x.held role x.part x.seat x.made past (idle x.seat) x.actor lives.built lives.living)
 
-pub each_life : (role : Role) (x : Player) (past : List Entry) (told : ℕ → List Entry) (idle : ℕ → List Call) → Plays x past told → Lives role x past idle → (seat : ℕ) → x.part.first ≤ seat → seat < x.part.first + lives_of x.part → IsDiligentLife x.held role x.part seat x.made past
+pub each_life : (role : Role) (x : Player) (past : List Entry) (told : ℕ → List Entry) (idle : ℕ → List Call) → Plays x past told
+    → Lives role x past idle → (seat : ℕ) → x.part.first ≤ seat → seat < x.part.first + lives_of x.part → IsDiligentLife x.held role x.part seat x.made past
 each_life role x past told idle plays lives seat low high = (each_lasted role x past told idle plays lives seat low high).diligent
 
 -- those up to the player's
@@ -147,7 +155,8 @@ needed_so_far role x past idle lives seat low high = by (nat_lt seat x.seat) ref
         subst (λ s. IsNeededLife x.held role x.part s x.made past (idle s)) same (needed_life x.held role x.part x.seat x.made past (idle x.seat) x.actor lives.living)
 
 -- and all
-pub all_needed : (role : Role) (x : Player) (past : List Entry) (idle : ℕ → List Call) → seat_at x.part x.made ≤ x.seat → ((seat : ℕ) → x.seat < seat → seat < x.part.first + lives_of x.part → (own seat past ≡ []) × (idle seat ≡ [])) → NeededSoFar role x past idle → AreNeededLives x.held role x.part x.made past idle
+pub all_needed : (role : Role) (x : Player) (past : List Entry) (idle : ℕ → List Call) → seat_at x.part x.made ≤ x.seat
+    → ((seat : ℕ) → x.seat < seat → seat < x.part.first + lives_of x.part → (own seat past ≡ []) × (idle seat ≡ [])) → NeededSoFar role x past idle → AreNeededLives x.held role x.part x.made past idle
 all_needed role x past idle began unborn so_far seat low high = by (nat_lt x.seat seat) refl
   where
     by : (b : Bool) → nat_lt x.seat seat ≡ b → IsNeededLife x.held role x.part seat x.made past (idle seat)
@@ -160,7 +169,8 @@ all_needed role x past idle began unborn so_far seat low high = by (nat_lt x.sea
 -- ---- steps
 
 -- a later life begins
-pub next_lives : (role : Role) (old : Player) (seat began : ℕ) (actor : ActorState) (past : List Entry) (told : ℕ → List Entry) (idle : ℕ → List Call) → old.part.named ≡ true → seat ≡ seat_at old.part (old.made + 1) → seat ≢ old.seat → IsNew old.actor.role actor → StandsFor actor [] → Plays old past told
+pub next_lives : (role : Role) (old : Player) (seat began : ℕ) (actor : ActorState) (past : List Entry) (told : ℕ → List Entry)
+    (idle : ℕ → List Call) → old.part.named ≡ true → seat ≡ seat_at old.part (old.made + 1) → seat ≢ old.seat → IsNew old.actor.role actor → StandsFor actor [] → Plays old past told
     → Lives role old past idle → Lives role (record old { seat = seat; began = began; actor = actor }) past idle
 next_lives role old seat began actor past told idle named is other new stands plays lives =
     let within = seat_within old.part (old.made + 1) named in
@@ -182,9 +192,12 @@ next_lives role old seat began actor past told idle named is other new stands pl
     }
 
 -- a call was made
-pub made_lives : (role : Role) (mid : Player) (given actor : ActorState) (request : Request) (fate : Fate) (b : Bool) (before after : List Entry) (told : ℕ → List Entry) (idle : ℕ → List Call) → mid.seat ≡ seat_at mid.part (mid.made + 1) → fate ≡ fate_of mid.part.losses (mid.made + 1)
-    → AreRows (all_objects mid.actor.caches) → IsTurn mid.actor given (nexts.Call request) → ((mine : List Entry) → StandsFor mid.actor mine → StandsFor given mine) → GoesOn mid.seat b fate request before after given actor
-    → ((other : ℕ) → other ≢ mid.seat → own other after ≡ own other before) → Plays mid before told → Lives role mid before idle → Lives role (record mid { made = mid.made + 1; held = and_held b (mid.made + 1) mid.held; actor = actor }) after idle
+pub made_lives : (role : Role) (mid : Player) (given actor : ActorState) (request : Request) (fate : Fate) (b : Bool) (before after : List Entry)
+    (told : ℕ → List Entry) (idle : ℕ → List Call) → mid.seat ≡ seat_at mid.part (mid.made + 1) → fate ≡ fate_of mid.part.losses (mid.made + 1)
+    → AreRows (all_objects mid.actor.caches) → IsTurn mid.actor given (nexts.Call request)
+    → ((mine : List Entry) → StandsFor mid.actor mine → StandsFor given mine) → GoesOn mid.seat b fate request before after given actor
+    → ((other : ℕ) → other ≢ mid.seat → own other after ≡ own other before) → Plays mid before told → Lives role mid before idle
+    → Lives role (record mid { made = mid.made + 1; held = and_held b (mid.made + 1) mid.held; actor = actor }) after idle
 made_lives role mid given actor request fate b before after told idle is lost order turn keeps goes others plays lives =
     let living = lives.living in
     let calls = living.since ++ idle mid.seat in
@@ -198,12 +211,14 @@ made_lives role mid given actor request fate b before after told idle is lost or
         are = record {
           of_seat = went.own;
           left = ap (λ c. c ∷ map is_some calls) (went.left ∙ ap (λ f. not b && leaves_entry f) lost ∙ ap (λ h. not h && leaves_entry (fate_of mid.part.losses (mid.made + 1))) (sym here))
-              ∙ ap (λ bs. (not (is_held held (mid.made + 1)) && leaves_entry (fate_of mid.part.losses (mid.made + 1))) ∷ bs) (living.are.left ∙ sym (left_agree held mid.held mid.part mid.seat mid.made agree)) ∙ sym (left_own held mid.part mid.seat mid.made is);
+              ∙ ap (λ bs. (not (is_held held (mid.made + 1)) && leaves_entry (fate_of mid.part.losses (mid.made + 1))) ∷ bs)
+              (living.are.left ∙ sym (left_agree held mid.held mid.part mid.seat mid.made agree)) ∙ sym (left_own held mid.part mid.seat mid.made is);
         };
         played = went.played;
       };
       ended = λ s low below.
-          kept_life mid.held held role mid.part s mid.made (mid.made + 1) before after (idle s) (others s (λ e. absurd (omega (arith, e, below)))) (left_other held mid.part s mid.made (λ e. absurd (omega (arith, e, is, below))) ∙ left_agree held mid.held mid.part s mid.made agree) (lives.ended s low below);
+          kept_life mid.held held role mid.part s mid.made (mid.made + 1) before after (idle s) (others s (λ e. absurd (omega (arith, e, below))))
+          (left_other held mid.part s mid.made (λ e. absurd (omega (arith, e, is, below))) ∙ left_agree held mid.held mid.part s mid.made agree) (lives.ended s low below);
       unborn = lives.unborn;
     }
   where
@@ -217,7 +232,9 @@ made_lives role mid given actor request fate b before after told idle is lost or
     agree = agree_more b mid.made mid.held
 
 -- the turn gave none
-pub idle_lives : (role : Role) (mid : Player) (given : ActorState) (past : List Entry) (idle : ℕ → List Call) → AreRows (all_objects mid.actor.caches) → IsTurn mid.actor given nexts.Idle → ((mine : List Entry) → StandsFor mid.actor mine → StandsFor given mine) → Lives role mid past idle → LivesIdle role (record mid { actor = given }) past idle
+pub idle_lives : (role : Role) (mid : Player) (given : ActorState) (past : List Entry) (idle : ℕ → List Call)
+    → AreRows (all_objects mid.actor.caches) → IsTurn mid.actor given nexts.Idle
+    → ((mine : List Entry) → StandsFor mid.actor mine → StandsFor given mine) → Lives role mid past idle → LivesIdle role (record mid { actor = given }) past idle
 idle_lives role mid given past idle order turn keeps lives =
     let living = lives.living in
     let calls = living.since ++ idle mid.seat in
@@ -239,7 +256,8 @@ at_other seat other calls idle differs = by (other == seat) refl
     by false e = rw e refl
 
 -- and the actor is woken: its life has done what it was told
-pub woken_lives : (role : Role) (calls : ℕ) (old p : Player) (actor : ActorState) (past : List Entry) (idle : ℕ → List Call) → p.made < old.made + calls → actor ≡ woken p.actor → ((mine : List Entry) → StandsFor p.actor mine → StandsFor actor mine) → LivesIdle role p past idle
+pub woken_lives : (role : Role) (calls : ℕ) (old p : Player) (actor : ActorState) (past : List Entry) (idle : ℕ → List Call)
+    → p.made < old.made + calls → actor ≡ woken p.actor → ((mine : List Entry) → StandsFor p.actor mine → StandsFor actor mine) → LivesIdle role p past idle
     → LivedFewer role calls past idle old (record p { actor = actor })
 woken_lives role calls old p actor past idle few is keeps was = record {
   few = few;
@@ -274,15 +292,18 @@ pub lived_all : (role : Role) (calls : ℕ) (old p : Player) (past : List Entry)
 lived_all role calls old p past idle made lives = record { made = made; needed = needed_so_far role p past idle lives; lives = lives }
 
 -- entries of other seats leave the lives
-pub lives_on : (role : Role) (x : Player) (h later : List Entry) (idle then_idle : ℕ → List Call) → IsLife x.part x.seat → ((seat : ℕ) → IsLife x.part seat → own seat later ≡ own seat h) → ((seat : ℕ) → IsLife x.part seat → then_idle seat ≡ idle seat) → Lives role x h idle → Lives role x later then_idle
+pub lives_on : (role : Role) (x : Player) (h later : List Entry) (idle then_idle : ℕ → List Call) → IsLife x.part x.seat
+    → ((seat : ℕ) → IsLife x.part seat → own seat later ≡ own seat h) → ((seat : ℕ) → IsLife x.part seat → then_idle seat ≡ idle seat) → Lives role x h idle → Lives role x later then_idle
 lives_on role x h later idle then_idle at same same_idle lives = record {
   built = lives.built;
   began = lives.began;
-  living = subst (λ c. Living x.held role x.part x.seat x.made later c x.actor) (sym (same_idle x.seat at)) (record { since = lives.living.since; are = record { of_seat = lives.living.are.of_seat ∙ sym (same x.seat at); left = lives.living.are.left }; played = lives.living.played });
+  living = subst (λ c. Living x.held role x.part x.seat x.made later c x.actor) (sym (same_idle x.seat at))
+      (record { since = lives.living.since; are = record { of_seat = lives.living.are.of_seat ∙ sym (same x.seat at); left = lives.living.are.left }; played = lives.living.played });
   ended = λ seat low below.
       let high = at.1 in
       let life : IsLife x.part seat = (low, omega (arith, below, high)) in
-      subst (HasLasted x.held role x.part seat x.made later) (sym (same_idle seat life)) (kept_life x.held x.held role x.part seat x.made x.made h later (idle seat) (same seat life) refl (lives.ended seat low below));
+      subst (HasLasted x.held role x.part seat x.made later) (sym (same_idle seat life))
+      (kept_life x.held x.held role x.part seat x.made x.made h later (idle seat) (same seat life) refl (lives.ended seat low below));
   unborn = λ seat after below. same_idle seat (let a = at.0 in omega (arith, a, after), below) ∙ lives.unborn seat after below;
 }
 

@@ -2,8 +2,8 @@
 -- actor is idle there is no news since.
 use Rattle.std.proofs.Common.{◌≡◌, ◌≤◌, ◌++◌, List, [], ◌∷◌, length, Bool, true, false, true≢false, Option, Some, None, inl, inr, refl, sym, ◌∙◌, ap, subst, arith}
 use Rattle.std.specs.Prelude.{◌&&◌, option_map}
-use Rattle.kube_types.specs.declared.parts.Kind.{Kind}
-use Rattle.kube_types.specs.Keys.{same_kind}
+use Rattle.kube_parts.specs.declared.parts.Kind.{Kind}
+use Rattle.kube_objects.specs.Keys.{same_kind}
 use Rattle.call_types.specs.declared.entry.Entry.{Entry}
 use Rattle.call_types.specs.declared.request.Request.{Request}
 use Rattle.call_types.specs.declared.request.Request.TheVariants as requests
@@ -73,7 +73,9 @@ is_list asks.List = true
 is_list (asks.Watch from) = false
 
 -- a list of a kind that is not listed
-list_recent : (role : Role) (pass : Pass) (recent earlier : List Entry) (e : Entry) (kind : Kind) → IsBuiltKind role.kind → PassStands role pass recent → AreLicensed role.kind (recent ++ earlier) → following_of (recent ++ earlier) kind ≡ Unlisted → e.request ≡ requests.List kind None → PassStands role pass (e ∷ recent)
+list_recent : (role : Role) (pass : Pass) (recent earlier : List Entry) (e : Entry) (kind : Kind) → IsBuiltKind role.kind
+    → PassStands role pass recent → AreLicensed role.kind (recent ++ earlier) → following_of (recent ++ earlier) kind ≡ Unlisted
+    → e.request ≡ requests.List kind None → PassStands role pass (e ∷ recent)
 list_recent role pass recent earlier e kind built stands l none is = λ quiet place k lt at. by k (same_kind kind k) refl (stands quiet place k lt at)
   where
     by : (k : Kind) (b : Bool) → same_kind kind k ≡ b → HasNoNews k recent → HasNoNews k (e ∷ recent)
@@ -84,13 +86,15 @@ list_recent role pass recent earlier e kind built stands l none is = λ quiet pl
 abbrev Passes : List Entry → ActorState → Type 0
 Passes recent x = PassStands x.role x.pass recent
 
-module _ (s : ActorState) (earlier recent : List Entry) (e : Entry) (request : Request) (built : IsBuiltKind s.role.kind) (stands : StandsFor s (recent ++ earlier)) (pass : Passes recent s) (ask : asked s ≡ Some request) where
+module _ (s : ActorState) (earlier recent : List Entry) (e : Entry) (request : Request) (built : IsBuiltKind s.role.kind)
+    (stands : StandsFor s (recent ++ earlier)) (pass : Passes recent s) (ask : asked s ≡ Some request) where
   told_pass : (caches : AllKnown) (reply : Reply) → IsTold e request reply → Passes (e ∷ recent) (told_to s caches request reply)
   told_pass caches reply is = by s.given stands.given refl
     where
       under : (u : Option Under) → AnyIsUnderWay s.role u (recent ++ earlier) → option_map call_under u ≡ Some request → Passes (e ∷ recent) (task_told (learned s caches request reply) reply u)
       under None way c = none_some c
-      under (Some u) way c = kept_pass s.role s.pass recent e pass (λ kind. task_reads_none u.task e.request kind (under_calls s.role u (recent ++ earlier) way ∙ ap Some (one u.call request c ∙ sym is.asked)))
+      under (Some u) way c = kept_pass s.role s.pass recent e pass (λ kind. task_reads_none u.task e.request kind
+          (under_calls s.role u (recent ++ earlier) way ∙ ap Some (one u.call request c ∙ sym is.asked)))
 
       read : (k : Kind) (a : Ask) → ask_of (cache_of k s.caches) ≡ a → read_request k a ≡ request → PassStands s.role (pass_after s.pass (is_passing (passing s) k) request reply) (e ∷ recent)
       read k asks.List at r =
@@ -104,7 +108,8 @@ module _ (s : ActorState) (earlier recent : List Entry) (e : Entry) (request : R
       by : (g : Option Given) → GivenStands s.role s.memory g s.under → s.given ≡ g → Passes (e ∷ recent) (given_told (learned s caches request reply) request reply g)
       by None f eg = none_some (ap (given_call s) (sym eg) ∙ ask)
       by (Some givens.Task) f eg = under s.under stands.settle_round_calls (ap (given_call s) (sym eg) ∙ ask)
-      by (Some givens.Start) f eg = kept_pass s.role s.pass recent e pass (λ kind. start_reads_none s.role.kind s.role.node s.memory e.request kind (ap (given_call s) (sym eg) ∙ ask ∙ ap Some (sym is.asked)))
+      by (Some givens.Start) f eg = kept_pass s.role s.pass recent e pass (λ kind. start_reads_none s.role.kind s.role.node s.memory e.request kind
+          (ap (given_call s) (sym eg) ∙ ask ∙ ap Some (sym is.asked)))
       by (Some (givens.Read k)) f eg = read k (ask_of (cache_of k s.caches)) refl (one _ request (ap (given_call s) (sym eg) ∙ ask))
 
 -- a call that was lost leaves the pass
@@ -153,7 +158,8 @@ none_since old new earlier mine request state absorbs since = record {
   pass = subst (Passes since.recent) (sym state) (lost_pass old since.recent since.pass);
 }
 
-pub turn_since : (old new : ActorState) (answer : Next) (earlier mine : List Entry) → IsTurn old new answer → (StandsFor old mine → StandsFor new mine) → StandsSince old earlier mine → StandsSince new earlier mine
+pub turn_since : (old new : ActorState) (answer : Next) (earlier mine : List Entry) → IsTurn old new answer
+    → (StandsFor old mine → StandsFor new mine) → StandsSince old earlier mine → StandsSince new earlier mine
 turn_since old new answer earlier mine turn keeps since = record {
   stands = keeps since.stands;
   recent = since.recent;
@@ -178,7 +184,8 @@ abbrev AreQuiet : SeatKind → List Entry → Type 0
 AreQuiet kind recent = (k : Kind) → follows kind k ≡ true → HasNoNews k recent
 
 -- where an actor is idle its kinds have no news since
-pub quiet_since : (s new : ActorState) (answer : Next) (earlier mine : List Entry) → s.memory.stale ≡ false → StandsSince s earlier mine → IsTurn s new answer → answer ≡ nexts.Idle → IsQuietSince s.role.kind earlier mine
+pub quiet_since : (s new : ActorState) (answer : Next) (earlier mine : List Entry) → s.memory.stale ≡ false → StandsSince s earlier mine
+    → IsTurn s new answer → answer ≡ nexts.Idle → IsQuietSince s.role.kind earlier mine
 quiet_since s new answer earlier mine fresh since turn idle = record {
   recent = since.recent;
   are = since.are;
@@ -196,7 +203,8 @@ quiet_since s new answer earlier mine fresh since turn idle = record {
     keys w None past (inl b) = no_call _ b.call
     keys w None past (inr b) = each b.quiet past
 
-    by : (stale : Bool) (u : Option Under) (start : Option Request) (l p : Option Kind) → s.memory.stale ≡ stale → passing s ≡ p → TurnBy s new answer stale u start l p → AreQuiet s.role.kind since.recent
+    by : (stale : Bool) (u : Option Under) (start : Option Request) (l p : Option Kind) → s.memory.stale ≡ stale → passing s ≡ p
+        → TurnBy s new answer stale u start l p → AreQuiet s.role.kind since.recent
     by true u start l p at ep t = absurd (true≢false (sym at ∙ fresh))
     by false (Some u) start l p at ep t = no_call _ t.call
     by false None (Some request) l p at ep t = no_call _ t.call

@@ -37,7 +37,8 @@ less a b m le is differs = by (nat_lt a b) refl
     by false e = absurd (differs (grind (arith, nat_tests)))
 
 -- a later life begins
-pub next_life : (old new : Player) (past : List Entry) (idle : ℕ → List Entry) → old.part.named ≡ true → new.part ≡ old.part → new.made ≡ old.made → new.held ≡ old.held → new.seat ≡ seat_at old.part (old.made + 1) → new.seat ≢ old.seat → IsNew old.actor.role new.actor → StandsFor new.actor [] → Plays old past idle → Plays new past idle
+pub next_life : (old new : Player) (past : List Entry) (idle : ℕ → List Entry) → old.part.named ≡ true → new.part ≡ old.part → new.made ≡ old.made
+    → new.held ≡ old.held → new.seat ≡ seat_at old.part (old.made + 1) → new.seat ≢ old.seat → IsNew old.actor.role new.actor → StandsFor new.actor [] → Plays old past idle → Plays new past idle
 next_life old new past idle named part made held seat other new_actor stands plays =
     let within = seat_within old.part (old.made + 1) named in
     let later : old.seat < new.seat = less old.seat new.seat (seat_at old.part (old.made + 1)) plays.reached seat other in
@@ -45,7 +46,8 @@ next_life old new past idle named part made held seat other new_actor stands pla
     record {
       kind = ap (λ (r : Role). r.kind) new_actor.is ∙ plays.kind ∙ ap (λ (x : Part). x.kind) (sym part);
       first = subst (λ (x : Part). x.first ≤ new.seat) (sym part) (let f = plays.first in omega (arith, f, later));
-      reached = let e : seat_at new.part (new.made + 1) ≡ seat_at old.part (old.made + 1) = ap (λ (x : Part). seat_at x (new.made + 1)) part ∙ ap (λ m. seat_at old.part (m + 1)) made in omega (arith, e, seat);
+      reached = let e : seat_at new.part (new.made + 1) ≡ seat_at old.part (old.made + 1) = ap (λ (x : Part). seat_at x (new.made + 1)) part
+          ∙ ap (λ m. seat_at old.part (m + 1)) made in omega (arith, e, seat);
       since = subst (λ m. StandsSince new.actor (idle new.seat) m) (sym none.0) (subst (λ m. StandsSince new.actor m []) (sym none.1) (new_since new.actor stands));
       ahead = λ n after. ap (λ h. is_held h n) held ∙ plays.ahead n (omega (arith, made, after));
       unborn = λ s after below. plays.unborn s (omega (arith, later, after)) (subst (λ (x : Part). s < x.first + lives_of x) part below);
@@ -76,7 +78,8 @@ pub record HasTaken (mid new : Player) : Type 0 where
   pub seat : new.seat ≡ mid.seat
 
 -- another actor of the same life
-with_actor : (mid new : Player) (past : List Entry) (idle : ℕ → List Entry) → HasTaken mid new → new.made ≡ mid.made → new.held ≡ mid.held → new.actor.role ≡ mid.actor.role → StandsSince new.actor (idle mid.seat) (own mid.seat past) → Plays mid past idle → Plays new past idle
+with_actor : (mid new : Player) (past : List Entry) (idle : ℕ → List Entry) → HasTaken mid new → new.made ≡ mid.made → new.held ≡ mid.held
+    → new.actor.role ≡ mid.actor.role → StandsSince new.actor (idle mid.seat) (own mid.seat past) → Plays mid past idle → Plays new past idle
 with_actor mid new past idle taken made held role since plays = record {
   kind = ap (λ (r : Role). r.kind) role ∙ plays.kind ∙ ap (λ (x : Part). x.kind) (sym taken.part);
   first = subst (λ s. new.part.first ≤ s) (sym taken.seat) (subst (λ (x : Part). x.first ≤ mid.seat) (sym taken.part) plays.first);
@@ -105,14 +108,16 @@ still old mid new past idle ready taken made held built turn keeps plays = recor
   held = held ∙ ready.held;
   past = refl;
   seat = taken.seat ∙ ready.seat;
-  plays = with_actor mid new past idle taken made held (turn_role mid.actor new.actor nexts.Idle turn) (turn_since mid.actor new.actor nexts.Idle (idle mid.seat) (own mid.seat past) turn (keeps (own mid.seat past)) plays.since) plays;
+  plays = with_actor mid new past idle taken made held (turn_role mid.actor new.actor nexts.Idle turn)
+      (turn_since mid.actor new.actor nexts.Idle (idle mid.seat) (own mid.seat past) turn (keeps (own mid.seat past)) plays.since) plays;
   ends = subst (λ s. MayEnd old.part.kind (idle s) (own s past)) (sym taken.seat) (subst (λ k. MayEnd k (idle mid.seat) (own mid.seat past)) (plays.kind ∙ ap (λ (x : Part). x.kind) ready.part)
       (may_end mid.actor new.actor (idle mid.seat) (own mid.seat past) built plays.since turn));
 }
 
 -- one call was made
 pub one_made : (lets : Lets) (old mid new : Player) (given : ActorState) (answer : Next) (before after : List Entry) (idle : ℕ → List Entry) (fate : Fate) (b : Bool) (kind : SeatKind)
-    → old.part.named ≡ true → IsReady old mid → HasTaken mid new → new.made ≡ mid.made + 1 → new.held ≡ and_held b (mid.made + 1) mid.held → kind ≡ mid.actor.role.kind → fate ≡ fate_of mid.part.losses (mid.made + 1)
+    → old.part.named ≡ true → IsReady old mid → HasTaken mid new → new.made ≡ mid.made + 1 → new.held ≡ and_held b (mid.made + 1) mid.held
+    → kind ≡ mid.actor.role.kind → fate ≡ fate_of mid.part.losses (mid.made + 1)
     → IsTurn mid.actor given answer → ((mine : List Entry) → StandsFor mid.actor mine → StandsFor given mine)
     → HasCalled mid.seat (IsCallBy lets b fate mid.seat kind) before after given new.actor → Plays mid before idle → HasMade lets idle before after old new
 one_made lets old mid new given answer before after idle fate b kind named ready taken made held same lost turn keeps called plays = record {
@@ -120,7 +125,8 @@ one_made lets old mid new given answer before after idle fate b kind named ready
   call = subst (λ h. IsCallBy lets h (fate_of old.part.losses (old.made + 1)) (seat_at old.part (old.made + 1)) old.part.kind before after) (sym its)
       (subst (λ k. IsCallBy lets b (fate_of old.part.losses (old.made + 1)) (seat_at old.part (old.made + 1)) k before after) (same ∙ plays.kind ∙ ap (λ (x : Part). x.kind) ready.part)
       (subst (λ s. IsCallBy lets b (fate_of old.part.losses (old.made + 1)) s kind before after) ready.seat
-      (subst (λ f. IsCallBy lets b f mid.seat kind before after) (lost ∙ ap (λ (x : Part). fate_of x.losses (mid.made + 1)) ready.part ∙ ap (λ m. fate_of old.part.losses (m + 1)) ready.made) called.call)));
+      (subst (λ f. IsCallBy lets b f mid.seat kind before after)
+      (lost ∙ ap (λ (x : Part). fate_of x.losses (mid.made + 1)) ready.part ∙ ap (λ m. fate_of old.part.losses (m + 1)) ready.made) called.call)));
   agree = λ n low. ap (λ h. is_held h n) held ∙ agree_more b mid.made mid.held n (let m = ready.made in omega (arith, m, low)) ∙ ap (λ h. is_held h n) ready.held;
   plays = record {
     kind = ap (λ (r : Role). r.kind) (called.role ∙ turn_role mid.actor given answer turn) ∙ plays.kind ∙ ap (λ (x : Part). x.kind) (sym taken.part);
@@ -131,7 +137,8 @@ one_made lets old mid new given answer before after idle fate b kind named ready
         let e : seat_at new.part (new.made + 1) ≡ seat_at mid.part (mid.made + 1 + 1) = ap (λ (x : Part). seat_at x (new.made + 1)) taken.part ∙ ap (λ m. seat_at mid.part (m + 1)) made in
         let s = taken.seat in
         omega (arith, more, r, e, s);
-    since = subst (λ s. StandsSince new.actor (idle s) (own s after)) (sym taken.seat) (called.since (idle mid.seat) (turn_since mid.actor given answer (idle mid.seat) (own mid.seat before) turn (keeps (own mid.seat before)) plays.since));
+    since = subst (λ s. StandsSince new.actor (idle s) (own s after)) (sym taken.seat)
+        (called.since (idle mid.seat) (turn_since mid.actor given answer (idle mid.seat) (own mid.seat before) turn (keeps (own mid.seat before)) plays.since));
     ahead = λ n later. ap (λ h. is_held h n) held ∙ ahead_more b mid.made mid.held plays.ahead n (omega (arith, made, later));
     unborn = λ s later below.
         let above : mid.seat < s = let e = taken.seat in omega (arith, e, later) in

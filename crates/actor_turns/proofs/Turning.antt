@@ -48,8 +48,10 @@ gone_on lets made idle first before after start old new part count gone step = r
   others = λ seat other. step.others seat (λ life. other (subst (λ (x : Part). (x.first ≤ seat) × (seat < x.first + lives_of x)) part life)) ∙ gone.others seat other;
   agree = λ n low. step.agree n (omega (arith, count, low)) ∙ gone.agree n low;
   calls_are = λ held same end rest calls.
-      let call : IsCall lets held start.part (start.made + made + 1) before after = call_agree lets held new.held start.part (start.made + made + 1) before after (same (start.made + made + 1) (omega arith)) made_now in
-      let one : AreCalls lets held start.part end (start.made + made + 1) (rest + 1) before = MoreCalls rest after refl call (subst (λ n. AreCalls lets held start.part end n rest after) (omega arith) calls) in
+      let call : IsCall lets held start.part (start.made + made + 1) before after =
+      call_agree lets held new.held start.part (start.made + made + 1) before after (same (start.made + made + 1) (omega arith)) made_now in
+      let one : AreCalls lets held start.part end (start.made + made + 1) (rest + 1) before =
+      MoreCalls rest after refl call (subst (λ n. AreCalls lets held start.part end n rest after) (omega arith) calls) in
       let so_far : AgreeTo (start.made + made) held old.held = λ n low. same n (omega (arith, low)) ∙ step.agree n (omega (arith, count, low)) in
       subst (λ n. AreCalls lets held start.part end (start.made + 1) n first) (omega arith) (gone.calls_are held so_far end (rest + 1) one);
   plays = step.plays;
@@ -59,7 +61,8 @@ gone_on lets made idle first before after start old new part count gone step = r
     made_now = subst (λ n. IsCall lets new.held start.part n before after) (ap (λ m. m + 1) count) (subst (λ (x : Part). IsCall lets new.held x (old.made + 1) before after) part step.call)
 
 -- all calls were made
-pub turned_all : (lets : Lets) (made calls : ℕ) (idle : ℕ → List Entry) (first after : List Entry) (start new : Player) → made ≡ calls → new.made ≡ start.made + made → HasGone lets made idle first after start new → HasTurned lets calls idle first after start new
+pub turned_all : (lets : Lets) (made calls : ℕ) (idle : ℕ → List Entry) (first after : List Entry) (start new : Player) → made ≡ calls
+    → new.made ≡ start.made + made → HasGone lets made idle first after start new → HasTurned lets calls idle first after start new
 turned_all lets made calls idle first after start new all count gone = record {
   others = gone.others;
   agree = gone.agree;
@@ -81,7 +84,8 @@ at_other seat other mine idle lt = by (other == seat) refl
     by false e = rw e refl
 
 -- the actor was idle, and is woken
-pub turned_few : (lets : Lets) (made calls : ℕ) (idle : ℕ → List Entry) (first before after : List Entry) (start old mid new : Player) → made < calls → old.part ≡ start.part → old.made ≡ start.made + made
+pub turned_few : (lets : Lets) (made calls : ℕ) (idle : ℕ → List Entry) (first before after : List Entry) (start old mid new : Player) → made < calls
+    → old.part ≡ start.part → old.made ≡ start.made + made
     → HasGone lets made idle first before start old → IsStill idle before after old mid
     → new.part ≡ mid.part → new.made ≡ mid.made → new.held ≡ mid.held → new.seat ≡ mid.seat → mid.part ≡ old.part → new.actor.role ≡ mid.actor.role
     → ((mine : List Entry) → StandsFor mid.actor mine → StandsSince new.actor mine mine)
@@ -93,7 +97,8 @@ turned_few lets made calls idle first before after start old mid new few part co
     count = made;
     few = few;
     made = same_made ∙ step.made ∙ count;
-    calls_are = subst (λ h. AreCalls lets new.held start.part h (start.made + 1) made first) (sym step.past) (subst (λ n. AreCalls lets new.held start.part before (start.made + 1) n first) (omega arith) (gone.calls_are new.held (λ n low. ap (λ h. is_held h n) held) before 0 (NoCalls refl refl)));
+    calls_are = subst (λ h. AreCalls lets new.held start.part h (start.made + 1) made first) (sym step.past)
+        (subst (λ n. AreCalls lets new.held start.part before (start.made + 1) n first) (omega arith) (gone.calls_are new.held (λ n low. ap (λ h. is_held h n) held) before 0 (NoCalls refl refl)));
     life = same_seat ∙ step.seat ∙ ap (λ (x : Part). seat_at x (old.made + 1)) part ∙ ap (λ m. seat_at start.part (m + 1)) count;
     ends = subst (λ s. MayEnd start.part.kind (idle s) (own s after)) (sym same_seat) (subst (λ (x : Part). MayEnd x.kind (idle mid.seat) (own mid.seat after)) part step.ends);
     plays = plays;
@@ -114,7 +119,8 @@ turned_few lets made calls idle first before after start old mid new few part co
           let r = step.plays.reached in
           let e : seat_at new.part (new.made + 1) ≡ seat_at mid.part (mid.made + 1) = ap (λ (x : Part). seat_at x (new.made + 1)) whole ∙ ap (λ m. seat_at mid.part (m + 1)) same_made in
           omega (arith, r, e, same_seat);
-      since = subst (λ m. StandsSince new.actor m (own new.seat after)) (sym (at_seat new.seat (own new.seat after) idle)) (subst (λ s. StandsSince new.actor (own s after) (own s after)) (sym same_seat) (wakes (own mid.seat after) step.plays.since.stands));
+      since = subst (λ m. StandsSince new.actor m (own new.seat after)) (sym (at_seat new.seat (own new.seat after) idle))
+          (subst (λ s. StandsSince new.actor (own s after) (own s after)) (sym same_seat) (wakes (own mid.seat after) step.plays.since.stands));
       ahead = λ n later. ap (λ h. is_held h n) same_held ∙ step.plays.ahead n (omega (arith, same_made, later));
       unborn = λ s later below.
           let none = step.plays.unborn s (omega (arith, same_seat, later)) (subst (λ (x : Part). s < x.first + lives_of x) whole below) in

@@ -2,7 +2,7 @@
 -- stands first.
 -- A choice of this project, after what a controller of Kubernetes meets: calls are lost, and it is restarted.
 use Rattle.std.specs.Prelude.{ℕ, zero, suc, ◌≡◌, ◌≤◌, ◌<◌, ◌⊎◌, ◌+◌, ◌==◌, ◌&&◌, not, nat_lt, Bool, true, false, List, [], ◌∷◌, ◌++◌, is_some, map, if◌then◌else◌}
-use Rattle.kube_types.specs.declared.parts.Kind.{Kind}
+use Rattle.kube_parts.specs.declared.parts.Kind.{Kind}
 use Rattle.call_types.specs.declared.entry.Entry.{Entry}
 use Rattle.call_types.specs.declared.request.Request.{Request}
 use Rattle.call_types.specs.declared.request.SeatKind.{SeatKind}
@@ -68,7 +68,8 @@ IsCall lets held part n past new = IsCallBy lets (is_held held n) (fate_of part.
 -- so many calls from the one of this number on, in order, up to the entries `new`
 pub data AreCalls (lets : Lets) (held : List ℕ) (part : Part) (new : List Entry) : ℕ → ℕ → List Entry → Type 0 where
   NoCalls : {n count : ℕ} {past : List Entry} → count ≡ 0 → new ≡ past → AreCalls lets held part new n count past
-  MoreCalls : {n count : ℕ} {past : List Entry} (rest : ℕ) (middle : List Entry) → count ≡ rest + 1 → IsCall lets held part n past middle → AreCalls lets held part new (n + 1) rest middle → AreCalls lets held part new n count past
+  MoreCalls : {n count : ℕ} {past : List Entry} (rest : ℕ) (middle : List Entry) → count ≡ rest + 1 → IsCall lets held part n past middle
+      → AreCalls lets held part new (n + 1) rest middle → AreCalls lets held part new n count past
 
 -- of the kinds that the actor follows there is no news after the earlier ones of its entries: the last told list of the
 -- whole kind or watch of it is a watch without events, and stands after them
@@ -93,7 +94,8 @@ leaves_entry LostBefore = false
 -- of the actor's calls up to this number those of the life at the seat, the newest first: whether each leaves an entry
 abbrev pub left_by : List ℕ → Part → ℕ → ℕ → List Bool
 left_by held part seat zero = []
-left_by held part seat (suc n) = if seat_at part (suc n) == seat then (not (is_held held (suc n)) && leaves_entry (fate_of part.losses (suc n))) ∷ left_by held part seat n else left_by held part seat n
+left_by held part seat (suc n) = if seat_at part (suc n) == seat then (not (is_held held (suc n)) && leaves_entry (fate_of part.losses (suc n))) ∷
+    left_by held part seat n else left_by held part seat n
 
 -- these are the calls of the life at the seat, where the actor has made so many over all lives, and those of these numbers
 -- were held back: their entries are those of the seat, and a call has none where it was held back or is lost before its

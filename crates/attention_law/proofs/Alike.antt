@@ -3,11 +3,11 @@ use Rattle.std.proofs.Common.{◌≡◌, List, [], ◌∷◌, Bool, true, false,
 use Rattle.std.specs.declared.cmp.Ordering.TheVariants.{Less}
 use Rattle.std.specs.Ordering.{is_eq, is_gt, ordering_reverse}
 use Rattle.plain_data.specs.Rows.{IsAfter}
-use Rattle.kube_types.specs.declared.key.Key.{Key}
-use Rattle.kube_types.specs.declared.objects.Object.{Object}
-use Rattle.kube_types.specs.Keys.{AreRows, key_cmp, key_of, row_at, same_key}
-use Rattle.kube_types.proofs.KeyOrder.{key_cmp_total, other_key, row_at_key}
-use Rattle.kube_types.proofs.SameKeys.{key_tells, same_key_itself, same_key_ordered}
+use Rattle.kube_objects.specs.declared.key.Key.{Key}
+use Rattle.kube_objects.specs.declared.objects.Object.{Object}
+use Rattle.kube_objects.specs.Keys.{AreRows, key_cmp, key_of, row_at, same_key}
+use Rattle.kube_objects.proofs.KeyOrder.{key_cmp_total, other_key, row_at_key}
+use Rattle.kube_objects.proofs.SameKeys.{key_tells, same_key_itself, same_key_ordered}
 use Rattle.model_laws.proofs.Lists.{IsIn, none_some}
 use Rattle.model_laws.proofs.Readings.{after_member, found_stands, member_stands}
 

@@ -2,12 +2,12 @@
 use Rattle.std.proofs.Common.{◌≡◌, ◌⊎◌, ℕ, List, [], true, true≢false, Option, Some, None, inl, inr, refl, sym, ◌∙◌, ap, subst}
 use Rattle.std.specs.Prelude.{map, option_map}
 use Rattle.std.specs.List.{list_any}
-use Rattle.kube_types.specs.declared.key.Key.{Key}
-use Rattle.kube_types.specs.declared.parts.Kind.{Kind}
-use Rattle.kube_types.specs.declared.objects.Object.{Object}
-use Rattle.kube_types.specs.declared.objects.Object.TheVariants.{Class, Node, Volume, Claim, Pod}
-use Rattle.kube_types.specs.Keys.{AreRows, key_of, kind_of, row_at, same_key}
-use Rattle.kube_types.proofs.KeyOrder.{row_at_key}
+use Rattle.kube_objects.specs.declared.key.Key.{Key}
+use Rattle.kube_parts.specs.declared.parts.Kind.{Kind}
+use Rattle.kube_objects.specs.declared.objects.Object.{Object}
+use Rattle.kube_objects.specs.declared.objects.Object.TheVariants.{Class, Node, Volume, Claim, Pod}
+use Rattle.kube_objects.specs.Keys.{AreRows, key_of, kind_of, row_at, same_key}
+use Rattle.kube_objects.proofs.KeyOrder.{row_at_key}
 use Rattle.call_types.specs.declared.entry.Entry.{Entry}
 use Rattle.call_types.specs.declared.request.Request.{Request}
 use Rattle.call_types.specs.declared.request.Request.TheVariants as requests
@@ -45,7 +45,8 @@ no_drop : BeginsCall firsts.Drops → ⊥
 no_drop b = none_some (ap task_in b.begins)
 
 -- an agent that has what its decisions need drops a key on whose row it begins nothing
-agent_drops : (node : List ℕ) (epoch : Option ℕ) (mounts : Option (List MountRow)) (row other : Option Object) (first : First) → IsAgentFirst node epoch mounts row first → ((n : ℕ) (ms : List MountRow) → agent_begins node n ms other ≡ None)
+agent_drops : (node : List ℕ) (epoch : Option ℕ) (mounts : Option (List MountRow)) (row other : Option Object) (first : First)
+    → IsAgentFirst node epoch mounts row first → ((n : ℕ) (ms : List MountRow) → agent_begins node n ms other ≡ None)
     → IsAgentFirst node epoch mounts other firsts.Drops
 agent_drops node (Some n) (Some ms) row other first d none = sym (ap agent_first (none n ms))
 agent_drops node (Some n) None row other first d none = absurd d
@@ -53,7 +54,8 @@ agent_drops node None mounts row other first d none = absurd d
 
 -- an actor that decides some key
 module _ (node : List ℕ) (m : Memory) (rows decided : List Object) (key other : Key) (first : First) where
-  agent_none : (row : Option Object) → IsFirstOf seats.Agent node m decided other first → row_at key rows ≡ row → ((n : ℕ) (ms : List MountRow) → agent_begins node n ms row ≡ None) → IsFirstOf seats.Agent node m rows key firsts.Drops
+  agent_none : (row : Option Object) → IsFirstOf seats.Agent node m decided other first → row_at key rows ≡ row
+      → ((n : ℕ) (ms : List MountRow) → agent_begins node n ms row ≡ None) → IsFirstOf seats.Agent node m rows key firsts.Drops
   agent_none row d e none = subst (λ r. IsAgentFirst node m.epoch m.mounts r firsts.Drops) (sym e) (agent_drops node m.epoch m.mounts (row_at other decided) row first d none)
 
   -- without a row a key is dropped
@@ -67,7 +69,8 @@ module _ (node : List ℕ) (m : Memory) (rows decided : List Object) (key other 
   none_dropped seats.Scheduler built d e = rw e refl
 
   -- a row is of a kind that the actor follows, or its key is dropped
-  followed_or_dropped : (seat : SeatKind) (o : Object) → IsBuiltKind seat → IsFirstOf seat node m decided other first → row_at key rows ≡ Some o → IsIn (kind_of o) (kinds_of seat) ⊎ IsFirstOf seat node m rows key firsts.Drops
+  followed_or_dropped : (seat : SeatKind) (o : Object) → IsBuiltKind seat → IsFirstOf seat node m decided other first → row_at key rows ≡ Some o
+      → IsIn (kind_of o) (kinds_of seat) ⊎ IsFirstOf seat node m rows key firsts.Drops
   followed_or_dropped seats.Binder (Volume v) built d e = inl (inl refl)
   followed_or_dropped seats.Binder (Claim c) built d e = inl (inr (inl refl))
   followed_or_dropped seats.Binder (Class x) built d e = inr (rw e refl)
@@ -106,7 +109,8 @@ pub record IsCached (seat : SeatKind) (key : Key) (c : AllKnown) : Type 0 where
   pub there : list_any (same_key key) (map key_of (objects_of (cache_of key.kind c))) ≡ true
 
 module _ (role : Role) (mine : List Entry) (key : Key) (built : IsBuiltKind role.kind) (due : IsKeyDue role key mine) where
-  pub due_cached : (c : AllKnown) → AllStandFor c mine → AreRows (all_objects c) → ((k : Key) (o : Object) → row_at k (objects_of (cache_of k.kind c)) ≡ Some o → list_any (same_key k) (map key_of (objects_of (cache_of k.kind c))) ≡ true) → IsCached role.kind key c
+  pub due_cached : (c : AllKnown) → AllStandFor c mine → AreRows (all_objects c)
+      → ((k : Key) (o : Object) → row_at k (objects_of (cache_of k.kind c)) ≡ Some o → list_any (same_key k) (map key_of (objects_of (cache_of k.kind c))) ≡ true) → IsCached role.kind key c
   due_cached c stand order there = by (row_at key (all_objects c)) refl
     where
       cached : (o : Object) → row_at key (all_objects c) ≡ Some o → list_any (same_key key) (map key_of (objects_of (cache_of key.kind c))) ≡ true
@@ -127,7 +131,8 @@ module _ (role : Role) (mine : List Entry) (key : Key) (built : IsBuiltKind role
 
 -- before anything was told nothing is due
 pub never_due : (role : Role) (key : Key) → IsBuiltKind role.kind → IsKeyDue role key [] → ⊥
-never_due role key built due = no_drop (due.only due.rows due.shows firsts.Drops (none_dropped role.node (memory_of role []) due.rows due.rows key due.under.key (firsts.Begins due.under.task) role.kind built due.gives.decided (due.shows.shown key)))
+never_due role key built due = no_drop (due.only due.rows due.shows firsts.Drops
+    (none_dropped role.node (memory_of role []) due.rows due.rows key due.under.key (firsts.Begins due.under.task) role.kind built due.gives.decided (due.shows.shown key)))
 
 -- in an actor that stands for the entries
 
@@ -169,6 +174,7 @@ asked_no_read role key mine request kind reads a = true≢false (sym reads ∙ t
 pub asked_no_watch : (role : Role) (key : Key) (mine : List Entry) (kind : Kind) (from : ℕ) → IsAskedFor role key mine (requests.Watch kind from) → ⊥
 asked_no_watch role key mine kind from a = asked_no_read role key mine (requests.Watch kind from) kind (itself kind) a
 
-pub under_no_watch : (role : Role) (under : Option Under) (mine : List Entry) (kind : Kind) (from : ℕ) → AnyIsUnderWay role under mine → option_map call_under under ≡ Some (requests.Watch kind from) → ⊥
+pub under_no_watch : (role : Role) (under : Option Under) (mine : List Entry) (kind : Kind) (from : ℕ) → AnyIsUnderWay role under mine
+    → option_map call_under under ≡ Some (requests.Watch kind from) → ⊥
 under_no_watch role None mine kind from way e = none_some e
 under_no_watch role (Some u) mine kind from way e = task_watches u.task kind from (under_calls role u mine way ∙ e)

@@ -1,8 +1,8 @@
 -- A life that is played is diligent: the phases, followed from the first watch to the fourth.
 use Rattle.std.proofs.Common.{◌≡◌, ◌⊎◌, ℕ, ◌+◌, List, [], ◌∷◌, ◌++◌, true, false, true≢false, Option, Some, None, inl, inr, refl, sym, ◌∙◌, ap, subst, arith, if◌then◌else◌}
 use Rattle.std.specs.Prelude.{slice_get}
-use Rattle.kube_types.specs.declared.key.Key.{Key}
-use Rattle.kube_types.specs.declared.parts.Kind.{Kind}
+use Rattle.kube_objects.specs.declared.key.Key.{Key}
+use Rattle.kube_parts.specs.declared.parts.Kind.{Kind}
 use Rattle.call_types.specs.declared.entry.Entry.{Entry}
 use Rattle.call_types.specs.declared.request.Request.{Request}
 use Rattle.call_types.specs.declared.request.Request.TheVariants as requests
@@ -120,7 +120,8 @@ told_step role s new calls before x e request reply played is told gives stands 
     let rest : before ≡ old = same_tail _ _ _ _ (sym is ∙ at) in
     subst (λ y. ToldStep role y old s new) own (subst (λ b. ToldStep role x b s new) rest (record {
       played = played;
-      gives = subst (λ r. PlaysCall s new r (outcomes.Told x.reply) (entries before)) (sym told.asked) (subst (λ r. PlaysCall s new request (outcomes.Told r) (entries before)) (sym told.answered) gives);
+      gives = subst (λ r. PlaysCall s new r (outcomes.Told x.reply) (entries before)) (sym told.asked)
+          (subst (λ r. PlaysCall s new request (outcomes.Told r) (entries before)) (sym told.answered) gives);
       stands = subst (λ c. StandsFor new (entries c)) is stands;
     }))
 
@@ -130,23 +131,27 @@ module _ (role : Role) (built : IsBuiltKind role.kind) (e : Entry) (before : Lis
   kind_turned = ap (λ (r : Role). r.kind) (turn_role s step.gives.turned (nexts.Call e.request) step.gives.turns.turn ∙ same_role role s before step.played)
 
   goes : Goes step.gives.turned new e.request
-  goes = told_goes s step.gives.turned new (entries before) e e.request e.reply (subst IsBuiltKind (sym kind_turned) built) step.gives.turns.turn step.gives.turns.stands (record { told = quiet.told; asked = refl; answered = refl }) step.stands.own quiet step.gives.takes
+  goes = told_goes s step.gives.turned new (entries before) e e.request e.reply
+      (subst IsBuiltKind (sym kind_turned) built) step.gives.turns.turn step.gives.turns.stands (record { told = quiet.told; asked = refl; answered = refl }) step.stands.own quiet step.gives.takes
 
-  first_phase : (kind : Kind) (key : Key) → watches_kind kind e.request ≡ true → (slice_get (kinds_of role.kind) step.gives.turned.pass.behind ≡ Some kind) × Phase step.gives.turned.pass.behind key new 0
+  first_phase : (kind : Kind) (key : Key) → watches_kind kind e.request ≡ true
+      → (slice_get (kinds_of role.kind) step.gives.turned.pass.behind ≡ Some kind) × Phase step.gives.turned.pass.behind key new 0
   first_phase kind key watch = opens role.kind kind key step.gives.turned new e.request kind_turned watch goes
 
   next_phase : (kind : Kind) (place : ℕ) → slice_get (kinds_of role.kind) place ≡ Some kind → (key : Key) (n : ℕ) → IsKeyDue role key (entries before) → Phase place key s n
       → IsAskedFor role key (entries before) e.request ⊎ Phase place key new (if watches_kind kind e.request then n + 1 else n)
   next_phase kind place at key n due phase = elim called [
     | inl asked ↦ inl (subst (λ r. IsAskedFor r key (entries before) e.request) own asked)
-    | inr stays ↦ inr (answer_phase role.kind built kind place at key step.gives.turned new n kept e.request kind_turned goes (turn_phase place key s step.gives.turned (nexts.Call e.request) n step.gives.turns.turn stays phase))
+    | inr stays ↦ inr (answer_phase role.kind built kind place at key step.gives.turned new n kept e.request kind_turned goes
+        (turn_phase place key s step.gives.turned (nexts.Call e.request) n step.gives.turns.turn stays phase))
   ]
     where
       own : s.role ≡ role
       own = same_role role s before step.played
 
       called : IsAskedFor s.role key (entries before) e.request ⊎ (waits key s.work ≡ true → waits key step.gives.turned.work ≡ true)
-      called = called_or_waits key s step.gives.turned (entries before) (stands_now role s before step.played) step.gives.turns.order (subst (λ r. IsKeyDue r key (entries before)) (sym own) due) e.request step.gives.turns.turn
+      called = called_or_waits key s step.gives.turned (entries before) (stands_now role s before step.played) step.gives.turns.order
+          (subst (λ r. IsKeyDue r key (entries before)) (sym own) due) e.request step.gives.turns.turn
 
       kept : waits key step.gives.turned.work ≡ true → waits key new.work ≡ true
       kept there = (absorbed_keys step.gives.turned new e.request (outcomes.Told e.reply) step.gives.takes).stays key there
@@ -159,7 +164,8 @@ record LastStep (role : Role) (e : Entry) (before : List Call) : Type 0 where
 
 last_step : (role : Role) (s : ActorState) (calls : List Call) → IsPlayed role s calls → (e : Entry) (before : List Call) → e.told ≡ true → calls ≡ Some e ∷ before → LastStep role e before
 last_step role s calls (Begins none new stands) e before told at = absurd (no_list _ _ (sym none ∙ at))
-last_step role s calls (Told old b x request reply played is tells gives stands) e before told at = record { old = old; new = s; step = told_step role old s calls b x e request reply played is tells gives stands before at }
+last_step role s calls (Told old b x request reply played is tells gives stands) e before told at =
+    record { old = old; new = s; step = told_step role old s calls b x e request reply played is tells gives stands before at }
 last_step role s calls (LostBefore old b request played is gives stands) e before told at = none_some (same_head _ _ _ _ (sym is ∙ at))
 last_step role s calls (LostAfter old b x request played is lost own gives stands) e before told at =
     let same : x ≡ e = one x e (same_head _ _ _ _ (sym is ∙ at)) in
@@ -182,7 +188,8 @@ module _ (role : Role) (built : IsBuiltKind role.kind) (kind : Kind) (place : �
   Followed s since = WasAskedSince role key start since ⊎ Phase place key s (watches kind since)
 
   told_on : (s new : ActorState) (calls before : List Call) (x : Entry) (request : Request) (reply : Reply) → IsPlayed role s before → calls ≡ Some x ∷ before → IsTold x request reply
-      → PlaysCall s new request (outcomes.Told reply) (entries before) → StandsFor new (entries calls) → (since : List Call) → calls ≡ since ++ start → AreQuiet since → IsDueThroughout role key start since
+      → PlaysCall s new request (outcomes.Told reply) (entries before) → StandsFor new (entries calls) → (since : List Call) → calls ≡ since ++ start
+      → AreQuiet since → IsDueThroughout role key start since
       → ((rest : List Call) → before ≡ rest ++ start → AreQuiet rest → IsDueThroughout role key start rest → s.memory.stale ≡ false → Followed s rest) → Followed new since
   told_on s new calls before x request reply played is told gives stands [] e quiet due earlier_on =
       let step = told_step role s new calls before x first request reply played is told gives stands earlier e in
@@ -201,10 +208,12 @@ module _ (role : Role) (built : IsBuiltKind role.kind) (kind : Kind) (place : �
       ]
 
   -- an agent that was told StaleEpoch makes no call any more, and is not followed on
-  follow : (s : ActorState) (calls : List Call) → IsPlayed role s calls → (since : List Call) → calls ≡ since ++ start → AreQuiet since → IsDueThroughout role key start since → s.memory.stale ≡ false → Followed s since
+  follow : (s : ActorState) (calls : List Call) → IsPlayed role s calls → (since : List Call) → calls ≡ since ++ start → AreQuiet since
+      → IsDueThroughout role key start since → s.memory.stale ≡ false → Followed s since
   follow s calls (Begins none new stands) [] e quiet due fresh = absurd (no_list _ _ (sym none ∙ e))
   follow s calls (Begins none new stands) (c ∷ since) e quiet due fresh = absurd (no_list _ _ (sym none ∙ e))
-  follow s calls (Told old before x request reply played is told gives stands) since e quiet due fresh = told_on old s calls before x request reply played is told gives stands since e quiet due (follow old before played)
+  follow s calls (Told old before x request reply played is told gives stands) since e quiet due fresh =
+      told_on old s calls before x request reply played is told gives stands since e quiet due (follow old before played)
   follow s calls (LostBefore old before request played is gives stands) [] e quiet due fresh = none_some (same_head _ _ _ _ (sym is ∙ e))
   follow s calls (LostBefore old before request played is gives stands) (None ∷ since) e quiet due fresh = absurd quiet
   follow s calls (LostBefore old before request played is gives stands) (Some y ∷ since) e quiet due fresh = none_some (same_head _ _ _ _ (sym is ∙ e))
@@ -219,8 +228,10 @@ module _ (role : Role) (built : IsBuiltKind role.kind) (kind : Kind) (place : �
     | inl asked ↦ inl asked
     | inr phase ↦
         let own : old.role ≡ role = same_role role old calls played in
-        let due_here : IsKeyDue old.role key (entries calls) = subst (λ c. IsKeyDue old.role key (entries c)) (sym e) (subst (λ r. IsKeyDue r key (entries (since ++ start))) (sym own) (due_now role key start since due)) in
-        inr (wake_phase role.kind built kind place at key old turned s (entries calls) (watches kind since) (ap (λ (r : Role). r.kind) own) (stands_now role old calls played) turns.order due_here (one_taken role old calls played) fresh_old turns.turn wakes phase)
+        let due_here : IsKeyDue old.role key (entries calls) =
+        subst (λ c. IsKeyDue old.role key (entries c)) (sym e) (subst (λ r. IsKeyDue r key (entries (since ++ start))) (sym own) (due_now role key start since due)) in
+        inr (wake_phase role.kind built kind place at key old turned s (entries calls) (watches kind since) (ap (λ (r : Role). r.kind) own)
+        (stands_now role old calls played) turns.order due_here (one_taken role old calls played) fresh_old turns.turn wakes phase)
   ]
     where
       fresh_old : old.memory.stale ≡ false
@@ -236,14 +247,16 @@ quiet_between (Some e ∷ between) first q = let h = quiet_between between first
 pub played_is_diligent : PlayedIsDiligent
 played_is_diligent role s calls built played kind first fourth earlier between later e four key due = elim followed [
   | inl asked ↦ asked
-  | inr phase ↦ elim (next_phase role built fourth (between ++ Some first ∷ earlier) last.old last.new four.quiet.0 last.step kind place at key (watches kind between) (due_now role key (Some first ∷ earlier) between due) phase) [
-    | inl asked ↦ absurd (never asked)
-    | inr more ↦
-        let counted : (if watches_kind kind fourth.request then watches kind between + 1 else watches kind between) ≡ watches kind between + 1 = ap (λ b. if b then watches kind between + 1 else watches kind between) four.closes in
-        let few = few_watches place key last.new _ more in
-        let many = four.many in
-        absurd (omega (arith, few, counted, many))
-  ]
+  | inr phase ↦ elim (next_phase role built fourth (between ++ Some first ∷ earlier) last.old last.new four.quiet.0 last.step kind place at key
+      (watches kind between) (due_now role key (Some first ∷ earlier) between due) phase) [
+        | inl asked ↦ absurd (never asked)
+        | inr more ↦
+            let counted : (if watches_kind kind fourth.request then watches kind between + 1 else watches kind between) ≡ watches kind between + 1 =
+            ap (λ b. if b then watches kind between + 1 else watches kind between) four.closes in
+            let few = few_watches place key last.new _ more in
+            let many = four.many in
+            absurd (omega (arith, few, counted, many))
+      ]
 ]
   where
     quiet : AreQuiet between × IsQuiet first
@@ -268,7 +281,8 @@ played_is_diligent role s calls built played kind first fourth earlier between l
     at = (first_phase role built first earlier opening.old opening.new quiet.1 opening.step kind key four.opens).0
 
     followed : WasAskedSince role key (Some first ∷ earlier) between ⊎ Phase place key last.old (watches kind between)
-    followed = follow role built kind place at key first earlier four.opens quiet.1 last.old _ last.step.played between refl quiet.0 due (calls_fresh last.old last.step.gives.turned fourth.request last.step.gives.turns.turn)
+    followed = follow role built kind place at key first earlier four.opens quiet.1 last.old _ last.step.played between refl quiet.0 due
+        (calls_fresh last.old last.step.gives.turned fourth.request last.step.gives.turns.turn)
 
     never : IsAskedFor role key (entries (between ++ Some first ∷ earlier)) fourth.request → ⊥
     never asked = by fourth.request refl

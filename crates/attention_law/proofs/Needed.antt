@@ -3,7 +3,7 @@ use Rattle.std.proofs.Common.{◌≡◌, ℕ, ◌<◌, ◌≤◌, List, [], ◌+
 use Rattle.std.specs.Prelude.{◌&&◌, nat_lt, not}
 use Rattle.std.proofs.lemmas.Bool.Decides.{nat_tests}
 use Rattle.std.proofs.lemmas.Option.{slice_get_within}
-use Rattle.kube_types.specs.declared.parts.Kind.{Kind}
+use Rattle.kube_parts.specs.declared.parts.Kind.{Kind}
 use Rattle.call_types.specs.declared.entry.Entry.{Entry}
 use Rattle.call_types.specs.declared.request.Request.{Request}
 use Rattle.call_types.specs.declared.request.Request.TheVariants as requests
@@ -28,7 +28,24 @@ use Rattle.worker_core.proofs.PassRules.{passes_begin, watches_follow}
 use Rattle.worker_core.proofs.Quiet.{itself}
 use Rattle.attention_law.specs.Diligence.{Call, entries}
 use Rattle.attention_law.specs.Played.{IsPlayed, LostAfter, LostBefore, Told, Wakes, Begins}
-use Rattle.attention_law.specs.Resting.{AreNeeded, Drops, HasPassed, Hears, IsPlayedSince, Misses, PlayedIsNeeded, PlayedSinceIsPlayed, Resumes, Starts, is_watch, is_whole, new_pass, next_pass, pass_since, pass_with}
+use Rattle.attention_law.specs.Resting.{
+  AreNeeded,
+  Drops,
+  HasPassed,
+  Hears,
+  IsPlayedSince,
+  Misses,
+  PlayedIsNeeded,
+  PlayedSinceIsPlayed,
+  Resumes,
+  Starts,
+  is_watch,
+  is_whole,
+  new_pass,
+  next_pass,
+  pass_since,
+  pass_with,
+}
 use Rattle.attention_law.proofs.Following.{same_role}
 use Rattle.attention_law.proofs.Passing.{given_read, told_stays}
 use Rattle.attention_law.proofs.Turned.{Kept, PassAfter, Renewed, turn_pass}
@@ -38,9 +55,11 @@ use Rattle.attention_law.proofs.Turned.{Kept, PassAfter, Renewed, turn_pass}
 pub played_on : PlayedSinceIsPlayed
 played_on role s before since (Starts none_before none new stands) =
     subst (λ b. IsPlayed role s (since ++ b)) (sym none_before) (subst (λ c. IsPlayed role s (c ++ [])) (sym none) (Begins refl new stands))
-played_on role s before since (Hears old rest e request reply played is told gives stands) = Told old (rest ++ before) e request reply (played_on role old before rest played) (ap (λ c. c ++ before) is) told gives stands
+played_on role s before since (Hears old rest e request reply played is told gives stands) =
+    Told old (rest ++ before) e request reply (played_on role old before rest played) (ap (λ c. c ++ before) is) told gives stands
 played_on role s before since (Drops old rest request played is gives stands) = LostBefore old (rest ++ before) request (played_on role old before rest played) (ap (λ c. c ++ before) is) gives stands
-played_on role s before since (Misses old rest e request played is lost own gives stands) = LostAfter old (rest ++ before) e request (played_on role old before rest played) (ap (λ c. c ++ before) is) lost own gives stands
+played_on role s before since (Misses old rest e request played is lost own gives stands) =
+    LostAfter old (rest ++ before) e request (played_on role old before rest played) (ap (λ c. c ++ before) is) lost own gives stands
 played_on role s before since (Resumes old turned earlier made played is none turns wakes stands) =
     subst (λ c. IsPlayed role s (c ++ before)) (sym none) (Wakes old turned (subst (IsPlayed role old) (sym is) (played_on role old earlier made played)) turns wakes stands)
 
@@ -105,7 +124,8 @@ lost_leaves s = by s.given
 
 -- a turn that gives a watch, where the passes by the calls have come to p
 
-module _ (kind : SeatKind) (s turned : ActorState) (mine : List Entry) (k : Kind) (from : ℕ) (p : Pass) (own : s.role.kind ≡ kind) (turn : IsTurn s turned (nexts.Call (requests.Watch k from))) (stands : StandsFor turned mine) (fits : next_pass kind p ≡ next_pass kind s.pass) where
+module _ (kind : SeatKind) (s turned : ActorState) (mine : List Entry) (k : Kind) (from : ℕ) (p : Pass) (own : s.role.kind ≡ kind)
+    (turn : IsTurn s turned (nexts.Call (requests.Watch k from))) (stands : StandsFor turned mine) (fits : next_pass kind p ≡ next_pass kind s.pass) where
   gives_read : turned.given ≡ Some (givens.Read k)
   gives_read = given_read turned mine k from stands (sym (gives_asked s turned (nexts.Call (requests.Watch k from)) turn))
 
@@ -113,7 +133,8 @@ module _ (kind : SeatKind) (s turned : ActorState) (mine : List Entry) (k : Kind
   follows = watches_follow s turned (nexts.Call (requests.Watch k from)) k from turn gives_read refl
 
   below : turned.pass.behind < length (kinds_of kind)
-  below = subst (λ x. turned.pass.behind < length (kinds_of x)) (ap (λ (r : Role). r.kind) (turn_role s turned (nexts.Call (requests.Watch k from)) turn) ∙ own) (slice_get_within (kinds_of turned.role.kind) turned.pass.behind k follows)
+  below = subst (λ x. turned.pass.behind < length (kinds_of x))
+      (ap (λ (r : Role). r.kind) (turn_role s turned (nexts.Call (requests.Watch k from)) turn) ∙ own) (slice_get_within (kinds_of turned.role.kind) turned.pass.behind k follows)
 
   -- the watch is of the pass of the turn
   same : next_pass kind p ≡ turned.pass
@@ -124,7 +145,8 @@ module _ (kind : SeatKind) (s turned : ActorState) (mine : List Entry) (k : Kind
       let is : p ≡ turned.pass = sym (next_quiet kind p quiet) ∙ same in
       true≢false (sym whole ∙ ap (is_whole kind) is ∙ open_below kind turned.pass below)
 
-  pub watch_leads : (new : ActorState) (reply : Reply) → new ≡ absorbed turned new.caches (requests.Watch k from) (outcomes.Told reply) → pass_after (next_pass kind p) true (requests.Watch k from) reply ≡ new.pass
+  pub watch_leads : (new : ActorState) (reply : Reply) → new ≡ absorbed turned new.caches (requests.Watch k from) (outcomes.Told reply)
+      → pass_after (next_pass kind p) true (requests.Watch k from) reply ≡ new.pass
   watch_leads new reply takes =
       ap (λ x. pass_after x true (requests.Watch k from) reply) same
       ∙ sym (ap pass_of takes
@@ -134,7 +156,8 @@ module _ (kind : SeatKind) (s turned : ActorState) (mine : List Entry) (k : Kind
 
 -- the answer to a call leads the passes by the calls where it leads the actor's
 
-module _ (kind : SeatKind) (s turned new : ActorState) (mine : List Entry) (request : Request) (p : Pass) (own : s.role.kind ≡ kind) (turn : IsTurn s turned (nexts.Call request)) (stands : StandsFor turned mine) (fits : next_pass kind p ≡ next_pass kind s.pass) where
+module _ (kind : SeatKind) (s turned new : ActorState) (mine : List Entry) (request : Request) (p : Pass) (own : s.role.kind ≡ kind)
+    (turn : IsTurn s turned (nexts.Call request)) (stands : StandsFor turned mine) (fits : next_pass kind p ≡ next_pass kind s.pass) where
   stays_fit : turned.pass ≡ new.pass → next_pass kind p ≡ next_pass kind new.pass
   stays_fit same_ = fits ∙ sym (turn_next kind s turned (nexts.Call request) own turn) ∙ ap (next_pass kind) same_
 
@@ -154,7 +177,8 @@ module _ (kind : SeatKind) (s turned new : ActorState) (mine : List Entry) (requ
           ap (next_pass kind) (with_told
           ∙ ap (λ r. if is_watch r then pass_after (next_pass kind p) true r e.reply else p) (told.asked ∙ is)
           ∙ ap (λ r. pass_after (next_pass kind p) true (requests.Watch k from) r) told.answered
-          ∙ watch_leads kind s turned mine k from p own (subst (λ r. IsTurn s turned (nexts.Call r)) is turn) stands fits new reply (takes ∙ ap (λ r. absorbed turned new.caches r (outcomes.Told reply)) is))
+          ∙ watch_leads kind s turned mine k from p own (subst (λ r. IsTurn s turned (nexts.Call r)) is turn) stands fits new reply
+          (takes ∙ ap (λ r. absorbed turned new.caches r (outcomes.Told reply)) is))
 
       by : (r : Request) → request ≡ r → next_pass kind (pass_with kind e p) ≡ next_pass kind new.pass
       by (requests.Watch k from) is = watch k from is
@@ -167,31 +191,37 @@ pub pass_fits : (role : Role) (s : ActorState) (before since : List Call) → Is
 pass_fits role s before since (Starts none_before none new stands) =
     let all : length (kinds_of role.kind) ≤ length (kinds_of role.kind) = omega arith in
     ap (λ c. next_pass role.kind (pass_since role.kind c)) none
-    ∙ sym (ap (next_pass role.kind) new.pass ∙ next_over role.kind (record { behind = length (kinds_of role.kind); event = true }) refl (whole_from role.kind (record { behind = length (kinds_of role.kind); event = true }) all))
+    ∙ sym (ap (next_pass role.kind) new.pass
+    ∙ next_over role.kind (record { behind = length (kinds_of role.kind); event = true }) refl (whole_from role.kind (record { behind = length (kinds_of role.kind); event = true }) all))
 pass_fits role s before since (Hears old rest e request reply played is told gives stands) =
     ap (λ c. next_pass role.kind (pass_since role.kind c)) is
-    ∙ told_fits role.kind old gives.turned s (entries (rest ++ before)) request (pass_since role.kind rest) (ap (λ (r : Role). r.kind) (same_role role old (rest ++ before) (played_on role old before rest played))) gives.turns.turn gives.turns.stands
+    ∙ told_fits role.kind old gives.turned s (entries (rest ++ before)) request (pass_since role.kind rest)
+    (ap (λ (r : Role). r.kind) (same_role role old (rest ++ before) (played_on role old before rest played))) gives.turns.turn gives.turns.stands
     (pass_fits role old before rest played) e reply told gives.takes
 pass_fits role s before since (Drops old rest request played is gives stands) =
     ap (λ c. next_pass role.kind (pass_since role.kind c)) is
-    ∙ lost_fits role.kind old gives.turned s (entries (rest ++ before)) request (pass_since role.kind rest) (ap (λ (r : Role). r.kind) (same_role role old (rest ++ before) (played_on role old before rest played))) gives.turns.turn gives.turns.stands
+    ∙ lost_fits role.kind old gives.turned s (entries (rest ++ before)) request (pass_since role.kind rest)
+    (ap (λ (r : Role). r.kind) (same_role role old (rest ++ before) (played_on role old before rest played))) gives.turns.turn gives.turns.stands
     (pass_fits role old before rest played) gives.takes
 pass_fits role s before since (Misses old rest e request played is lost own gives stands) =
     ap (λ c. next_pass role.kind (pass_since role.kind c)) is
     ∙ ap (λ b. next_pass role.kind (if b && is_watch e.request then pass_after (next_pass role.kind (pass_since role.kind rest)) true e.request e.reply else pass_since role.kind rest)) lost
-    ∙ lost_fits role.kind old gives.turned s (entries (rest ++ before)) request (pass_since role.kind rest) (ap (λ (r : Role). r.kind) (same_role role old (rest ++ before) (played_on role old before rest played))) gives.turns.turn gives.turns.stands
+    ∙ lost_fits role.kind old gives.turned s (entries (rest ++ before)) request (pass_since role.kind rest)
+    (ap (λ (r : Role). r.kind) (same_role role old (rest ++ before) (played_on role old before rest played))) gives.turns.turn gives.turns.stands
     (pass_fits role old before rest played) gives.takes
 pass_fits role s before since (Resumes old turned earlier made played is none turns wakes stands) =
     ap (λ c. next_pass role.kind (pass_since role.kind c)) none ∙ sym (ap (λ (x : ActorState). next_pass role.kind x.pass) wakes)
 
 -- no kind is watched in vain
 
-needed_call : (role : Role) (s turned : ActorState) (before rest : List Call) (e : Entry) (request : Request) → IsPlayedSince role s before rest → IsTurn s turned (nexts.Call request) → StandsFor turned (entries (rest ++ before)) → e.request ≡ request → is_watch e.request ≡ true → HasPassed role.kind rest → ⊥
+needed_call : (role : Role) (s turned : ActorState) (before rest : List Call) (e : Entry) (request : Request) → IsPlayedSince role s before rest
+    → IsTurn s turned (nexts.Call request) → StandsFor turned (entries (rest ++ before)) → e.request ≡ request → is_watch e.request ≡ true → HasPassed role.kind rest → ⊥
 needed_call role s turned before rest e request played turn stands asks watches through = by request refl
   where
     by : (r : Request) → request ≡ r → ⊥
     by (requests.Watch k from) is =
-        in_vain role.kind s turned (entries (rest ++ before)) k from (pass_since role.kind rest) (ap (λ (r : Role). r.kind) (same_role role s (rest ++ before) (played_on role s before rest played))) (subst (λ r. IsTurn s turned (nexts.Call r)) is turn) stands
+        in_vain role.kind s turned (entries (rest ++ before)) k from (pass_since role.kind rest)
+        (ap (λ (r : Role). r.kind) (same_role role s (rest ++ before) (played_on role s before rest played))) (subst (λ r. IsTurn s turned (nexts.Call r)) is turn) stands
         (pass_fits role s before rest played) through.whole through.quiet
     by _ is = true≢false (sym watches ∙ ap is_watch (asks ∙ is))
 
@@ -199,7 +229,8 @@ pub played_is_needed : PlayedIsNeeded
 played_is_needed role s before since (Starts none_before none new stands) = subst (AreNeeded role.kind) (sym none) tt
 played_is_needed role s before since (Hears old rest e request reply played is told gives stands) =
     subst (AreNeeded role.kind) (sym is) (played_is_needed role old before rest played, needed_call role old gives.turned before rest e request played gives.turns.turn gives.turns.stands told.asked)
-played_is_needed role s before since (Drops old rest request played is gives stands) = subst (AreNeeded role.kind) (sym is) (played_is_needed role old before rest played, λ watches. absurd (true≢false (sym watches)))
+played_is_needed role s before since (Drops old rest request played is gives stands) =
+    subst (AreNeeded role.kind) (sym is) (played_is_needed role old before rest played, λ watches. absurd (true≢false (sym watches)))
 played_is_needed role s before since (Misses old rest e request played is lost own gives stands) =
     subst (AreNeeded role.kind) (sym is) (played_is_needed role old before rest played, needed_call role old gives.turned before rest e request played gives.turns.turn gives.turns.stands own)
 played_is_needed role s before since (Resumes old turned earlier made played is none turns wakes stands) = subst (AreNeeded role.kind) (sym none) tt

@@ -3,9 +3,9 @@ use Rattle.std.proofs.Common.{◌≡◌, ◌≤◌, ◌+◌, ℕ, suc, List, [],
 use Rattle.std.specs.Prelude.{◌||◌, map}
 use Rattle.std.specs.List.{list_any}
 use Rattle.std.proofs.lemmas.Bool.{or_parts}
-use Rattle.kube_types.specs.declared.key.Key.{Key}
-use Rattle.kube_types.specs.Keys.{same_key}
-use Rattle.kube_types.proofs.SameKeys.{KeyCases, One, Two, key_cases, same_key_itself}
+use Rattle.kube_objects.specs.declared.key.Key.{Key}
+use Rattle.kube_objects.specs.Keys.{same_key}
+use Rattle.kube_objects.proofs.SameKeys.{KeyCases, One, Two, key_cases, same_key_itself}
 use Rattle.sync_queue.specs.Work.{AreOnce, StandsOnce, Taken, Work, added, begin_oldest, begun, done_by, finished, is_of, mark, mark_of, put_off, queued, released, retry_by, unparked, without_waiting}
 use Rattle.attention_law.specs.Queues.{key_in, taken_keys}
 use Rattle.attention_law.proofs.Queues.{marked_keys}
@@ -124,7 +124,8 @@ keys_without : (j : Key) (ts : List Taken) → map key_in (without_waiting (is_o
 keys_without j [] = refl
 keys_without j (t ∷ ts) = by (same_key j t.key) (keys_without j ts)
   where
-    by : (b : Bool) → map key_in (without_waiting (is_of j) ts) ≡ without_waiting (same_key j) (map key_in ts) → map key_in (if b then ts else t ∷ without_waiting (is_of j) ts) ≡ (if b then map key_in ts else t.key ∷ without_waiting (same_key j) (map key_in ts))
+    by : (b : Bool) → map key_in (without_waiting (is_of j) ts) ≡ without_waiting (same_key j) (map key_in ts)
+        → map key_in (if b then ts else t ∷ without_waiting (is_of j) ts) ≡ (if b then map key_in ts else t.key ∷ without_waiting (same_key j) (map key_in ts))
     by true e = refl
     by false e = ap (λ xs. t.key ∷ xs) e
 
@@ -179,7 +180,8 @@ added_once j w once = all_once (added j w) (by (list_any (is_of j) w.taken) (lis
     parked false ep et ew = comes et ew ep
 
     by : (t s : Bool) → list_any (is_of j) w.taken ≡ t → list_any (same_key j) w.waiting ≡ s → EachOnce (added j w)
-    by true s et es = rw et (λ k. let few = each k in let same : count k (map key_in (map (mark j) w.taken)) ≡ count k (taken_keys w) = ap (count k) (marked_keys j w.taken) in omega (arith, few, same))
+    by true s et es = rw et (λ k. let few = each k in let same : count k (map key_in (map (mark j) w.taken)) ≡ count k (taken_keys w) = ap (count k)
+        (marked_keys j w.taken) in omega (arith, few, same))
     by false true et es = rw (et, es) each
     by false false et es = rw (et, es) (parked (list_any (same_key j) w.parked) refl et es)
 
@@ -197,7 +199,8 @@ begun_once w once = all_once (begun w) (by w.waiting (each_once w once))
     by [] each = each_once w once
     by (j ∷ ks) each = λ k.
         let few = each k in
-        let last : count k (map key_in (w.taken ++ (record { key = j; again = false }) ∷ [])) ≡ count k (taken_keys w) + count k (j ∷ []) = ap (count k) (keys_last w.taken (record { key = j; again = false })) ∙ count_append k (taken_keys w) (j ∷ []) in
+        let last : count k (map key_in (w.taken ++ (record { key = j; again = false }) ∷ [])) ≡ count k (taken_keys w) + count k (j ∷ []) =
+        ap (count k) (keys_last w.taken (record { key = j; again = false })) ∙ count_append k (taken_keys w) (j ∷ []) in
         let first : count k (j ∷ ks) ≡ count k (j ∷ []) + count k ks = count_append k (j ∷ []) ks in
         omega (arith, few, last, first)
 

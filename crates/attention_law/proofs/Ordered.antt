@@ -1,17 +1,17 @@
 -- Rows in order are enough to know that a key is due.
 use Rattle.std.proofs.Common.{◌≡◌, ℕ, List, [], ◌∷◌, ◌++◌, Bool, true, false, true≢false, Option, Some, None, inl, inr, refl, sym, ◌∙◌, ap, subst, slice_get, is_some, arith, if◌then◌else◌}
 use Rattle.std.specs.Prelude.{◌&&◌, ◌||◌, is_none, bytes_eq}
-use Rattle.kube_types.specs.declared.key.Key.{Key}
+use Rattle.kube_objects.specs.declared.key.Key.{Key}
 use Rattle.kube_types.specs.declared.lookup.Live.TheVariants.{NotAsked}
-use Rattle.kube_types.specs.declared.parts.Kind.TheVariants as kinds
-use Rattle.kube_types.specs.declared.objects.Object.{Object}
-use Rattle.kube_types.specs.declared.objects.Object.TheVariants.{Class, Node, Volume, Claim, Pod}
-use Rattle.kube_types.specs.declared.objects.Volume.{Volume as VolumeData}
-use Rattle.kube_types.specs.declared.objects.Claim.{Claim as ClaimData}
-use Rattle.kube_types.specs.Bindings.{class_of_claim, is_completed, is_deleting, is_empty, is_for}
-use Rattle.kube_types.specs.Keys.{AreRows, key_of, kind_index, kind_of, row_at, rows_of}
-use Rattle.kube_types.proofs.KeyOrder.{row_at_key}
-use Rattle.kube_types.proofs.RowPlaces.{row_at_place}
+use Rattle.kube_parts.specs.declared.parts.Kind.TheVariants as kinds
+use Rattle.kube_objects.specs.declared.objects.Object.{Object}
+use Rattle.kube_objects.specs.declared.objects.Object.TheVariants.{Class, Node, Volume, Claim, Pod}
+use Rattle.kube_objects.specs.declared.objects.Volume.{Volume as VolumeData}
+use Rattle.kube_objects.specs.declared.objects.Claim.{Claim as ClaimData}
+use Rattle.kube_objects.specs.Bindings.{class_of_claim, is_completed, is_deleting, is_empty, is_for}
+use Rattle.kube_objects.specs.Keys.{AreRows, key_of, kind_index, kind_of, row_at, rows_of}
+use Rattle.kube_objects.proofs.KeyOrder.{row_at_key}
+use Rattle.kube_objects.proofs.RowPlaces.{row_at_place}
 use Rattle.call_types.specs.declared.entry.Entry.{Entry}
 use Rattle.call_types.specs.declared.request.Request.{Request}
 use Rattle.call_types.specs.declared.request.SeatKind.{SeatKind}
@@ -20,7 +20,7 @@ use Rattle.call_types.specs.declared.request.SeatKind.TheVariants.{Binder}
 use Rattle.binder_model.specs.BindWrites.{next_write}
 use Rattle.binder_model.specs.Matching.{IsBestAt, binder_takes, eligible, has_match, is_delayed, only_own_passes, waits_for_pod}
 use Rattle.binder_model.specs.ObjectKeys.{class_key}
-use Rattle.kube_types.specs.VolumeIndex.{as_volume}
+use Rattle.volume_index.specs.VolumeIndex.{as_volume}
 use Rattle.claim_sync.specs.ClaimDecision.{IsVolumeFor, claim_decision, may_assign}
 use Rattle.claim_sync.specs.declared.action.ClaimStep.{ClaimStep}
 use Rattle.claim_sync.specs.declared.action.ClaimStep.TheVariants as steps
@@ -61,7 +61,8 @@ known_claim v c r e = by (is_some c.meta.uid) refl
         none_some (sym (ap (λ b. if b then next_write v c else None) none) ∙ e)
 
 -- a claim for which a volume is sought, and found
-module _ (rows : List Object) (order : AreRows rows) (spaceless : HaveNoNamespace rows) (c : ClaimData) (open_ : is_completed c ≡ false) (unnamed : is_empty c.volume_name ≡ true) (matches : has_match rows c ≡ true) (m : Machine) (call : Request) (asks : call_of m ≡ Some call)
+module _ (rows : List Object) (order : AreRows rows) (spaceless : HaveNoNamespace rows) (c : ClaimData) (open_ : is_completed c ≡ false)
+    (unnamed : is_empty c.volume_name ≡ true) (matches : has_match rows c ≡ true) (m : Machine) (call : Request) (asks : call_of m ≡ Some call)
     (begins : IsFirst rows (Some (Claim c)) (binder_firsts.Begins m)) where
   sought : Bool → ClaimStep
   sought deleting = if deleting then steps.Nothing else steps.Bind
@@ -95,8 +96,10 @@ module _ (rows : List Object) (order : AreRows rows) (spaceless : HaveNoNamespac
 
   module _ (other : List Object) (same : (k : Key) → row_at k other ≡ row_at k rows) where
     matched : has_match other c ≡ true
-    matched = found_any (binder_takes other c) (key_of (Volume best.volume)) (Volume best.volume) other (same (key_of (Volume best.volume)) ∙ row_at_place kinds.PersistentVolume sought_here.binding.place (Volume best.volume) rows order best.candidate.there)
-        (ap (λ b. b && only_own_passes (waits_for_pod other c) best.volume c) best.candidate.eligible ∙ ap (λ o. only_own_passes (is_delayed o) best.volume c) (same (class_key (class_of_claim c))) ∙ best.candidate.own)
+    matched = found_any (binder_takes other c) (key_of (Volume best.volume)) (Volume best.volume) other
+        (same (key_of (Volume best.volume)) ∙ row_at_place kinds.PersistentVolume sought_here.binding.place (Volume best.volume) rows order best.candidate.there)
+        (ap (λ b. b && only_own_passes (waits_for_pod other c) best.volume c) best.candidate.eligible
+        ∙ ap (λ o. only_own_passes (is_delayed o) best.volume c) (same (class_key (class_of_claim c))) ∙ best.candidate.own)
 
     -- the volume under a key has no namespace
     no_space : (w : VolumeData) (i : ℕ) → slice_get (rows_of kinds.PersistentVolume other) i ≡ Some (Volume w) → w.meta.namespace ≡ []
@@ -171,7 +174,8 @@ unmatched rows c open_ unnamed none e = by (is_deleting c.meta) (may_assign rows
     by false true n = true≢false (sym (ap is_bind n))
     by false false n = true≢false (sym (ap is_bind n))
 
-in_order : (role : Role) (key : Key) (mine : List Entry) (rows : List Object) (u : Under) → role.kind ≡ Binder → Shows mine rows → HaveNoNamespace rows → u.key ≡ key → GivesCall role (memory_of role mine) rows u → IsKeyDue role key mine
+in_order : (role : Role) (key : Key) (mine : List Entry) (rows : List Object) (u : Under) → role.kind ≡ Binder → Shows mine rows
+    → HaveNoNamespace rows → u.key ≡ key → GivesCall role (memory_of role mine) rows u → IsKeyDue role key mine
 in_order role key mine rows u binder shows spaceless own gives = by (row_at key rows) refl
   where
     looked : IsLookedUp Binder (row_at key rows) → IsKeyDue role key mine
@@ -197,12 +201,14 @@ in_order role key mine rows u binder shows spaceless own gives = by (row_at key 
       own = own;
       gives = gives;
       only = λ other others first d.
-          begins_call rows shows.order spaceless c open_ unnamed matches begun.0 u.call (ap task_call (sym begun.1.0) ∙ gives.call) (at (Some (Claim c)) e) other (λ k. others.shown k ∙ sym (shows.shown k)) first key
+          begins_call rows shows.order spaceless c open_ unnamed matches begun.0 u.call (ap task_call (sym begun.1.0) ∙ gives.call)
+          (at (Some (Claim c)) e) other (λ k. others.shown k ∙ sym (shows.shown k)) first key
           (others.shown key ∙ sym (shows.shown key) ∙ e) (subst (λ x. IsFirstOf x role.node (memory_of role mine) other key first) binder d);
     }
 
     -- where no volume is found the decision is one
-    same : (c : ClaimData) → row_at key rows ≡ Some (Claim c) → is_completed c ≡ false → is_empty c.volume_name ≡ true → has_match rows c ≡ false → (f g : BinderFirst) → IsFirst rows (row_at key rows) f → IsFirst rows (row_at key rows) g → g ≡ f
+    same : (c : ClaimData) → row_at key rows ≡ Some (Claim c) → is_completed c ≡ false → is_empty c.volume_name ≡ true → has_match rows c ≡ false
+        → (f g : BinderFirst) → IsFirst rows (row_at key rows) f → IsFirst rows (row_at key rows) g → g ≡ f
     same c e open_ unnamed none f g d h =
         claim_same rows c (claim_decision rows c NotAsked) f g (λ binds. absurd (unmatched rows c open_ unnamed none binds)) (subst (λ r. IsFirst rows r f) e d) (subst (λ r. IsFirst rows r g) e h)
 
@@ -215,7 +221,8 @@ in_order role key mine rows u binder shows spaceless own gives = by (row_at key 
       gives = gives;
       only = λ other others first d.
           binder_only key rows u shows.order gives.call (same c e open_ unnamed none) decided first
-          (subst (λ rs. IsBinderFirst rs key first) (rows_alike rows other shows.order others.order (λ k. others.shown k ∙ sym (shows.shown k))) (subst (λ x. IsFirstOf x role.node (memory_of role mine) other key first) binder d));
+          (subst (λ rs. IsBinderFirst rs key first) (rows_alike rows other shows.order others.order (λ k. others.shown k ∙ sym (shows.shown k)))
+          (subst (λ x. IsFirstOf x role.node (memory_of role mine) other key first) binder d));
     }
 
     seeks : (c : ClaimData) → row_at key rows ≡ Some (Claim c) → is_completed c ≡ false → is_empty c.volume_name ≡ true → (b : Bool) → has_match rows c ≡ b → IsKeyDue role key mine
@@ -257,4 +264,5 @@ throughout role key before [] built due = rows_in_order role key (entries before
 throughout role key before (c ∷ since) built due = (rows_in_order role key (entries (c ∷ since ++ before)) built due.0, throughout role key before since built due.1)
 
 pub played_in_order : PlayedIsDiligentInOrder
-played_in_order role s calls built played kind first fourth earlier between later e four key due = played_is_diligent role s calls built played kind first fourth earlier between later e four key (throughout role key (Some first ∷ earlier) between built due)
+played_in_order role s calls built played kind first fourth earlier between later e four key due =
+    played_is_diligent role s calls built played kind first fourth earlier between later e four key (throughout role key (Some first ∷ earlier) between built due)

@@ -1,7 +1,7 @@
 -- What an answer without news makes of the pass.
 use Rattle.std.proofs.Common.{◌≡◌, ℕ, ◌+◌, List, ◌∷◌, length, Bool, true, false, true≢false, Option, Some, None, inl, inr, refl, sym, ◌∙◌, ap, subst, arith}
 use Rattle.std.proofs.lemmas.Bool.{not-false}
-use Rattle.kube_types.specs.declared.parts.Kind.{Kind}
+use Rattle.kube_parts.specs.declared.parts.Kind.{Kind}
 use Rattle.call_types.specs.declared.entry.Entry.{Entry}
 use Rattle.call_types.specs.declared.request.Request.{Request}
 use Rattle.call_types.specs.declared.request.Request.TheVariants as requests
@@ -38,7 +38,8 @@ use Rattle.attention_law.proofs.Dues.{under_no_watch}
 -- what an answer without news makes of the pass: a watch is that of the pass's kind, and the pass goes on to the next
 pub data Goes (s new : ActorState) (request : Request) : Type 0 where
   Stays : ((kind : Kind) → watches_kind kind request ≡ false) → new.pass ≡ s.pass → Goes s new request
-  GoesOn : (kind : Kind) (from : ℕ) → request ≡ requests.Watch kind from → passing s ≡ Some kind → new.pass.behind ≡ s.pass.behind + 1 → (s.pass.event ≡ false → new.pass.event ≡ false) → Goes s new request
+  GoesOn : (kind : Kind) (from : ℕ) → request ≡ requests.Watch kind from → passing s ≡ Some kind → new.pass.behind ≡ s.pass.behind + 1
+      → (s.pass.event ≡ false → new.pass.event ≡ false) → Goes s new request
 
 -- the call that is asked is a read of the kind
 module _ (s : ActorState) (mine : List Entry) (kind : Kind) (from : ℕ) (stands : StandsFor s mine) where
@@ -81,7 +82,8 @@ module _ (s : ActorState) (caches : AllKnown) (request : Request) (reply : Reply
       by (Some givens.Start) = refl
       by (Some (givens.Read kind)) = pass_stays s.pass _
 
-module _ (s turned new : ActorState) (mine : List Entry) (e : Entry) (request : Request) (reply : Reply) (built : IsBuiltKind turned.role.kind) (turn : IsTurn s turned (nexts.Call request)) (stands : StandsFor turned mine)
+module _ (s turned new : ActorState) (mine : List Entry) (e : Entry) (request : Request) (reply : Reply) (built : IsBuiltKind turned.role.kind)
+    (turn : IsTurn s turned (nexts.Call request)) (stands : StandsFor turned mine)
     (told : IsTold e request reply) (own : AreOwn (e ∷ mine)) (quiet : IsQuiet e) (takes : new ≡ absorbed turned new.caches request (outcomes.Told reply)) where
   is_asked : asked turned ≡ Some request
   is_asked = sym (gives_asked s turned (nexts.Call request) turn)
@@ -141,7 +143,8 @@ module _ (s turned new : ActorState) (mine : List Entry) (e : Entry) (request : 
         where
           by : (b : Bool) → new.pass.event ≡ b → new.pass.event ≡ false
           by false is2 = is2
-          by true is2 = absurd (no_event kind from answered (events_are_brought turned new.caches (requests.Watch kind from) (outcomes.Told reply) (sym (ap (λ (x : ActorState). x.pass.event) taken) ∙ is2) f))
+          by true is2 = absurd (no_event kind from answered
+              (events_are_brought turned new.caches (requests.Watch kind from) (outcomes.Told reply) (sym (ap (λ (x : ActorState). x.pass.event) taken) ∙ is2) f))
 
   pub told_goes : Goes turned new request
   told_goes = by request refl

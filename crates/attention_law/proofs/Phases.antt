@@ -3,10 +3,10 @@ use Rattle.std.proofs.Common.{◌≡◌, ◌≢◌, ◌⊎◌, ℕ, zero, suc, �
 use Rattle.std.specs.Prelude.{map, slice_get}
 use Rattle.std.specs.List.{list_any}
 use Rattle.std.proofs.lemmas.Option.{slice_get_within}
-use Rattle.kube_types.specs.declared.key.Key.{Key}
-use Rattle.kube_types.specs.declared.parts.Kind.{Kind}
-use Rattle.kube_types.specs.declared.parts.Kind.TheVariants as kinds
-use Rattle.kube_types.specs.Keys.{AreRows, key_of, same_key, same_kind}
+use Rattle.kube_objects.specs.declared.key.Key.{Key}
+use Rattle.kube_parts.specs.declared.parts.Kind.{Kind}
+use Rattle.kube_parts.specs.declared.parts.Kind.TheVariants as kinds
+use Rattle.kube_objects.specs.Keys.{AreRows, key_of, same_key, same_kind}
 use Rattle.informer_cache.specs.Cache.{objects_of}
 use Rattle.call_types.specs.declared.entry.Entry.{Entry}
 use Rattle.call_types.specs.declared.request.Request.{Request}
@@ -144,7 +144,8 @@ renewed place key s turned n brought is (Passed one_ past quiet) = absurd (true�
 renewed place key s turned n brought is (Woken one_ before quiet there) = absurd (true≢false (sym brought ∙ quiet))
 renewed place key s turned n brought is (Waits two past quiet there) = absurd (true≢false (sym brought ∙ quiet))
 
-pub turn_phase : (place : ℕ) (key : Key) (s turned : ActorState) (answer : Next) (n : ℕ) → IsTurn s turned answer → (waits key s.work ≡ true → waits key turned.work ≡ true) → Phase place key s n → Phase place key turned n
+pub turn_phase : (place : ℕ) (key : Key) (s turned : ActorState) (answer : Next) (n : ℕ) → IsTurn s turned answer
+    → (waits key s.work ≡ true → waits key turned.work ≡ true) → Phase place key s n → Phase place key turned n
 turn_phase place key s turned answer n turn stays phase = by (turn_pass s turned answer turn)
   where
     by : PassAfter s turned → Phase place key turned n
@@ -153,7 +154,8 @@ turn_phase place key s turned answer n turn stays phase = by (turn_pass s turned
 
 -- an answer
 
-module _ (seat : SeatKind) (built : IsBuiltKind seat) (kind : Kind) (place : ℕ) (at : slice_get (kinds_of seat) place ≡ Some kind) (key : Key) (s new : ActorState) (n : ℕ) (stays : waits key s.work ≡ true → waits key new.work ≡ true) where
+module _ (seat : SeatKind) (built : IsBuiltKind seat) (kind : Kind) (place : ℕ) (at : slice_get (kinds_of seat) place ≡ Some kind) (key : Key)
+    (s new : ActorState) (n : ℕ) (stays : waits key s.work ≡ true → waits key new.work ≡ true) where
   -- the kind itself was watched
   own_watch : s.pass.behind ≡ place → new.pass.behind ≡ s.pass.behind + 1 → (s.pass.event ≡ false → new.pass.event ≡ false) → Phase place key s n → Phase place key new (n + 1)
   own_watch own on still (Opened is past) = absurd (omega (arith, own, past))
@@ -192,7 +194,8 @@ module _ (seat : SeatKind) (built : IsBuiltKind seat) (kind : Kind) (place : ℕ
               true≢false (sym (itself kind) ∙ subst (λ x. same_kind x kind ≡ false) same e)
 
 -- the first watch
-pub opens : (seat : SeatKind) (kind : Kind) (key : Key) (s new : ActorState) (request : Request) → s.role.kind ≡ seat → watches_kind kind request ≡ true → Goes s new request → (slice_get (kinds_of seat) s.pass.behind ≡ Some kind) × Phase s.pass.behind key new 0
+pub opens : (seat : SeatKind) (kind : Kind) (key : Key) (s new : ActorState) (request : Request) → s.role.kind ≡ seat
+    → watches_kind kind request ≡ true → Goes s new request → (slice_get (kinds_of seat) s.pass.behind ≡ Some kind) × Phase s.pass.behind key new 0
 opens seat kind key s new request of_seat watch (Stays none same) = absurd (true≢false (sym watch ∙ none kind))
 opens seat kind key s new request of_seat watch (GoesOn k from is follows on still) =
     let same : k ≡ kind = alike k kind (sym (ap (watches_kind kind) is) ∙ watch) in
@@ -204,7 +207,8 @@ same_place seat kind i j built ei ej = place_is seat i kind built ei ∙ sym (pl
 
 -- an idle turn and a wake of an actor for which a key is due
 
-module _ (key : Key) (s turned new : ActorState) (mine : List Entry) (built : IsBuiltKind s.role.kind) (stands : StandsFor s mine) (order : AreRows (all_objects s.caches)) (due : IsKeyDue s.role key mine) (own : OneTaken s) (fresh : s.memory.stale ≡ false)
+module _ (key : Key) (s turned new : ActorState) (mine : List Entry) (built : IsBuiltKind s.role.kind) (stands : StandsFor s mine)
+    (order : AreRows (all_objects s.caches)) (due : IsKeyDue s.role key mine) (own : OneTaken s) (fresh : s.memory.stale ≡ false)
     (turn : IsTurn s turned nexts.Idle) (wakes : new ≡ woken turned) where
   rests : Rests s turned
   rests = idle_rests s turned turn fresh
@@ -235,15 +239,18 @@ module _ (key : Key) (s turned new : ActorState) (mine : List Entry) (built : Is
       let gone : waits key turned.work ≡ false = ap (λ ks. list_any (same_key key) ks) rests.empty in
       true≢false (sym still ∙ gone)
 
-module _ (seat : SeatKind) (built : IsBuiltKind seat) (kind : Kind) (place : ℕ) (at : slice_get (kinds_of seat) place ≡ Some kind) (key : Key) (s turned new : ActorState) (mine : List Entry) (n : ℕ) (of_seat : s.role.kind ≡ seat)
-    (stands : StandsFor s mine) (order : AreRows (all_objects s.caches)) (due : IsKeyDue s.role key mine) (own : OneTaken s) (fresh : s.memory.stale ≡ false) (turn : IsTurn s turned nexts.Idle) (wakes : new ≡ woken turned) where
+module _ (seat : SeatKind) (built : IsBuiltKind seat) (kind : Kind) (place : ℕ) (at : slice_get (kinds_of seat) place ≡ Some kind) (key : Key)
+    (s turned new : ActorState) (mine : List Entry) (n : ℕ) (of_seat : s.role.kind ≡ seat)
+    (stands : StandsFor s mine) (order : AreRows (all_objects s.caches)) (due : IsKeyDue s.role key mine) (own : OneTaken s)
+    (fresh : s.memory.stale ≡ false) (turn : IsTurn s turned nexts.Idle) (wakes : new ≡ woken turned) where
   built_now : IsBuiltKind s.role.kind
   built_now = subst IsBuiltKind (sym of_seat) built
 
   -- the pass has each kind behind it
   past_it : place < s.pass.behind
   past_it =
-      let all : length (kinds_of seat) ≤ s.pass.behind = passed (kinds_of seat) s.pass.behind (ap (λ k. slice_get (kinds_of k) s.pass.behind) (sym of_seat) ∙ (idle_rests s turned turn fresh).passed) in
+      let all : length (kinds_of seat) ≤ s.pass.behind =
+      passed (kinds_of seat) s.pass.behind (ap (λ k. slice_get (kinds_of k) s.pass.behind) (sym of_seat) ∙ (idle_rests s turned turn fresh).passed) in
       let low : place < length (kinds_of seat) = slice_get_within (kinds_of seat) place kind at in
       omega (arith, all, low)
 

@@ -3,12 +3,12 @@ use Rattle.std.proofs.Common.{◌≡◌, List, [], ◌∷◌, ◌++◌, Bool, tr
 use Rattle.std.specs.Prelude.{◌||◌, map}
 use Rattle.std.specs.List.{list_any}
 use Rattle.std.specs.Ordering.{is_eq}
-use Rattle.kube_types.specs.declared.key.Key.{Key}
-use Rattle.kube_types.specs.declared.parts.Kind.{Kind}
-use Rattle.kube_types.specs.declared.objects.Object.{Object}
-use Rattle.kube_types.specs.Keys.{key_cmp, key_of, row_at, same_key}
-use Rattle.kube_types.proofs.KeyOrder.{row_at_key}
-use Rattle.kube_types.proofs.SameKeys.{same_key_itself}
+use Rattle.kube_objects.specs.declared.key.Key.{Key}
+use Rattle.kube_parts.specs.declared.parts.Kind.{Kind}
+use Rattle.kube_objects.specs.declared.objects.Object.{Object}
+use Rattle.kube_objects.specs.Keys.{key_cmp, key_of, row_at, same_key}
+use Rattle.kube_objects.proofs.KeyOrder.{row_at_key}
+use Rattle.kube_objects.proofs.SameKeys.{same_key_itself}
 use Rattle.informer_cache.specs.Cache.{objects_of}
 use Rattle.informer_cache.specs.All.{AllKnown, cache_of}
 use Rattle.model_laws.proofs.Lists.{IsIn, none_some, one}
@@ -146,7 +146,8 @@ all_self (x ∷ xs) k w there none = by (same_key k x) refl (all_self xs k (adde
     by true e more = all_waits xs k (added x w) (subst (λ y. waits k (added y w) ≡ true) (is_key k x e) (added_self k w none))
     by false e more = more (sym (ap (λ b. b || list_any (same_key k) xs) e) ∙ there) (added_taken x w ∙ none)
 
-pub cached_self : (c : AllKnown) (kinds : List Kind) (kind : Kind) (k : Key) (w : Work) → IsIn kind kinds → list_any (same_key k) (map key_of (objects_of (cache_of kind c))) ≡ true → taken_keys w ≡ [] → waits k (kinds_added c kinds w) ≡ true
+pub cached_self : (c : AllKnown) (kinds : List Kind) (kind : Kind) (k : Key) (w : Work) → IsIn kind kinds
+    → list_any (same_key k) (map key_of (objects_of (cache_of kind c))) ≡ true → taken_keys w ≡ [] → waits k (kinds_added c kinds w) ≡ true
 cached_self c [] kind k w is there none = absurd is
 cached_self c (x ∷ xs) kind k w (inl own) there none =
     cached_waits c xs k (kind_added c x w) (subst (λ y. waits k (kind_added c y w) ≡ true) (sym own) (all_self (map key_of (objects_of (cache_of kind c))) k w there none))
@@ -158,7 +159,8 @@ pub row_any : (k : Key) (o : Object) (os : List Object) → row_at k os ≡ Some
 row_any k o [] e = none_some e
 row_any k o (y ∷ ys) e = by (is_eq (key_cmp (key_of y) k)) refl e (row_any k o ys)
   where
-    by : (b : Bool) → is_eq (key_cmp (key_of y) k) ≡ b → (if b then Some y else row_at k ys) ≡ Some o → (row_at k ys ≡ Some o → list_any (same_key k) (map key_of ys) ≡ true) → (same_key k (key_of y) || list_any (same_key k) (map key_of ys)) ≡ true
+    by : (b : Bool) → is_eq (key_cmp (key_of y) k) ≡ b → (if b then Some y else row_at k ys) ≡ Some o
+        → (row_at k ys ≡ Some o → list_any (same_key k) (map key_of ys) ≡ true) → (same_key k (key_of y) || list_any (same_key k) (map key_of ys)) ≡ true
     by true is h more =
         let own : key_of y ≡ k = row_at_key k y (y ∷ ys) (ap (λ b. if b then Some y else row_at k ys) is) in
         ap (λ b. b || list_any (same_key k) (map key_of ys)) (subst (λ j. same_key k j ≡ true) (sym own) (same_key_itself k))

@@ -2,9 +2,9 @@
 use Rattle.std.proofs.Common.{◌≡◌, ◌⊎◌, ◌<◌, ◌≤◌, List, [], ◌∷◌, ◌++◌, length, Bool, true, false, true≢false, Option, Some, None, inl, inr, refl, sym, ◌∙◌, ap, subst, arith, append_assoc}
 use Rattle.std.specs.Prelude.{option_map}
 use Rattle.std.specs.List.{list_any}
-use Rattle.kube_types.specs.declared.key.Key.{Key}
-use Rattle.kube_types.specs.declared.parts.Kind.{Kind}
-use Rattle.kube_types.specs.Keys.{same_key}
+use Rattle.kube_objects.specs.declared.key.Key.{Key}
+use Rattle.kube_parts.specs.declared.parts.Kind.{Kind}
+use Rattle.kube_objects.specs.Keys.{same_key}
 use Rattle.call_types.specs.declared.entry.Entry.{Entry}
 use Rattle.call_types.specs.declared.request.Request.{Request}
 use Rattle.call_types.specs.declared.request.SeatKind.{SeatKind}
@@ -64,21 +64,24 @@ read_given s mine request kind stands ask reads = by s.given refl ask stands.giv
 
 -- a key that is brought waits
 
-brought_waits : (key : Key) (s new : ActorState) (mine : List Entry) (e : Entry) (request : Request) (reply : Reply) → OneTaken s → PlaysCall s new request (outcomes.Told reply) mine → IsTold e request reply → Brings key e → waits key new.work ≡ true
+brought_waits : (key : Key) (s new : ActorState) (mine : List Entry) (e : Entry) (request : Request) (reply : Reply) → OneTaken s
+    → PlaysCall s new request (outcomes.Told reply) mine → IsTold e request reply → Brings key e → waits key new.work ≡ true
 brought_waits key s new mine e request reply own g told brings =
     ap (λ (x : ActorState). waits key x.work) g.takes
     ∙ ap (λ x. waits key (given_told (learned g.turned new.caches request reply) request reply x).work) read.given
     ∙ all_self (keys_in reply) key g.turned.work (subst (λ r. list_any (same_key key) (keys_in r) ≡ true) told.answered brings.has) none
   where
     read : IsRead g.turned
-    read = read_given g.turned mine request brings.kind g.turns.stands (sym (gives_asked s g.turned (nexts.Call request) g.turns.turn)) (subst (λ r. reads_kind brings.kind r ≡ true) told.asked brings.reads)
+    read = read_given g.turned mine request brings.kind g.turns.stands (sym (gives_asked s g.turned (nexts.Call request) g.turns.turn))
+        (subst (λ r. reads_kind brings.kind r ≡ true) told.asked brings.reads)
 
     none : taken_keys g.turned.work ≡ []
     none = turn_taken s g.turned (nexts.Call request) g.turns.turn own ∙ ap under_keys read.none
 
 -- a key that waits, and is due, is called for or goes on waiting
 
-call_waits : (role : Role) (key : Key) (s new : ActorState) (mine : List Entry) (request : Request) (outcome : Outcome) → s.role ≡ role → StandsFor s mine → PlaysCall s new request outcome mine → IsKeyDue role key mine → waits key s.work ≡ true
+call_waits : (role : Role) (key : Key) (s new : ActorState) (mine : List Entry) (request : Request) (outcome : Outcome) → s.role ≡ role
+    → StandsFor s mine → PlaysCall s new request outcome mine → IsKeyDue role key mine → waits key s.work ≡ true
     → IsAskedFor role key mine request ⊎ (waits key new.work ≡ true)
 call_waits role key s new mine request outcome own stands g due there =
     elim (called_or_waits key s g.turned mine stands g.turns.order (subst (λ r. IsKeyDue r key mine) (sym own) due) request g.turns.turn) [
@@ -90,47 +93,58 @@ call_waits role key s new mine request outcome own stands g due there =
 abbrev CalledOrWaits : Role → Key → List Call → List Call → ActorState → Type 0
 CalledOrWaits role key start since s = WasCalledSince role key start since ⊎ (waits key s.work ≡ true)
 
-goes_on : (role : Role) (key : Key) (start rest : List Call) (e : Entry) (s new : ActorState) → CalledOrWaits role key start rest s → (waits key s.work ≡ true → IsAskedFor role key (entries (rest ++ start)) e.request ⊎ (waits key new.work ≡ true)) → CalledOrWaits role key start (Some e ∷ rest) new
+goes_on : (role : Role) (key : Key) (start rest : List Call) (e : Entry) (s new : ActorState) → CalledOrWaits role key start rest s
+    → (waits key s.work ≡ true → IsAskedFor role key (entries (rest ++ start)) e.request ⊎ (waits key new.work ≡ true)) → CalledOrWaits role key start (Some e ∷ rest) new
 goes_on role key start rest e s new so_far on = elim so_far [
   | inl called ↦ inl (inr called)
   | inr there ↦ elim (on there) [ inl asked ↦ inl (inl asked) | inr still ↦ inr still ]
 ]
 
 -- one call of a life that goes on
-module _ (role : Role) (key : Key) (before rest : List Call) (s new : ActorState) (request : Request) (outcome : Outcome) (played : IsPlayedSince role s before rest) (gives : PlaysCall s new request outcome (entries (rest ++ before))) where
+module _ (role : Role) (key : Key) (before rest : List Call) (s new : ActorState) (request : Request) (outcome : Outcome)
+    (played : IsPlayedSince role s before rest) (gives : PlaysCall s new request outcome (entries (rest ++ before))) where
   pub is_life : IsPlayed role s (rest ++ before)
   is_life = played_on role s before rest played
 
-  pub still_waits : (start later : List Call) (e : Entry) → e.request ≡ request → rest ++ before ≡ later ++ start → IsKeyDue role key (entries (later ++ start)) → CalledOrWaits role key start later s → CalledOrWaits role key start (Some e ∷ later) new
-  still_waits start later e asks same due so_far = goes_on role key start later e s new so_far (λ there. subst (λ r. IsAskedFor role key (entries (later ++ start)) r ⊎ (waits key new.work ≡ true)) (sym asks) (on there))
+  pub still_waits : (start later : List Call) (e : Entry) → e.request ≡ request → rest ++ before ≡ later ++ start
+      → IsKeyDue role key (entries (later ++ start)) → CalledOrWaits role key start later s → CalledOrWaits role key start (Some e ∷ later) new
+  still_waits start later e asks same due so_far =
+      goes_on role key start later e s new so_far (λ there. subst (λ r. IsAskedFor role key (entries (later ++ start)) r ⊎ (waits key new.work ≡ true)) (sym asks) (on there))
     where
       on : waits key s.work ≡ true → IsAskedFor role key (entries (later ++ start)) request ⊎ (waits key new.work ≡ true)
       on there =
-          call_waits role key s new (entries (later ++ start)) request outcome (same_role role s (rest ++ before) is_life) (subst (λ c. StandsFor s (entries c)) same (stands_now role s (rest ++ before) is_life))
+          call_waits role key s new (entries (later ++ start)) request outcome (same_role role s (rest ++ before) is_life)
+          (subst (λ c. StandsFor s (entries c)) same (stands_now role s (rest ++ before) is_life))
           (subst (λ c. PlaysCall s new request outcome (entries c)) same gives) due there
 
 -- keys that are due since the life was woken
 
-woken_waits : (role : Role) (built : IsBuiltKind role.kind) (key : Key) (s turned new : ActorState) (calls : List Call) → IsPlayed role s calls → Turns s turned nexts.Idle (entries calls) → new ≡ woken turned → s.memory.stale ≡ false → IsKeyDue role key (entries calls) → waits key new.work ≡ true
+woken_waits : (role : Role) (built : IsBuiltKind role.kind) (key : Key) (s turned new : ActorState) (calls : List Call) → IsPlayed role s calls
+    → Turns s turned nexts.Idle (entries calls) → new ≡ woken turned → s.memory.stale ≡ false → IsKeyDue role key (entries calls) → waits key new.work ≡ true
 woken_waits role built key s turned new calls played turns wakes fresh due =
     let own = same_role role s calls played in
-    waits_now key s turned new (entries calls) (subst (λ (r : Role). IsBuiltKind r.kind) (sym own) built) (stands_now role s calls played) turns.order (subst (λ r. IsKeyDue r key (entries calls)) (sym own) due) (one_taken role s calls played) fresh turns.turn wakes
+    waits_now key s turned new (entries calls) (subst (λ (r : Role). IsBuiltKind r.kind) (sym own) built)
+    (stands_now role s calls played) turns.order (subst (λ r. IsKeyDue r key (entries calls)) (sym own) due) (one_taken role s calls played) fresh turns.turn wakes
 
-follow_due : (role : Role) (key : Key) → IsBuiltKind role.kind → (s : ActorState) (before since : List Call) → IsPlayedSince role s before since → s.memory.stale ≡ false → IsDueThroughout role key before since → CalledOrWaits role key before since s
+follow_due : (role : Role) (key : Key) → IsBuiltKind role.kind → (s : ActorState) (before since : List Call) → IsPlayedSince role s before since
+    → s.memory.stale ≡ false → IsDueThroughout role key before since → CalledOrWaits role key before since s
 follow_due role key built s before since (Starts none_before none new stands) fresh due =
     absurd (never_due role key built (subst (λ c. IsKeyDue role key (entries c)) none_before (subst (IsDueThroughout role key before) none due)))
 follow_due role key built s before since (Hears old rest e request reply played is told gives stands) fresh due =
     let then_ = subst (IsDueThroughout role key before) is due in
     subst (λ c. CalledOrWaits role key before c s) (sym is)
-    (still_waits role key before rest old s request (outcomes.Told reply) played gives before rest e told.asked refl (due_now role key before rest then_.1) (follow_due role key built old before rest played (calls_fresh old gives.turned request gives.turns.turn) then_.1))
+    (still_waits role key before rest old s request (outcomes.Told reply) played gives before rest e told.asked refl
+    (due_now role key before rest then_.1) (follow_due role key built old before rest played (calls_fresh old gives.turned request gives.turns.turn) then_.1))
 follow_due role key built s before since (Drops old rest request played is gives stands) fresh due = subst (λ c. CalledOrWaits role key before c s) (sym is) (inl tt)
 follow_due role key built s before since (Misses old rest e request played is lost own gives stands) fresh due =
     let then_ = subst (IsDueThroughout role key before) is due in
     subst (λ c. CalledOrWaits role key before c s) (sym is)
-    (still_waits role key before rest old s request outcomes.Lost played gives before rest e own refl (due_now role key before rest then_.1) (follow_due role key built old before rest played (calls_fresh old gives.turned request gives.turns.turn) then_.1))
+    (still_waits role key before rest old s request outcomes.Lost played gives before rest e own refl (due_now role key before rest then_.1)
+    (follow_due role key built old before rest played (calls_fresh old gives.turned request gives.turns.turn) then_.1))
 follow_due role key built s before since (Resumes old turned earlier made played is none turns wakes stands) fresh due =
     let life : IsPlayed role old before = subst (IsPlayed role old) (sym is) (played_on role old earlier made played) in
-    inr (woken_waits role built key old turned s before life turns wakes (still_fresh role old s before life (Wakes old turned life turns wakes stands) fresh) (subst (IsDueThroughout role key before) none due))
+    inr (woken_waits role built key old turned s before life turns wakes
+    (still_fresh role old s before life (Wakes old turned life turns wakes stands) fresh) (subst (IsDueThroughout role key before) none due))
 
 -- keys that a list or a watch brought since
 
@@ -145,15 +159,18 @@ module _ (role : Role) (key : Key) (e : Entry) (earlier before : List Call) (bri
   joined : (rest later : List Call) → rest ≡ later ++ (Some e ∷ earlier) → rest ++ before ≡ later ++ start
   joined rest later is = ap (λ c. c ++ before) is ∙ append_assoc later (Some e ∷ earlier) before
 
-  follow_brought : (s : ActorState) (since : List Call) → IsPlayedSince role s before since → (later : List Call) → since ≡ later ++ (Some e ∷ earlier) → IsDueThroughout role key start later → CalledOrWaits role key start later s
+  follow_brought : (s : ActorState) (since : List Call) → IsPlayedSince role s before since → (later : List Call)
+      → since ≡ later ++ (Some e ∷ earlier) → IsDueThroughout role key start later → CalledOrWaits role key start later s
   follow_brought s since (Starts none_before none new stands) later at due = absurd (never_empty later earlier e (sym none ∙ at))
   follow_brought s since (Hears old rest x request reply played is told gives stands) [] at due =
       let same : x ≡ e = one x e (same_head _ _ _ _ (sym is ∙ at)) in
-      inr (brought_waits key old s (entries (rest ++ before)) e request reply (one_taken role old (rest ++ before) (played_on role old before rest played)) gives (subst (λ y. IsTold y request reply) same told) brings)
+      inr (brought_waits key old s (entries (rest ++ before)) e request reply
+      (one_taken role old (rest ++ before) (played_on role old before rest played)) gives (subst (λ y. IsTold y request reply) same told) brings)
   follow_brought s since (Hears old rest x request reply played is told gives stands) (c ∷ later) at due =
       let tail : rest ≡ later ++ (Some e ∷ earlier) = same_tail _ _ _ _ (sym is ∙ at) in
       subst (λ d. CalledOrWaits role key start (d ∷ later) s) (same_head _ _ _ _ (sym is ∙ at))
-      (still_waits role key before rest old s request (outcomes.Told reply) played gives start later x told.asked (joined rest later tail) (due_now role key start later due.1) (follow_brought old rest played later tail due.1))
+      (still_waits role key before rest old s request (outcomes.Told reply) played gives start later x told.asked (joined rest later tail)
+      (due_now role key start later due.1) (follow_brought old rest played later tail due.1))
   follow_brought s since (Drops old rest request played is gives stands) [] at due = none_some (same_head _ _ _ _ (sym is ∙ at))
   follow_brought s since (Drops old rest request played is gives stands) (c ∷ later) at due = subst (λ d. CalledOrWaits role key start (d ∷ later) s) (same_head _ _ _ _ (sym is ∙ at)) (inl tt)
   follow_brought s since (Misses old rest x request played is lost own gives stands) [] at due =
@@ -162,7 +179,8 @@ module _ (role : Role) (key : Key) (e : Entry) (earlier before : List Call) (bri
   follow_brought s since (Misses old rest x request played is lost own gives stands) (c ∷ later) at due =
       let tail : rest ≡ later ++ (Some e ∷ earlier) = same_tail _ _ _ _ (sym is ∙ at) in
       subst (λ d. CalledOrWaits role key start (d ∷ later) s) (same_head _ _ _ _ (sym is ∙ at))
-      (still_waits role key before rest old s request outcomes.Lost played gives start later x own (joined rest later tail) (due_now role key start later due.1) (follow_brought old rest played later tail due.1))
+      (still_waits role key before rest old s request outcomes.Lost played gives start later x own (joined rest later tail)
+      (due_now role key start later due.1) (follow_brought old rest played later tail due.1))
   follow_brought s since (Resumes old turned made_before made played is none turns wakes stands) later at due = absurd (never_empty later earlier e (sym none ∙ at))
 
 -- a whole pass without events
@@ -195,7 +213,8 @@ idle_is_done role s turned before since built played turns unstale = record {
   passed = through;
   brought = λ key e later earlier at brings due. elim (follow_brought role key e earlier before brings s since played later at due) [
     | inl called ↦ called
-    | inr there ↦ absurd (nothing_waits key (subst (λ c. IsKeyDue role key (entries c)) (sym (joined role key e earlier before brings since later at)) (due_now role key (Some e ∷ (earlier ++ before)) later due)) there)
+    | inr there ↦ absurd (nothing_waits key
+        (subst (λ c. IsKeyDue role key (entries c)) (sym (joined role key e earlier before brings since later at)) (due_now role key (Some e ∷ (earlier ++ before)) later due)) there)
   ];
   due = λ key due. elim (follow_due role key built s before since played fresh due) [
     | inl called ↦ called
@@ -218,7 +237,8 @@ idle_is_done role s turned before since built played turns unstale = record {
 
     nothing_waits : (key : Key) → IsKeyDue role key (entries (since ++ before)) → waits key s.work ≡ true → ⊥
     nothing_waits key due =
-        decided key s turned (woken turned) (entries (since ++ before)) (subst (λ (r : Role). IsBuiltKind r.kind) (sym own) built) (stands_now role s (since ++ before) life) turns.order (subst (λ r. IsKeyDue r key (entries (since ++ before))) (sym own) due)
+        decided key s turned (woken turned) (entries (since ++ before)) (subst (λ (r : Role). IsBuiltKind r.kind) (sym own) built)
+        (stands_now role s (since ++ before) life) turns.order (subst (λ r. IsKeyDue r key (entries (since ++ before))) (sym own) due)
         (one_taken role s (since ++ before) life) fresh turns.turn refl
 
     through : HasPassed role.kind since

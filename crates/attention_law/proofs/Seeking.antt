@@ -4,16 +4,16 @@ use Rattle.std.specs.Prelude.{◌&&◌, ◌||◌, not, is_none, bytes_eq}
 use Rattle.std.specs.List.{list_any}
 use Rattle.std.specs.Ordering.{is_eq}
 use Rattle.std.proofs.lemmas.Bool.{and_parts, not-true, or_cases}
-use Rattle.kube_types.specs.declared.key.Key.{Key}
-use Rattle.kube_types.specs.declared.parts.Kind.{Kind}
-use Rattle.kube_types.specs.declared.parts.VolumePhase.{VolumePhase}
-use Rattle.kube_types.specs.declared.parts.VolumePhase.TheVariants as phases
-use Rattle.kube_types.specs.declared.objects.Object.{Object}
-use Rattle.kube_types.specs.declared.objects.Volume.{Volume as VolumeData}
-use Rattle.kube_types.specs.declared.objects.Claim.{Claim as ClaimData}
-use Rattle.kube_types.specs.Bindings.{carries, is_available, is_bound, is_completed, is_deleting, is_empty, is_ended, is_for, is_protected_volume}
-use Rattle.kube_types.specs.Keys.{is_of_kind, key_cmp, key_of, row_at, rows_of, same_key}
-use Rattle.kube_types.proofs.SameKeys.{same_key_itself, same_key_ordered}
+use Rattle.kube_objects.specs.declared.key.Key.{Key}
+use Rattle.kube_parts.specs.declared.parts.Kind.{Kind}
+use Rattle.kube_parts.specs.declared.parts.VolumePhase.{VolumePhase}
+use Rattle.kube_parts.specs.declared.parts.VolumePhase.TheVariants as phases
+use Rattle.kube_objects.specs.declared.objects.Object.{Object}
+use Rattle.kube_objects.specs.declared.objects.Volume.{Volume as VolumeData}
+use Rattle.kube_objects.specs.declared.objects.Claim.{Claim as ClaimData}
+use Rattle.kube_objects.specs.Bindings.{carries, is_available, is_bound, is_completed, is_deleting, is_empty, is_ended, is_for, is_protected_volume}
+use Rattle.kube_objects.specs.Keys.{is_of_kind, key_cmp, key_of, row_at, rows_of, same_key}
+use Rattle.kube_objects.proofs.SameKeys.{same_key_itself, same_key_ordered}
 use Rattle.binder_model.specs.BindWrites.{claim_write, next_write, shows_bound, write_bound, write_claim_status, write_completion, write_reference}
 use Rattle.binder_model.specs.Matching.{eligible, fits, is_admitted_on, is_selected, may_serve}
 use Rattle.binder_machines.specs.Machines.{bind_call, may_bind}
@@ -69,7 +69,8 @@ serves v c e = record { live = kinds_.0; guarded = guarded_; open_to = kinds_.1 
     parts = and_parts _ (may_serve v c) e
 
     guarded_ : is_protected_volume v ≡ true
-    guarded_ = (and_parts (not (is_deleting v.meta)) (is_protected_volume v) (and_parts _ (fits v c) (and_parts _ (is_selected c.selector v.meta.labels) (and_parts _ (is_admitted_on v None) parts.0).0).0).0).1
+    guarded_ = (and_parts (not (is_deleting v.meta)) (is_protected_volume v)
+        (and_parts _ (fits v c) (and_parts _ (is_selected c.selector v.meta.labels) (and_parts _ (is_admitted_on v None) parts.0).0).0).0).1
 
     kinds_ : (is_ended v.phase ≡ false) × ((is_none v.claim_ref || is_for v c) ≡ true)
     kinds_ = elim (or_cases (is_for v c && not (is_ended v.phase)) (is_available v.phase && is_none v.claim_ref) parts.1) [
@@ -91,7 +92,8 @@ writes v c s open_ = by (carries v c) (is_bound v.phase)
     second : is_some (if is_ended v.phase || not (is_protected_volume v) then None else Some (write_bound v)) ≡ true
     second = ap (λ b. is_some (if b || not (is_protected_volume v) then None else Some (write_bound v))) s.live ∙ ap (λ b. is_some (if not b then None else Some (write_bound v))) s.guarded
 
-    by : (a b : Bool) → is_some (if not a then (if is_ended v.phase then None else Some (write_reference v c)) else if not b then (if is_ended v.phase || not (is_protected_volume v) then None else Some (write_bound v)) else claim_write v c) ≡ true
+    by : (a b : Bool) → is_some (if not a then (if is_ended v.phase then None else Some (write_reference v c)) else if not b then
+        (if is_ended v.phase || not (is_protected_volume v) then None else Some (write_bound v)) else claim_write v c) ≡ true
     by false b = first
     by true false = second
     by true true = unfinished

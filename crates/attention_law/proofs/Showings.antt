@@ -1,17 +1,17 @@
 -- All rows in order that show the same are the same rows; so decisions by look-ups alone, and those of a scheduler, are the same on
 -- them.
 use Rattle.std.proofs.Common.{◌≡◌, ◌⊎◌, ℕ, List, Bool, true, false, true≢false, Option, Some, None, inl, inr, refl, sym, ◌∙◌, ap, subst, if◌then◌else◌}
-use Rattle.kube_types.specs.declared.key.Key.{Key}
+use Rattle.kube_objects.specs.declared.key.Key.{Key}
 use Rattle.kube_types.specs.declared.lookup.Live.TheVariants.{NotAsked}
-use Rattle.kube_types.specs.declared.objects.Object.{Object}
-use Rattle.kube_types.specs.declared.objects.Object.TheVariants.{Class, Node, Volume, Claim, Pod}
-use Rattle.kube_types.specs.declared.objects.Claim.{Claim as ClaimData}
-use Rattle.kube_types.specs.Bindings.{is_completed, is_empty, is_lost}
-use Rattle.kube_types.specs.Keys.{AreRows, row_at}
+use Rattle.kube_objects.specs.declared.objects.Object.{Object}
+use Rattle.kube_objects.specs.declared.objects.Object.TheVariants.{Class, Node, Volume, Claim, Pod}
+use Rattle.kube_objects.specs.declared.objects.Claim.{Claim as ClaimData}
+use Rattle.kube_objects.specs.Bindings.{is_completed, is_empty, is_lost}
+use Rattle.kube_objects.specs.Keys.{AreRows, row_at}
 use Rattle.call_types.specs.declared.request.SeatKind.{SeatKind}
 use Rattle.call_types.specs.declared.request.SeatKind.TheVariants as seats
 use Rattle.call_types.specs.declared.reply.MountRow.{MountRow}
-use Rattle.kube_types.specs.VolumeIndex.{as_volume}
+use Rattle.volume_index.specs.VolumeIndex.{as_volume}
 use Rattle.claim_sync.specs.ClaimDecision.{IsVolumeFor, claim_decision, unless_lost}
 use Rattle.claim_sync.specs.declared.action.ClaimStep.{ClaimStep}
 use Rattle.claim_sync.specs.declared.action.ClaimStep.TheVariants as steps
@@ -87,12 +87,14 @@ machine_in (binder_firsts.Begins m) = Some m
 machine_in first = None
 
 -- the decision of a binder is that of its tables
-pub begins_binder : (rows : List Object) (key : Key) (task : Task) → IsBinderFirst rows key (firsts.Begins task) → (m : Machine) × ((task ≡ tasks.Binder m) × IsFirst rows (row_at key rows) (binder_firsts.Begins m))
+pub begins_binder : (rows : List Object) (key : Key) (task : Task) → IsBinderFirst rows key (firsts.Begins task) → (m : Machine)
+    × ((task ≡ tasks.Binder m) × IsFirst rows (row_at key rows) (binder_firsts.Begins m))
 begins_binder rows key (tasks.Binder m) d = (m, (refl, d))
 begins_binder rows key _ d = absurd d
 
 -- the decision of a scheduler that begins a machine
-begins_pod : (rows : List Object) (refused : List Tried) (row : Option Object) (task : Task) → IsPodFirst rows refused row (firsts.Begins task) → (op : ScheduleOp) × ((task ≡ tasks.Schedule op) × BeginsOn rows refused row (Some op))
+begins_pod : (rows : List Object) (refused : List Tried) (row : Option Object) (task : Task) → IsPodFirst rows refused row (firsts.Begins task)
+    → (op : ScheduleOp) × ((task ≡ tasks.Schedule op) × BeginsOn rows refused row (Some op))
 begins_pod rows refused row (tasks.Schedule op) d = (op, (refl, d))
 begins_pod rows refused row _ d = absurd d
 
@@ -102,7 +104,8 @@ same_begins u first call e = record { task = u.task; request = u.call; begins = 
 
 module _ (key : Key) (rows : List Object) (u : Under) (order : AreRows rows) (call : task_call u.task ≡ Some u.call) where
   -- where the decision of a binder is one
-  pub binder_only : ((f g : BinderFirst) → IsFirst rows (row_at key rows) f → IsFirst rows (row_at key rows) g → g ≡ f) → IsBinderFirst rows key (firsts.Begins u.task) → (first : First) → IsBinderFirst rows key first → BeginsCall first
+  pub binder_only : ((f g : BinderFirst) → IsFirst rows (row_at key rows) f → IsFirst rows (row_at key rows) g → g ≡ f)
+      → IsBinderFirst rows key (firsts.Begins u.task) → (first : First) → IsBinderFirst rows key first → BeginsCall first
   binder_only same decided = by
     where
       begun : (m : Machine) × ((u.task ≡ tasks.Binder m) × IsFirst rows (row_at key rows) (binder_firsts.Begins m))
@@ -115,7 +118,8 @@ module _ (key : Key) (rows : List Object) (u : Under) (order : AreRows rows) (ca
       by firsts.Drops d = none_some (ap machine_in (is binder_firsts.Drops d))
       by (firsts.Queues k) d = none_some (ap machine_in (is (binder_firsts.Queues k) d))
       by (firsts.Begins (tasks.Binder n)) d =
-          same_begins u (firsts.Begins (tasks.Binder n)) call (ap (λ t. firsts.Begins t) (sym (begun.1.0 ∙ ap (λ m. tasks.Binder m) (sym (one n begun.0 (ap machine_in (is (binder_firsts.Begins n) d)))))))
+          same_begins u (firsts.Begins (tasks.Binder n)) call
+          (ap (λ t. firsts.Begins t) (sym (begun.1.0 ∙ ap (λ m. tasks.Binder m) (sym (one n begun.0 (ap machine_in (is (binder_firsts.Begins n) d)))))))
       by (firsts.Begins _) d = absurd d
 
   -- on rows in order a scheduler has one decision
@@ -135,13 +139,15 @@ module _ (key : Key) (rows : List Object) (u : Under) (order : AreRows rows) (ca
           same_begins u (firsts.Begins (tasks.Schedule op)) call (ap (λ t. firsts.Begins t) (sym (begun.1.0 ∙ ap (λ o. tasks.Schedule o) (sym (one op begun.0 (is (Some op) d))))))
       by (firsts.Begins _) d = absurd d
 
-  agent_only : (node : List ℕ) (epoch : Option ℕ) (mounts : Option (List MountRow)) → IsAgentFirst node epoch mounts (row_at key rows) (firsts.Begins u.task) → (first : First) → IsAgentFirst node epoch mounts (row_at key rows) first
+  agent_only : (node : List ℕ) (epoch : Option ℕ) (mounts : Option (List MountRow))
+      → IsAgentFirst node epoch mounts (row_at key rows) (firsts.Begins u.task) → (first : First) → IsAgentFirst node epoch mounts (row_at key rows) first
       → BeginsCall first
   agent_only node (Some epoch) (Some mounts) decided first d = same_begins u first call (d ∙ sym decided)
   agent_only node (Some epoch) None decided first d = absurd decided
   agent_only node None mounts decided first d = absurd decided
 
-  only_of : (seat : SeatKind) (node : List ℕ) (m : Memory) → IsLookedUp seat (row_at key rows) → IsFirstOf seat node m rows key (firsts.Begins u.task) → (first : First) → IsFirstOf seat node m rows key first → BeginsCall first
+  only_of : (seat : SeatKind) (node : List ℕ) (m : Memory) → IsLookedUp seat (row_at key rows)
+      → IsFirstOf seat node m rows key (firsts.Begins u.task) → (first : First) → IsFirstOf seat node m rows key first → BeginsCall first
   only_of seats.Binder node m looked decided first d = binder_only (λ f g. first_same rows (row_at key rows) f g looked) decided first d
   only_of seats.ClaimProtect node m looked decided first d = same_begins u first call (d ∙ sym decided)
   only_of seats.VolumeProtect node m looked decided first d = same_begins u first call (d ∙ sym decided)

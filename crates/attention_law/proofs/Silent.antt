@@ -16,7 +16,8 @@ use Rattle.attention_law.proofs.Following.{remembered}
 use Rattle.attention_law.proofs.Turned.{calls_fresh}
 
 -- what makes a memory stale: it was so before, or an agent was told
-newly_stale : (kind : SeatKind) (node : List ℕ) (e : Entry) (m : Memory) → IsBuiltKind kind → (remembers kind node e.request e.reply m).stale ≡ true → (m.stale ≡ true) ⊎ ((kind ≡ seats.Agent) × (is_stale_told e.reply ≡ true))
+newly_stale : (kind : SeatKind) (node : List ℕ) (e : Entry) (m : Memory) → IsBuiltKind kind → (remembers kind node e.request e.reply m).stale ≡ true
+    → (m.stale ≡ true) ⊎ ((kind ≡ seats.Agent) × (is_stale_told e.reply ≡ true))
 newly_stale seats.Binder node e m built stale = inl stale
 newly_stale seats.ClaimProtect node e m built stale = inl stale
 newly_stale seats.VolumeProtect node e m built stale = inl stale
@@ -38,7 +39,8 @@ told_stale role (e ∷ mine) built stale = by e.told refl stale (told_stale role
     before : ((memory_of role mine).stale ≡ true → WasToldStale role.kind mine) → (memory_of role mine).stale ≡ true → WasToldStale role.kind (e ∷ mine)
     before rest is = let told = rest is in (told.0, inr told.1)
 
-    by : (told : Bool) → e.told ≡ told → (if told then memory_after role e.request e.reply (memory_of role mine) else memory_of role mine).stale ≡ true → ((memory_of role mine).stale ≡ true → WasToldStale role.kind mine) → WasToldStale role.kind (e ∷ mine)
+    by : (told : Bool) → e.told ≡ told → (if told then memory_after role e.request e.reply (memory_of role mine) else memory_of role mine).stale ≡
+        true → ((memory_of role mine).stale ≡ true → WasToldStale role.kind mine) → WasToldStale role.kind (e ∷ mine)
     by true is stale rest = elim (newly_stale role.kind role.node e (memory_of role mine) built stale) [ inl was ↦ before rest was | inr told ↦ (told.0, inl (is, told.1)) ]
     by false is stale rest = before rest stale
 
@@ -54,7 +56,8 @@ agent_stale node (e ∷ mine) some = by e.told refl some (agent_stale node mine)
     or_true true = refl
     or_true false = refl
 
-    by : (told : Bool) → e.told ≡ told → TellsStale e ⊎ SomeOf TellsStale mine → (SomeOf TellsStale mine → before.stale ≡ true) → (if told then agent_remembers node e.request e.reply before else before).stale ≡ true
+    by : (told : Bool) → e.told ≡ told → TellsStale e ⊎ SomeOf TellsStale mine → (SomeOf TellsStale mine → before.stale ≡ true)
+        → (if told then agent_remembers node e.request e.reply before else before).stale ≡ true
     by true is (inl tells) rest = ap (λ b. before.stale || b) tells.1 ∙ or_true before.stale
     by true is (inr earlier) rest = ap (λ b. b || is_stale_told e.reply) (rest earlier)
     by false is (inl tells) rest = absurd (true≢false (sym tells.0 ∙ is))

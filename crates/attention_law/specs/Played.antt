@@ -2,7 +2,7 @@
 -- effect; and where a turn gave none the actor is woken. Each step is what the calls of an actor promise.
 -- A choice of this project.
 use Rattle.std.specs.Prelude.{◌≡◌, false, List, [], ◌∷◌, Some, None}
-use Rattle.kube_types.specs.Keys.{AreRows}
+use Rattle.kube_objects.specs.Keys.{AreRows}
 use Rattle.call_types.specs.declared.entry.Entry.{Entry}
 use Rattle.call_types.specs.declared.request.Request.{Request}
 use Rattle.call_types.specs.declared.reply.Reply.{Reply}
@@ -35,13 +35,16 @@ pub record PlaysCall (s new : ActorState) (request : Request) (outcome : Outcome
 -- the states in which an actor can be after the calls of one life
 pub data IsPlayed (role : Role) : ActorState → List Call → Type 0 where
   Begins : {s : ActorState} {calls : List Call} → calls ≡ [] → IsNew role s → StandsFor s [] → IsPlayed role s calls
-  Told : {new : ActorState} {calls : List Call} (s : ActorState) (before : List Call) (e : Entry) (request : Request) (reply : Reply) → IsPlayed role s before → calls ≡ Some e ∷ before → IsTold e request reply
+  Told : {new : ActorState} {calls : List Call} (s : ActorState) (before : List Call) (e : Entry) (request : Request) (reply : Reply)
+      → IsPlayed role s before → calls ≡ Some e ∷ before → IsTold e request reply
       → PlaysCall s new request (outcomes.Told reply) (entries before) → StandsFor new (entries calls) → IsPlayed role new calls
   LostBefore : {new : ActorState} {calls : List Call} (s : ActorState) (before : List Call) (request : Request) → IsPlayed role s before → calls ≡ None ∷ before
       → PlaysCall s new request outcomes.Lost (entries before) → StandsFor new (entries calls) → IsPlayed role new calls
-  LostAfter : {new : ActorState} {calls : List Call} (s : ActorState) (before : List Call) (e : Entry) (request : Request) → IsPlayed role s before → calls ≡ Some e ∷ before → e.told ≡ false → e.request ≡ request
+  LostAfter : {new : ActorState} {calls : List Call} (s : ActorState) (before : List Call) (e : Entry) (request : Request) → IsPlayed role s before
+      → calls ≡ Some e ∷ before → e.told ≡ false → e.request ≡ request
       → PlaysCall s new request outcomes.Lost (entries before) → StandsFor new (entries calls) → IsPlayed role new calls
-  Wakes : {new : ActorState} {calls : List Call} (s turned : ActorState) → IsPlayed role s calls → Turns s turned nexts.Idle (entries calls) → new ≡ woken turned → StandsFor new (entries calls) → IsPlayed role new calls
+  Wakes : {new : ActorState} {calls : List Call} (s turned : ActorState) → IsPlayed role s calls → Turns s turned nexts.Idle (entries calls)
+      → new ≡ woken turned → StandsFor new (entries calls) → IsPlayed role new calls
 
 -- a life that is played so is diligent, of each kind of actor that is built
 abbrev pub PlayedIsDiligent : Type 0

@@ -2,7 +2,7 @@
 -- Source: client-go, util/workqueue: a key waits once, and is in processing or not. That an actor has one key in processing at a
 -- time, and that a key can be parked, are choices of this project.
 use Rattle.std.specs.Prelude.{◌≡◌, List, [], ◌∷◌, Option, Some, None, map}
-use Rattle.kube_types.specs.declared.key.Key.{Key}
+use Rattle.kube_objects.specs.declared.key.Key.{Key}
 use Rattle.call_types.specs.declared.request.Request.{Request}
 use Rattle.informer_cache.specs.All.{AllKnown}
 use Rattle.sync_queue.specs.Work.{StandsOnce, Taken, Work}

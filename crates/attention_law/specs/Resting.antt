@@ -3,9 +3,9 @@
 -- A choice of this project, after the informers and the work queue of a controller in client-go.
 use Rattle.std.specs.Prelude.{◌≡◌, ◌⊎◌, nat_lt, not, Bool, true, false, ◌&&◌, List, [], ◌∷◌, ◌++◌, Some, None, length, ⊤, if◌then◌else◌}
 use Rattle.std.specs.List.{list_any}
-use Rattle.kube_types.specs.declared.key.Key.{Key}
-use Rattle.kube_types.specs.declared.parts.Kind.{Kind}
-use Rattle.kube_types.specs.Keys.{same_key}
+use Rattle.kube_objects.specs.declared.key.Key.{Key}
+use Rattle.kube_parts.specs.declared.parts.Kind.{Kind}
+use Rattle.kube_objects.specs.Keys.{same_key}
 use Rattle.call_types.specs.declared.entry.Entry.{Entry}
 use Rattle.call_types.specs.declared.request.Request.{Request}
 use Rattle.call_types.specs.declared.request.Request.TheVariants as requests
@@ -105,7 +105,8 @@ pub record IsDone (role : Role) (before since : List Call) : Type 0 where
   -- the last pass is whole and brought no event
   pub passed : HasPassed role.kind since
   -- each key that a list or a watch told of was called for from then on, where it was due at each point from then on
-  pub brought : (key : Key) (e : Entry) (later earlier : List Call) → since ≡ later ++ (Some e ∷ earlier) → Brings key e → IsDueThroughout role key (Some e ∷ (earlier ++ before)) later → WasCalledSince role key (Some e ∷ (earlier ++ before)) later
+  pub brought : (key : Key) (e : Entry) (later earlier : List Call) → since ≡ later ++ (Some e ∷ earlier) → Brings key e
+      → IsDueThroughout role key (Some e ∷ (earlier ++ before)) later → WasCalledSince role key (Some e ∷ (earlier ++ before)) later
   -- and so was each key that was due at each point since
   pub due : (key : Key) → IsDueThroughout role key before since → WasCalledSince role key before since
 
@@ -113,13 +114,16 @@ pub record IsDone (role : Role) (before since : List Call) : Type 0 where
 
 pub data IsPlayedSince (role : Role) : ActorState → List Call → List Call → Type 0 where
   Starts : {s : ActorState} {before since : List Call} → before ≡ [] → since ≡ [] → IsNew role s → StandsFor s [] → IsPlayedSince role s before since
-  Hears : {new : ActorState} {before since : List Call} (s : ActorState) (rest : List Call) (e : Entry) (request : Request) (reply : Reply) → IsPlayedSince role s before rest → since ≡ Some e ∷ rest → IsTold e request reply
+  Hears : {new : ActorState} {before since : List Call} (s : ActorState) (rest : List Call) (e : Entry) (request : Request) (reply : Reply)
+      → IsPlayedSince role s before rest → since ≡ Some e ∷ rest → IsTold e request reply
       → PlaysCall s new request (outcomes.Told reply) (entries (rest ++ before)) → StandsFor new (entries (since ++ before)) → IsPlayedSince role new before since
   Drops : {new : ActorState} {before since : List Call} (s : ActorState) (rest : List Call) (request : Request) → IsPlayedSince role s before rest → since ≡ None ∷ rest
       → PlaysCall s new request outcomes.Lost (entries (rest ++ before)) → StandsFor new (entries (since ++ before)) → IsPlayedSince role new before since
-  Misses : {new : ActorState} {before since : List Call} (s : ActorState) (rest : List Call) (e : Entry) (request : Request) → IsPlayedSince role s before rest → since ≡ Some e ∷ rest → e.told ≡ false → e.request ≡ request
+  Misses : {new : ActorState} {before since : List Call} (s : ActorState) (rest : List Call) (e : Entry) (request : Request)
+      → IsPlayedSince role s before rest → since ≡ Some e ∷ rest → e.told ≡ false → e.request ≡ request
       → PlaysCall s new request outcomes.Lost (entries (rest ++ before)) → StandsFor new (entries (since ++ before)) → IsPlayedSince role new before since
-  Resumes : {new : ActorState} {before since : List Call} (s turned : ActorState) (earlier made : List Call) → IsPlayedSince role s earlier made → before ≡ made ++ earlier → since ≡ [] → Turns s turned nexts.Idle (entries before) → new ≡ woken turned
+  Resumes : {new : ActorState} {before since : List Call} (s turned : ActorState) (earlier made : List Call) → IsPlayedSince role s earlier made
+      → before ≡ made ++ earlier → since ≡ [] → Turns s turned nexts.Idle (entries before) → new ≡ woken turned
       → StandsFor new (entries before) → IsPlayedSince role new before since
 
 -- the laws, of each kind of actor that is built
@@ -138,4 +142,5 @@ PlayedIsSilent = (role : Role) (s : ActorState) (calls : List Call) → IsPlayed
 
 -- where a turn gives no call, nothing is left to be called for, but by an agent that was told StaleEpoch
 abbrev pub IdleIsDone : Type 0
-IdleIsDone = (role : Role) (s turned : ActorState) (before since : List Call) → IsBuiltKind role.kind → IsPlayedSince role s before since → Turns s turned nexts.Idle (entries (since ++ before)) → (WasToldStale role.kind (entries (since ++ before)) → ⊥) → IsDone role before since
+IdleIsDone = (role : Role) (s turned : ActorState) (before since : List Call) → IsBuiltKind role.kind → IsPlayedSince role s before since
+    → Turns s turned nexts.Idle (entries (since ++ before)) → (WasToldStale role.kind (entries (since ++ before)) → ⊥) → IsDone role before since

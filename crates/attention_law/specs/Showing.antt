@@ -1,12 +1,12 @@
 -- Where one list of rows is enough to know that a key is due, and diligent lives where it is. A choice of this project.
 use Rattle.std.specs.Prelude.{◌≡◌, ◌⊎◌, true, false, List, [], ◌∷◌, ◌++◌, Option, Some, ⊤}
-use Rattle.kube_types.specs.declared.key.Key.{Key}
-use Rattle.kube_types.specs.declared.parts.Kind.{Kind}
-use Rattle.kube_types.specs.declared.objects.Object.{Object}
-use Rattle.kube_types.specs.declared.objects.Object.TheVariants.{Volume, Claim}
-use Rattle.kube_types.specs.declared.objects.Volume.{Volume as VolumeData}
-use Rattle.kube_types.specs.Bindings.{is_completed, is_empty}
-use Rattle.kube_types.specs.Keys.{row_at}
+use Rattle.kube_objects.specs.declared.key.Key.{Key}
+use Rattle.kube_parts.specs.declared.parts.Kind.{Kind}
+use Rattle.kube_objects.specs.declared.objects.Object.{Object}
+use Rattle.kube_objects.specs.declared.objects.Object.TheVariants.{Volume, Claim}
+use Rattle.kube_objects.specs.declared.objects.Volume.{Volume as VolumeData}
+use Rattle.kube_objects.specs.Bindings.{is_completed, is_empty}
+use Rattle.kube_objects.specs.Keys.{row_at}
 use Rattle.call_types.specs.declared.entry.Entry.{Entry}
 use Rattle.call_types.specs.declared.request.SeatKind.{SeatKind}
 use Rattle.call_types.specs.declared.request.SeatKind.TheVariants as seats
@@ -34,7 +34,8 @@ IsLookedUp seat row = ⊥
 
 -- where the rules give a call for such a key on some rows that show the newest told, the key is due
 abbrev pub OneShowingIsEnough : Type 0
-OneShowingIsEnough = (role : Role) (key : Key) (mine : List Entry) (rows : List Object) (u : Under) → IsBuiltKind role.kind → Shows mine rows → IsLookedUp role.kind (row_at key rows) → u.key ≡ key → GivesCall role (memory_of role mine) rows u → IsKeyDue role key mine
+OneShowingIsEnough = (role : Role) (key : Key) (mine : List Entry) (rows : List Object) (u : Under) → IsBuiltKind role.kind → Shows mine rows
+    → IsLookedUp role.kind (row_at key rows) → u.key ≡ key → GivesCall role (memory_of role mine) rows u → IsKeyDue role key mine
 
 -- no volume of the rows stands in a namespace: no store takes one that does
 abbrev pub HaveNoNamespace : List Object → Type 0

@@ -1,7 +1,37 @@
 -- What an audit keeps from entry to entry, and what it answers.
-use Rattle.std.proofs.Common.{◌≡◌, ℕ, ◌==◌, ◌+◌, ◌<◌, ◌≤◌, ◌↔◌, Bool, true, false, List, ◌∷◌, Some, None, Ok, Err, Result, MatchResult, reverse, take, length, get_or, refl, ap, sym, ◌∙◌, subst, if◌then◌else◌, take_all}
+use Rattle.std.proofs.Common.{
+  ◌≡◌,
+  ℕ,
+  ◌==◌,
+  ◌+◌,
+  ◌<◌,
+  ◌≤◌,
+  ◌↔◌,
+  Bool,
+  true,
+  false,
+  List,
+  ◌∷◌,
+  Some,
+  None,
+  Ok,
+  Err,
+  Result,
+  MatchResult,
+  reverse,
+  take,
+  length,
+  get_or,
+  refl,
+  ap,
+  sym,
+  ◌∙◌,
+  subst,
+  if◌then◌else◌,
+  take_all,
+}
 use Rattle.std.proofs.lemmas.Bool.{iff_false}
-use Rattle.kube_types.specs.declared.names.LicenceRule.{LicenceRule}
+use Rattle.kube_parts.specs.declared.names.LicenceRule.{LicenceRule}
 use Rattle.call_types.specs.declared.entry.Entry.{Entry}
 use Rattle.call_types.specs.declared.reply.Reply.{Reply}
 use Rattle.call_types.specs.declared.setup.Setup.{Setup}

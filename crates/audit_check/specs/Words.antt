@@ -1,6 +1,6 @@
 -- The printed words of the rules of an audit. A choice of this project.
 use Rattle.std.specs.Prelude.{ℕ, List, codes}
-use Rattle.kube_types.specs.Words.{licence_word}
+use Rattle.kube_parts.specs.Words.{licence_word}
 use Rattle.audit_check.specs.declared.verdict.AuditRule.{AuditRule}
 use Rattle.audit_check.specs.declared.verdict.AuditRule.TheVariants.{Answer, Licence}
 

@@ -21,10 +21,13 @@ pub few_seats : (nodes : List (List ℕ)) → nodes ≡ [] → 5 + length nodes 
 few_seats nodes none = subst (λ (ns : List (List ℕ)). 5 + length ns < 2 ^ 63) (sym none) (omega arith)
 
 -- so new actors at the seats from the fifth on have no entries
-pub none_of_actors : (nodes : List (List ℕ)) (ds : List Drainer) (before after : List Entry) → nodes ≡ [] → before ≡ [] → AreNew 5 nodes ds → OthersStay before after → HaveNoEntries (seats_of ds) after
+pub none_of_actors : (nodes : List (List ℕ)) (ds : List Drainer) (before after : List Entry) → nodes ≡ [] → before ≡ [] → AreNew 5 nodes ds
+    → OthersStay before after → HaveNoEntries (seats_of ds) after
 none_of_actors nodes ds before after empty none new stay =
-    subst (λ (ss : List ℕ). HaveNoEntries ss after) (sym (new_seats_for 5 [] ds (subst (λ (ns : List (List ℕ)). AreNew 5 ns ds) empty new)))
-    (at 7 (λ e. absurd (omega (arith, e))), (at 6 (λ e. absurd (omega (arith, e))), (at 5 (λ e. absurd (omega (arith, e))), (at 8 (λ e. absurd (omega (arith, e))), (at 9 (λ e. absurd (omega (arith, e))), tt)))))
+    subst (λ (ss : List ℕ). HaveNoEntries ss after) (sym (new_seats_for 5 [] ds (subst (λ (ns : List (List ℕ)). AreNew 5 ns ds) empty new))) (
+      at 7 (λ e. absurd (omega (arith, e))),
+      (at 6 (λ e. absurd (omega (arith, e))), (at 5 (λ e. absurd (omega (arith, e))), (at 8 (λ e. absurd (omega (arith, e))), (at 9 (λ e. absurd (omega (arith, e))), tt)))),
+    )
   where
     at : (seat : ℕ) → (seat ≡ 1 → ⊥) → own seat after ≡ []
     at seat other = stay seat other ∙ ap (own seat) none

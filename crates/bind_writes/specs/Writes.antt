@@ -1,6 +1,6 @@
 -- The four writes of a binding by their names. Source: `bind` of `pv_controller.go`.
-use Rattle.kube_types.specs.declared.objects.Volume.{Volume as VolumeData}
-use Rattle.kube_types.specs.declared.objects.Claim.{Claim as ClaimData}
+use Rattle.kube_objects.specs.declared.objects.Volume.{Volume as VolumeData}
+use Rattle.kube_objects.specs.declared.objects.Claim.{Claim as ClaimData}
 use Rattle.call_types.specs.declared.request.Request.{Request}
 use Rattle.binder_model.specs.BindWrites.{write_bound, write_claim_status, write_completion, write_reference}
 use Rattle.bind_writes.specs.declared.step.Write.{Write}

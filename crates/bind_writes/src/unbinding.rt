@@ -1,7 +1,7 @@
 //! Taking a volume's reference back.
 
 ghost use Rattle.std.specs.Prelude.{◌≡◌, IfOk};
-ghost use Rattle.kube_types.specs.Bindings.{bound_by_controller, has_key};
+ghost use Rattle.kube_objects.specs.Bindings.{bound_by_controller, has_key};
 ghost use Rattle.binder_model.specs.BindWrites.{unbound_volume, without_uid, write_available, write_unbound};
 
 use call_types::request::{NewStatus, Request};

@@ -16,7 +16,8 @@ by_verdict Yes input text h = h
 by_verdict (No number rule) input text h = h
 
 pub audit_answers : (input text : List ℕ) (history : History) (verdict : Verdict)
-    → history_of input ≡ Ok history → IsVerdict history.setup history.entries verdict → (verdict ≡ Yes → Safe history.setup (reverse history.entries)) → text ≡ verdict_text verdict (length history.entries)
+    → history_of input ≡ Ok history → IsVerdict history.setup history.entries verdict
+    → (verdict ≡ Yes → Safe history.setup (reverse history.entries)) → text ≡ verdict_text verdict (length history.entries)
     → IsAnswer Audit input (answer_judged verdict text)
 audit_answers input text history verdict read judged safe printed = by_verdict verdict input text (record {
   history = history;

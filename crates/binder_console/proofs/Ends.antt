@@ -79,7 +79,8 @@ pub ends_answer : (task : Task) (words : List (String Global)) (before after : O
     → Written before.written after.written before.write_faults after.write_faults (answer_text answer) (answer_status answer) status
     → EndsBy status words before after
 ends_answer task words before after input (answers.Output text) status asked read through is written = ends_task task words before after input text Done status (λ e. e) asked read through is written
-ends_answer task words before after input (answers.Unsettled text) status asked read through is written = ends_task task words before after input text Unsettled status (λ e. e) asked read through is written
+ends_answer task words before after input (answers.Unsettled text) status asked read through is written =
+    ends_task task words before after input text Unsettled status (λ e. e) asked read through is written
 ends_answer task words before after input (answers.No text) status asked read through is written = ends_task task words before after input text AuditNo status (λ e. e) asked read through is written
 ends_answer task words before after input (answers.Refusal text) status asked read through is written =
     ends_written words before after text Refused status (λ appended. record { task = task; text = text; asked = asked; refused = OfInput input read is; appended = appended })
@@ -98,12 +99,14 @@ no_error r x e err = true≢false (sym err ∙ ap is_err e)
 
 is_an_input : (task : Task) (status : Status) (bytes input text : List ℕ) → IsInput task (Some bytes) input → Answers task status input text → IsNoInput task bytes → ⊥
 is_an_input (Replay budget) status bytes input text read done err = no_error (script_of bytes) done.script (subst (λ (b : List ℕ). script_of b ≡ Ok done.script) (sym read.whole) done.read) err
-is_an_input (Run workers calls budget) status bytes input text read done err = no_error (script_of bytes) done.script (subst (λ (b : List ℕ). script_of b ≡ Ok done.script) (sym read.whole) done.read) err
+is_an_input (Run workers calls budget) status bytes input text read done err =
+    no_error (script_of bytes) done.script (subst (λ (b : List ℕ). script_of b ≡ Ok done.script) (sym read.whole) done.read) err
 is_an_input Check status bytes input text read done err = no_error (list_of bytes) done.1.objects (subst (λ (b : List ℕ). list_of b ≡ Ok done.1.objects) (sym read.whole) done.1.read) err
 is_an_input Audit status bytes input text read done err = no_error (history_of bytes) done.history (subst (λ (b : List ℕ). history_of b ≡ Ok done.history) (sym read.whole) done.read) err
 is_an_input (Gen seed budget) status bytes input text read done err = err
 
-not_refused : (asked : Option Task) (task : Task) (left : Option (List ℕ)) (status : Status) (input text : List ℕ) → asked ≡ Some task → IsInput task left input → Answers task status input text → IsToBeRefused asked left → ⊥
+not_refused : (asked : Option Task) (task : Task) (left : Option (List ℕ)) (status : Status) (input text : List ℕ) → asked ≡ Some task
+    → IsInput task left input → Answers task status input text → IsToBeRefused asked left → ⊥
 not_refused asked task left status input text is read done due = by left read (subst (λ (a : Option Task). IsToBeRefused a left) is due)
   where
     by : (l : Option (List ℕ)) → IsInput task l input → IsToBeRefused (Some task) l → ⊥

@@ -146,7 +146,8 @@ run_has_one script workers calls budget past ending text is p short printed =
     subst (λ (t : List ℕ). HasOneHistory t script.setup (reverse past)) (sym printed)
     (thread_texts_have_one script workers calls budget past ending finals (record { script_given = is; calls_are = p.calls_are; run = p.run; short = short }))
 
-given_of_threads : (script : Script) (workers calls : ℕ) (budget : Option ℕ) (past : List Entry) (ending : Drained) → IsScript script → IsRanOnThreads script workers calls budget script.setup past ending → IsGivenScript script past
+given_of_threads : (script : Script) (workers calls : ℕ) (budget : Option ℕ) (past : List Entry) (ending : Drained) → IsScript script
+    → IsRanOnThreads script workers calls budget script.setup past ending → IsGivenScript script past
 given_of_threads script workers calls budget past ending is p = record {
   readable = script_readable script is;
   names = is.nodes;
@@ -174,7 +175,8 @@ run_answers script workers calls budget setup past ending input text read ran sh
         short = threaded_drains_are_short script workers calls budget past ending
             (given_of_threads script workers calls budget past ending (read_is_script input script read) p).readable
             (given_of_threads script workers calls budget past ending (read_is_script input script read) p).given p.calls_are;
-        settling = λ allows. ap status_of (threaded_drains_settle script workers calls budget past ending (given_of_threads script workers calls budget past ending (read_is_script input script read) p) p.calls_are allows).is;
+        settling = λ allows. ap status_of (threaded_drains_settle script workers calls budget past ending
+            (given_of_threads script workers calls budget past ending (read_is_script input script read) p) p.calls_are allows).is;
       };
       printed = same;
       alone = run_has_one script workers calls budget past ending text (read_is_script input script read) p short same;

@@ -2,7 +2,7 @@
 -- The words and the form of the line are a choice of this project.
 use Rattle.std.specs.Prelude.{ℕ, ◌≡◌, ⊤, List, [], ◌++◌, map, codes, decimal, Ok, Err}
 use Rattle.std.specs.declared.result.Result.{Result}
-use Rattle.kube_types.specs.declared.objects.Object.{Object}
+use Rattle.kube_objects.specs.declared.objects.Object.{Object}
 use Rattle.object_print.specs.Objects.{object_line}
 use Rattle.history_text.specs.Output.{with_line, with_lines}
 use Rattle.object_text.specs.declared.errors.Member.{Member}

@@ -2,21 +2,21 @@
 use Rattle.std.proofs.Common.{◌≡◌, ℕ, List, [], Bool, true, false, true≢false, Option, Some, None, inl, refl, sym, ◌∙◌, ap, subst}
 use Rattle.std.specs.Prelude.{is_some}
 use Rattle.std.proofs.lemmas.Bool.{and_parts}
-use Rattle.kube_types.specs.declared.uid.Uid.{Uid}
-use Rattle.kube_types.specs.declared.key.Key.{Key}
-use Rattle.kube_types.specs.declared.parts.Kind.TheVariants as kinds
+use Rattle.kube_parts.specs.declared.uid.Uid.{Uid}
+use Rattle.kube_objects.specs.declared.key.Key.{Key}
+use Rattle.kube_parts.specs.declared.parts.Kind.TheVariants as kinds
 use Rattle.kube_types.specs.declared.lookup.Live.TheVariants.{NotAsked}
-use Rattle.kube_types.specs.declared.objects.Ref.{Ref}
-use Rattle.kube_types.specs.declared.objects.Volume.{Volume as VolumeData}
-use Rattle.kube_types.specs.declared.objects.Claim.{Claim as ClaimData}
-use Rattle.kube_types.specs.declared.objects.Class.{Class as ClassData}
-use Rattle.kube_types.specs.declared.objects.Object.{Object}
-use Rattle.kube_types.specs.declared.objects.Object.TheVariants.{Class, Node, Volume, Claim, Pod}
-use Rattle.kube_types.specs.Keys.{AreRows, key_of, row_at}
-use Rattle.kube_types.specs.Bindings.{is_completed, is_empty, is_ended, ref_uid}
+use Rattle.kube_objects.specs.declared.objects.Ref.{Ref}
+use Rattle.kube_objects.specs.declared.objects.Volume.{Volume as VolumeData}
+use Rattle.kube_objects.specs.declared.objects.Claim.{Claim as ClaimData}
+use Rattle.kube_objects.specs.declared.objects.Class.{Class as ClassData}
+use Rattle.kube_objects.specs.declared.objects.Object.{Object}
+use Rattle.kube_objects.specs.declared.objects.Object.TheVariants.{Class, Node, Volume, Claim, Pod}
+use Rattle.kube_objects.specs.Keys.{AreRows, key_of, row_at}
+use Rattle.kube_objects.specs.Bindings.{is_completed, is_empty, is_ended, ref_uid}
 use Rattle.kube_types.specs.Defaults.{IsDefaultOf, StandsIn}
-use Rattle.kube_types.proofs.KeyOrder.{row_at_key}
-use Rattle.kube_types.proofs.RowPlaces.{row_at_place}
+use Rattle.kube_objects.proofs.KeyOrder.{row_at_key}
+use Rattle.kube_objects.proofs.RowPlaces.{row_at_place}
 use Rattle.call_types.specs.declared.entry.Entry.{Entry}
 use Rattle.binder_model.specs.ObjectKeys.{claim_key, class_key}
 use Rattle.binder_model.specs.BinderDue.{claim_with}
@@ -164,7 +164,8 @@ module _ (rows : List Object) (mine : List Entry) (order : AreRows rows) (shows 
   told_default : (x : ClassData) → x.meta.namespace ≡ [] → IsDefaultOf (StandsIn rows) x → IsDefaultOf (IsToldClass mine) x
   told_default x placed default =
       record {
-        there = subst (λ (n : List ℕ). IsNewest mine (record { kind = kinds.StorageClass; namespace = n; name = x.meta.name }) (Class x)) placed (newest_row (key_of (Class x)) (Class x) default.there);
+        there = subst (λ (n : List ℕ). IsNewest mine (record { kind = kinds.StorageClass; namespace = n; name = x.meta.name }) (Class x)) placed
+            (newest_row (key_of (Class x)) (Class x) default.there);
         marked = default.marked;
         first = λ other told marked. default.first other (stands other told) marked;
       }
@@ -174,7 +175,8 @@ module _ (rows : List Object) (mine : List Entry) (order : AreRows rows) (shows 
           let at : row_at (class_key other.meta.name) rows ≡ Some (Class other) = shows (class_key other.meta.name) ∙ told in
           subst (λ (k : Key). row_at k rows ≡ Some (Class other)) (sym (row_at_key (class_key other.meta.name) (Class other) rows at)) at
 
-  class_keeps : (key : Key) (c : ClaimData) (x : ClassData) → row_at key rows ≡ Some (Claim c) → claim_decision rows c NotAsked ≡ steps.AssignClass → IsDefaultOf (StandsIn rows) x → MachineKeeps (AssignsClass c x) mine
+  class_keeps : (key : Key) (c : ClaimData) (x : ClassData) → row_at key rows ≡ Some (Claim c) → claim_decision rows c NotAsked ≡ steps.AssignClass
+      → IsDefaultOf (StandsIn rows) x → MachineKeeps (AssignsClass c x) mine
   class_keeps key c x at decided default =
       let so = gets_class rows c NotAsked decided in (
         newest_claim (λ d. d ≡ c) mine key c (newest_row key (Claim c) at) refl,
@@ -211,5 +213,6 @@ module _ (rows : List Object) (mine : List Entry) (order : AreRows rows) (shows 
   begins_keep key (Some (Node x)) machine at e = none_some (sym (ap machine_in e))
   begins_keep key (Some (Pod x)) machine at e = none_some (sym (ap machine_in e))
 
-pub keep : (caches : AllKnown) (mine : List Entry) (key : Key) (machine : Machine) → AllStandFor caches mine → AreRows (all_objects caches) → IsFirst (all_objects caches) (row_at key (all_objects caches)) (Begins machine) → MachineKeeps machine mine
+pub keep : (caches : AllKnown) (mine : List Entry) (key : Key) (machine : Machine) → AllStandFor caches mine → AreRows (all_objects caches)
+    → IsFirst (all_objects caches) (row_at key (all_objects caches)) (Begins machine) → MachineKeeps machine mine
 keep caches mine key machine stand order first = begins_keep (all_objects caches) mine order stand.rows key (row_at key (all_objects caches)) machine refl first

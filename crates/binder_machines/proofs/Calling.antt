@@ -3,22 +3,22 @@ use Rattle.std.proofs.Common.{◌≡◌, ℕ, List, [], ◌∷◌, Bool, true, f
 use Rattle.std.specs.Prelude.{◌&&◌, ◌||◌, not, bytes_eq, is_none, is_some, slice_get}
 use Rattle.std.proofs.lemmas.Bool.{and_parts, and_from, not-true, or_cases, or_left, or_right}
 use Rattle.std.proofs.lemmas.Slice.Eq.{bytes_eq-Decides}
-use Rattle.kube_types.specs.declared.uid.Uid.{Uid}
-use Rattle.kube_types.specs.declared.key.Key.{Key}
-use Rattle.kube_types.specs.declared.parts.Kind.TheVariants as kinds
-use Rattle.kube_types.specs.declared.parts.VolumePhase.{VolumePhase}
-use Rattle.kube_types.specs.declared.parts.VolumePhase.TheVariants as phases
+use Rattle.kube_parts.specs.declared.uid.Uid.{Uid}
+use Rattle.kube_objects.specs.declared.key.Key.{Key}
+use Rattle.kube_parts.specs.declared.parts.Kind.TheVariants as kinds
+use Rattle.kube_parts.specs.declared.parts.VolumePhase.{VolumePhase}
+use Rattle.kube_parts.specs.declared.parts.VolumePhase.TheVariants as phases
 use Rattle.kube_types.specs.declared.lookup.Live.TheVariants.{NotAsked}
-use Rattle.kube_types.specs.declared.objects.Ref.{Ref}
-use Rattle.kube_types.specs.declared.objects.Class.{Class as ClassData}
-use Rattle.kube_types.specs.declared.objects.Volume.{Volume as VolumeData}
-use Rattle.kube_types.specs.declared.objects.Claim.{Claim as ClaimData}
-use Rattle.kube_types.specs.declared.objects.Object.{Object}
-use Rattle.kube_types.specs.declared.objects.Object.TheVariants.{Class, Node, Volume, Claim, Pod}
-use Rattle.kube_types.specs.Keys.{key_of, row_at, rows_of}
-use Rattle.kube_types.specs.Bindings.{carries, is_available, is_bound, is_completed, is_deleting, is_empty, is_ended, is_for, is_lost, is_protected_volume, names_claim, uid_carries, uid_fits}
-use Rattle.kube_types.proofs.KeyOrder.{row_at_key}
-use Rattle.kube_types.proofs.RowPlaces.{row_at_place}
+use Rattle.kube_objects.specs.declared.objects.Ref.{Ref}
+use Rattle.kube_objects.specs.declared.objects.Class.{Class as ClassData}
+use Rattle.kube_objects.specs.declared.objects.Volume.{Volume as VolumeData}
+use Rattle.kube_objects.specs.declared.objects.Claim.{Claim as ClaimData}
+use Rattle.kube_objects.specs.declared.objects.Object.{Object}
+use Rattle.kube_objects.specs.declared.objects.Object.TheVariants.{Class, Node, Volume, Claim, Pod}
+use Rattle.kube_objects.specs.Keys.{key_of, row_at, rows_of}
+use Rattle.kube_objects.specs.Bindings.{carries, is_available, is_bound, is_completed, is_deleting, is_empty, is_ended, is_for, is_lost, is_protected_volume, names_claim, uid_carries, uid_fits}
+use Rattle.kube_objects.proofs.KeyOrder.{row_at_key}
+use Rattle.kube_objects.proofs.RowPlaces.{row_at_place}
 use Rattle.call_types.specs.declared.request.Request.{Request}
 use Rattle.call_types.specs.declared.request.Request.TheVariants.{Get}
 use Rattle.call_types.specs.declared.reply.Refusal.TheVariants.{NotFound}
@@ -27,7 +27,7 @@ use Rattle.binder_model.specs.ObjectKeys.{volume_key}
 use Rattle.binder_model.specs.BinderDue.{has_other_uid}
 use Rattle.binder_model.specs.BindWrites.{claim_write, next_write, shows_bound, write_bound, write_claim_status, write_completion, write_reference}
 use Rattle.binder_model.specs.Matching.{eligible, fits, may_serve}
-use Rattle.kube_types.specs.VolumeIndex.{as_volume}
+use Rattle.volume_index.specs.VolumeIndex.{as_volume}
 use Rattle.claim_sync.specs.ClaimDecision.{IsVolumeFor, claim_decision, completed_step, has_write, is_blocked, named_step, named_volume, unless_lost, unnamed_step}
 use Rattle.claim_sync.specs.declared.action.ClaimStep.{ClaimStep}
 use Rattle.claim_sync.specs.declared.action.ClaimStep.TheVariants as steps
@@ -67,7 +67,8 @@ read_calls v placed known has =
     ap (λ (n : List ℕ). is_some (if is_empty n && is_some v.meta.uid then read_of v.claim_ref else None)) placed
     ∙ (ap (λ (b : Bool). is_some (if b then read_of v.claim_ref else None)) known ∙ ap (λ r. is_some (read_of r)) k.refers)
 
-volume_calls : (rows : List Object) (v : VolumeData) (a : VolumeAction) (machine : Machine) → v.meta.namespace ≡ [] → is_some v.meta.uid ≡ true → volume_decision rows v NotAsked ≡ a → machine_for v a ≡ Some machine → is_some (call_of machine) ≡ true
+volume_calls : (rows : List Object) (v : VolumeData) (a : VolumeAction) (machine : Machine) → v.meta.namespace ≡ [] → is_some v.meta.uid ≡ true
+    → volume_decision rows v NotAsked ≡ a → machine_for v a ≡ Some machine → is_some (call_of machine) ≡ true
 unfolding call_of
 volume_calls rows v actions.Nothing machine placed known is e = none_some e
 volume_calls rows v actions.QueueClaim machine placed known is e = none_some e
@@ -77,7 +78,8 @@ volume_calls rows v actions.Bound machine placed known is e = calls (MarksBound 
 volume_calls rows v actions.Release machine placed known is e = calls (Releases v) machine e (phase_calls v _ placed)
 volume_calls rows v actions.Unbind machine placed known is e = calls (Unbinds v) machine e refl
 
-volume_begun : (rows : List Object) (v : VolumeData) (a : VolumeAction) (machine : Machine) → v.meta.namespace ≡ [] → is_some v.meta.uid ≡ true → volume_decision rows v NotAsked ≡ a → Begins machine ≡ volume_first v a → is_some (call_of machine) ≡ true
+volume_begun : (rows : List Object) (v : VolumeData) (a : VolumeAction) (machine : Machine) → v.meta.namespace ≡ [] → is_some v.meta.uid ≡ true
+    → volume_decision rows v NotAsked ≡ a → Begins machine ≡ volume_first v a → is_some (call_of machine) ≡ true
 volume_begun rows v actions.QueueClaim machine placed known is e = by v.claim_ref e
   where
     by : (r : Option Ref) → Begins machine ≡ queue_of r → is_some (call_of machine) ≡ true
@@ -102,7 +104,9 @@ unfolding next_write claim_write
 next_is v c open_one live guarded = by (carries v c) (is_bound v.phase) (is_ended v.phase) (is_protected_volume v) (is_completed c) live guarded open_one
   where
     by : (carry bound ended guard done : Bool) → ended ≡ false → guard ≡ true → done ≡ false
-        → is_some (if not carry then (if ended then None else Some (write_reference v c)) else if not bound then (if ended || not guard then None else Some (write_bound v)) else (if not (done && bytes_eq c.volume_name v.meta.name) then Some (write_completion v c) else if not (shows_bound c v) then Some (write_claim_status v c) else None)) ≡ true
+        → is_some (if not carry then (if ended then None else Some (write_reference v c)) else if not bound then
+        (if ended || not guard then None else Some (write_bound v)) else
+        (if not (done && bytes_eq c.volume_name v.meta.name) then Some (write_completion v c) else if not (shows_bound c v) then Some (write_claim_status v c) else None)) ≡ true
     by carry bound true guard done l g d = absurd (true≢false l)
     by carry bound false false done l g d = absurd (true≢false (sym g))
     by carry bound false true true l g d = absurd (true≢false d)
@@ -192,7 +196,9 @@ best_open : (rows : List Object) (c : ClaimData) → is_empty c.volume_name ≡ 
 unfolding claim_decision
 best_open rows c none = by (is_completed c) (is_empty c.volume_name) none
   where
-    by : (done empty : Bool) → empty ≡ true → (if done then (if empty then unless_lost c steps.Lost else completed_step c NotAsked (named_volume rows c)) else if is_deleting c.meta then steps.Nothing else if empty then unnamed_step rows c else named_step c (named_volume rows c)) ≡ steps.Bind → done ≡ false
+    by : (done empty : Bool) → empty ≡ true
+        → (if done then (if empty then unless_lost c steps.Lost else completed_step c NotAsked (named_volume rows c)) else if is_deleting c.meta then
+        steps.Nothing else if empty then unnamed_step rows c else named_step c (named_volume rows c)) ≡ steps.Bind → done ≡ false
     by true true n e = absurd (lost_binds_none c e)
     by true false n e = absurd (true≢false (sym n))
     by false empty n e = refl
@@ -201,7 +207,9 @@ given_bindable : (rows : List Object) (c : ClaimData) (v : VolumeData) → is_em
 unfolding claim_decision
 given_bindable rows c v given seen = by (is_completed c) (is_deleting c.meta) (is_empty c.volume_name) (named_volume rows c) refl given seen
   where
-    by : (done deleting empty : Bool) (x : Option VolumeData) → is_completed c ≡ done → empty ≡ false → x ≡ Some v → (if done then (if empty then unless_lost c steps.Lost else completed_step c NotAsked x) else if deleting then steps.Nothing else if empty then unnamed_step rows c else named_step c x) ≡ steps.Bind → Bindable v c
+    by : (done deleting empty : Bool) (x : Option VolumeData) → is_completed c ≡ done → empty ≡ false → x ≡ Some v
+        → (if done then (if empty then unless_lost c steps.Lost else completed_step c NotAsked x) else if deleting then steps.Nothing else if empty
+        then unnamed_step rows c else named_step c x) ≡ steps.Bind → Bindable v c
     by done deleting true x d g s e = absurd (true≢false g)
     by true deleting false x d g s e = completed_bindable v c (sym (ap (completed_step c NotAsked) s) ∙ e)
     by false true false x d g s e = cc
@@ -212,7 +220,8 @@ record Chosen (v : VolumeData) (c : ClaimData) : Type 0 where
   named : (is_empty c.volume_name || bytes_eq c.volume_name v.meta.name) ≡ true
   bindable : Bindable v c
 
-chosen : (rows : List Object) (c : ClaimData) (place : ℕ) (v : VolumeData) → IsVolumeFor (is_empty c.volume_name) rows c (Some place) → slice_get (rows_of kinds.PersistentVolume rows) place ≡ Some (Volume v) → claim_decision rows c NotAsked ≡ steps.Bind → Chosen v c
+chosen : (rows : List Object) (c : ClaimData) (place : ℕ) (v : VolumeData) → IsVolumeFor (is_empty c.volume_name) rows c (Some place)
+    → slice_get (rows_of kinds.PersistentVolume rows) place ≡ Some (Volume v) → claim_decision rows c NotAsked ≡ steps.Bind → Chosen v c
 chosen rows c place v choice there decided = by (is_empty c.volume_name) refl choice
   where
     same_volume : (a b : VolumeData) → Some (Volume a) ≡ Some (Volume b) → a ≡ b
@@ -235,7 +244,8 @@ binding_calls v c placed known is =
 
 -- claims
 
-claim_begun : (rows : List Object) (key : Key) (c : ClaimData) (machine : Machine) → AreStored rows → row_at key rows ≡ Some (Claim c) → IsClaimFirst rows c (claim_decision rows c NotAsked) (Begins machine) → is_some (call_of machine) ≡ true
+claim_begun : (rows : List Object) (key : Key) (c : ClaimData) (machine : Machine) → AreStored rows → row_at key rows ≡ Some (Claim c)
+    → IsClaimFirst rows c (claim_decision rows c NotAsked) (Begins machine) → is_some (call_of machine) ≡ true
 unfolding call_of
 claim_begun rows key c machine stored at = by (claim_decision rows c NotAsked) refl
   where

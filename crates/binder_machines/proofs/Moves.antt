@@ -1,13 +1,13 @@
 -- The evidence of a machine goes on with the answer to its call.
 use Rattle.std.proofs.Common.{◌≡◌, ◌≢◌, ◌⊎◌, List, [], ◌∷◌, Bool, true, false, true≢false, Option, Some, None, inl, inr, refl, sym, ◌∙◌, ap, subst, if◌then◌else◌}
 use Rattle.std.specs.Prelude.{◌&&◌, ◌||◌, not, is_some, bytes_eq}
-use Rattle.kube_types.specs.declared.uid.Uid.{Uid}
-use Rattle.kube_types.specs.declared.objects.Ref.{Ref}
-use Rattle.kube_types.specs.declared.objects.Volume.{Volume as VolumeData}
-use Rattle.kube_types.specs.declared.objects.Claim.{Claim as ClaimData}
-use Rattle.kube_types.specs.declared.objects.Object.{Object}
-use Rattle.kube_types.specs.declared.objects.Object.TheVariants.{Class, Node, Volume, Claim, Pod}
-use Rattle.kube_types.specs.Bindings.{is_available, is_bound, is_completed, is_empty, is_ended, is_protected_volume, is_uid, ref_uid}
+use Rattle.kube_parts.specs.declared.uid.Uid.{Uid}
+use Rattle.kube_objects.specs.declared.objects.Ref.{Ref}
+use Rattle.kube_objects.specs.declared.objects.Volume.{Volume as VolumeData}
+use Rattle.kube_objects.specs.declared.objects.Claim.{Claim as ClaimData}
+use Rattle.kube_objects.specs.declared.objects.Object.{Object}
+use Rattle.kube_objects.specs.declared.objects.Object.TheVariants.{Class, Node, Volume, Claim, Pod}
+use Rattle.kube_objects.specs.Bindings.{is_available, is_bound, is_completed, is_empty, is_ended, is_protected_volume, is_uid, ref_uid}
 use Rattle.call_types.specs.declared.entry.Entry.{Entry}
 use Rattle.call_types.specs.declared.request.Request.{Request}
 use Rattle.call_types.specs.declared.request.Request.TheVariants.{Get}
@@ -20,7 +20,7 @@ use Rattle.binder_model.specs.BinderDue.{claim_with, has_other_uid, is_reclaimed
 use Rattle.binder_model.specs.BinderLicence.{IsCompletedVersion, IsGone, IsHere, IsNotCarrying, IsReferring, WasReadGone, WasReadLost}
 use Rattle.binder_model.specs.Reading.{LacksUid}
 use Rattle.binder_model.specs.Told.{SomeOf, TellsObject, IsLiveAnswer, objects_in}
-use Rattle.kube_types.specs.VolumeIndex.{as_volume}
+use Rattle.volume_index.specs.VolumeIndex.{as_volume}
 use Rattle.claim_sync.specs.ClaimDecision.{read_step, unless_lost}
 use Rattle.claim_sync.specs.declared.action.ClaimStep.{ClaimStep}
 use Rattle.claim_sync.specs.declared.action.ClaimStep.TheVariants as steps
@@ -55,11 +55,13 @@ elsewhere : (v : VolumeData) (c : ClaimData) (mine : List Entry) → (s : Seen v
 elsewhere v c mine s filled other = record { claim = s.has; named = filled_is c.volume_name filled; other = bytes_differ c.volume_name v.meta.name other }
 
 -- what is begun about a volume whose claim is there
-claimed_keeps : (v : VolumeData) (c : ClaimData) (mine : List Entry) (next : Machine) → ToldThis v mine → is_ended v.phase ≡ false → Seen v c mine → machine_for v (claimed_action v c) ≡ Some next → MachineKeeps next mine
+claimed_keeps : (v : VolumeData) (c : ClaimData) (mine : List Entry) (next : Machine) → ToldThis v mine → is_ended v.phase ≡ false → Seen v c mine
+    → machine_for v (claimed_action v c) ≡ Some next → MachineKeeps next mine
 claimed_keeps v c mine next told live s = by (is_empty c.volume_name) (bytes_eq c.volume_name v.meta.name) (is_bound v.phase) (is_protected_volume v) (is_reclaimed v) refl refl refl refl
   where
     by : (none this bound guarded erased : Bool) → is_empty c.volume_name ≡ none → bytes_eq c.volume_name v.meta.name ≡ this → is_protected_volume v ≡ guarded → is_reclaimed v ≡ erased
-        → machine_for v (if none then actions.QueueClaim else if this then (if bound || not guarded then actions.Nothing else actions.Bound) else if erased then actions.Release else actions.Unbind) ≡ Some next → MachineKeeps next mine
+        → machine_for v (if none then actions.QueueClaim else if this then
+        (if bound || not guarded then actions.Nothing else actions.Bound) else if erased then actions.Release else actions.Unbind) ≡ Some next → MachineKeeps next mine
     by true this bound guarded erased n t g r e = none_some e
     by false true true guarded erased n t g r e = none_some e
     by false true false false erased n t g r e = none_some e
@@ -191,7 +193,10 @@ claim_goes_on v o mine e next kept told call read = decided_keeps v true (claim_
         let c = claim_was_asked v kept.reference e.request kept.refers call in
         let same : IsSameObject v.meta v.meta = record { uid = c.uid; first = c.has; second = c.has } in
         let was : WasReadGone (e ∷ mine) v kept.reference kept.uid =
-        inl ((told, c.key, read.live (IsGone kept.uid) (gone kept.uid o (sym uid_is_its ∙ none))), told_volume (IsReferring v kept.reference) v mine kept.volume (record { same = same; refers = kept.refers }))
+        inl (
+          (told, c.key, read.live (IsGone kept.uid) (gone kept.uid o (sym uid_is_its ∙ none))),
+          told_volume (IsReferring v kept.reference) v mine kept.volume (record { same = same; refers = kept.refers }),
+        )
         in
         becomes (Releases v) next (e ∷ mine) s
         (inr kept.volume, record { live = kept.live; reference = kept.reference; uid = kept.uid; refers = kept.refers; known = kept.known; why = inl was })
@@ -249,7 +254,8 @@ why_lost : (c : ClaimData) (o : Option Object) (mine : List Entry) (e : Entry) �
 unfolding claim_read
 why_lost c o mine e kept told call read is = by (is_completed c) (is_empty c.volume_name) refl is
   where
-    by : (done empty : Bool) → is_empty c.volume_name ≡ empty → (if done then (if empty then unless_lost c steps.Lost else read_step c (as_volume o)) else steps.Nothing) ≡ steps.Lost → (c.volume_name ≡ []) ⊎ WasReadLost (e ∷ mine) c
+    by : (done empty : Bool) → is_empty c.volume_name ≡ empty
+        → (if done then (if empty then unless_lost c steps.Lost else read_step c (as_volume o)) else steps.Nothing) ≡ steps.Lost → (c.volume_name ≡ []) ⊎ WasReadLost (e ∷ mine) c
     by false empty n s = cc
     by true true n s = inl (empty_is c.volume_name n)
     by true false n s =
@@ -262,7 +268,11 @@ volume_goes_on : (c : ClaimData) (o : Option Object) (mine : List Entry) (e : En
 volume_goes_on c o mine e next kept told call read = by (claim_read c o) refl
   where
     by : (s : ClaimStep) → claim_read c o ≡ s → confirmed_for c s ≡ Some next → MachineKeeps next (e ∷ mine)
-    by steps.Lost is n = becomes (Loses c) next (e ∷ mine) n (inr kept.claim, record { completed = kept.completed; why = why_lost c o mine e kept told call read is; same_modes = refl; same_amount = refl })
+    by steps.Lost is n = becomes (Loses c) next (e ∷ mine) n (
+      inr kept.claim,
+      record
+          { completed = kept.completed; why = why_lost c o mine e kept told call read is; same_modes = refl; same_amount = refl },
+    )
     by steps.Nothing is n = none_some n
     by steps.ReadVolume is n = none_some n
     by steps.Bind is n = none_some n
@@ -288,7 +298,8 @@ read_found e o told is = record {
   told = λ P x some p. tells P e (replies.Found o) told is (inl (subst P (sym (one o x some)) p));
 }
 
-pub keeps_on : (machine next : Machine) (mine : List Entry) (e : Entry) → MachineKeeps machine mine → call_of machine ≡ Some e.request → e.told ≡ true → moved machine e.reply ≡ Some next → MachineKeeps next (e ∷ mine)
+pub keeps_on : (machine next : Machine) (mine : List Entry) (e : Entry) → MachineKeeps machine mine → call_of machine ≡ Some e.request
+    → e.told ≡ true → moved machine e.reply ≡ Some next → MachineKeeps next (e ∷ mine)
 unfolding moved
 keeps_on machine next mine e kept call told step = by machine e.reply refl kept call step
   where

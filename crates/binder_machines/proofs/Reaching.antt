@@ -1,20 +1,20 @@
 -- No call of a machine reads a whole kind, and the key that is queued in a volume's place is a claim's.
 use Rattle.std.proofs.Common.{◌≡◌, Bool, true, false, Option, Some, None, refl, sym, ap, if◌then◌else◌}
 use Rattle.std.specs.Prelude.{◌&&◌, ◌||◌, IfSome, not, is_some}
-use Rattle.kube_types.specs.declared.key.Key.{Key}
-use Rattle.kube_types.specs.declared.parts.Kind.{Kind}
-use Rattle.kube_types.specs.declared.parts.Kind.TheVariants as kinds
-use Rattle.kube_types.specs.declared.parts.VolumePhase.{VolumePhase}
-use Rattle.kube_types.specs.declared.parts.VolumePhase.TheVariants as volumes
+use Rattle.kube_objects.specs.declared.key.Key.{Key}
+use Rattle.kube_parts.specs.declared.parts.Kind.{Kind}
+use Rattle.kube_parts.specs.declared.parts.Kind.TheVariants as kinds
+use Rattle.kube_parts.specs.declared.parts.VolumePhase.{VolumePhase}
+use Rattle.kube_parts.specs.declared.parts.VolumePhase.TheVariants as volumes
 use Rattle.kube_types.specs.declared.lookup.Live.TheVariants.{NotAsked}
-use Rattle.kube_types.specs.declared.objects.Ref.{Ref}
-use Rattle.kube_types.specs.declared.objects.Volume.{Volume as VolumeData}
-use Rattle.kube_types.specs.declared.objects.Claim.{Claim as ClaimData}
-use Rattle.kube_types.specs.declared.objects.Object.{Object}
-use Rattle.kube_types.specs.declared.objects.Object.TheVariants.{Volume, Claim}
-use Rattle.kube_types.specs.Keys.{key_of, row_at}
-use Rattle.kube_types.specs.Bindings.{carries, is_bound, is_empty, is_ended, is_protected_volume}
-use Rattle.kube_types.proofs.KeyOrder.{row_at_key}
+use Rattle.kube_objects.specs.declared.objects.Ref.{Ref}
+use Rattle.kube_objects.specs.declared.objects.Volume.{Volume as VolumeData}
+use Rattle.kube_objects.specs.declared.objects.Claim.{Claim as ClaimData}
+use Rattle.kube_objects.specs.declared.objects.Object.{Object}
+use Rattle.kube_objects.specs.declared.objects.Object.TheVariants.{Volume, Claim}
+use Rattle.kube_objects.specs.Keys.{key_of, row_at}
+use Rattle.kube_objects.specs.Bindings.{carries, is_bound, is_empty, is_ended, is_protected_volume}
+use Rattle.kube_objects.proofs.KeyOrder.{row_at_key}
 use Rattle.call_types.specs.declared.request.Request.{Request}
 use Rattle.call_types.proofs.WholeKinds.{ReadsNone, call_reads_none}
 use Rattle.binder_model.specs.BindWrites.{claim_write, is_completed_with, next_write, shows_bound, write_bound, write_claim_status, write_completion, write_reference}
@@ -59,7 +59,8 @@ of_writes : (v : VolumeData) (c : ClaimData) → IfSome (next_write v c) ReadsNo
 unfolding next_write
 of_writes v c = by (carries v c) (is_ended v.phase) (is_bound v.phase) (is_protected_volume v)
   where
-    by : (a b d g : Bool) → IfSome (if not a then (if b then None else Some (write_reference v c)) else if not d then (if b || not g then None else Some (write_bound v)) else claim_write v c) ReadsNone
+    by : (a b d g : Bool) → IfSome (if not a then (if b then None else Some (write_reference v c)) else if not d then
+        (if b || not g then None else Some (write_bound v)) else claim_write v c) ReadsNone
     by false true d g = tt
     by false false d g = λ kind. refl
     by true true false g = tt

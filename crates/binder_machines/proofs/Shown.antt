@@ -1,20 +1,20 @@
 -- The decision after a read is the one on the look-up with what was read.
 use Rattle.std.proofs.Common.{◌≡◌, ◌∙◌, Bool, true, false, true≢false, not, List, [], Option, Some, None, refl, sym, ap, if◌then◌else◌}
 use Rattle.std.specs.Prelude.{bytes_eq, ◌&&◌, ◌||◌}
-use Rattle.kube_types.specs.declared.uid.Uid.{Uid}
-use Rattle.kube_types.specs.declared.objects.Ref.{Ref}
-use Rattle.kube_types.specs.declared.objects.Volume.{Volume as VolumeData}
-use Rattle.kube_types.specs.declared.objects.Claim.{Claim as ClaimData}
-use Rattle.kube_types.specs.declared.objects.Object.{Object}
+use Rattle.kube_parts.specs.declared.uid.Uid.{Uid}
+use Rattle.kube_objects.specs.declared.objects.Ref.{Ref}
+use Rattle.kube_objects.specs.declared.objects.Volume.{Volume as VolumeData}
+use Rattle.kube_objects.specs.declared.objects.Claim.{Claim as ClaimData}
+use Rattle.kube_objects.specs.declared.objects.Object.{Object}
 use Rattle.kube_types.specs.declared.lookup.Live.{Live}
 use Rattle.kube_types.specs.declared.lookup.Live.TheVariants.{NotAsked, Absent, Present}
-use Rattle.kube_types.specs.Keys.{row_at}
+use Rattle.kube_objects.specs.Keys.{row_at}
 use Rattle.kube_types.specs.Lookups.{is_asked}
-use Rattle.kube_types.specs.Bindings.{is_available, is_bound, is_completed, is_deleting, is_empty, is_ended, is_protected_volume, lacks_class, ref_uid}
+use Rattle.kube_objects.specs.Bindings.{is_available, is_bound, is_completed, is_deleting, is_empty, is_ended, is_protected_volume, lacks_class, ref_uid}
 use Rattle.binder_model.specs.ObjectKeys.{claim_key}
 use Rattle.binder_model.specs.BinderDue.{claim_with, has_other_uid, is_reclaimed}
 use Rattle.binder_model.specs.Matching.{has_match}
-use Rattle.kube_types.specs.VolumeIndex.{as_volume}
+use Rattle.volume_index.specs.VolumeIndex.{as_volume}
 use Rattle.claim_sync.specs.ClaimDecision.{claim_decision, completed_step, has_write, is_blocked, is_open_to, may_assign, named_step, named_volume, other_step, read_step, unless_lost}
 use Rattle.claim_sync.specs.declared.action.ClaimStep.{ClaimStep}
 use Rattle.claim_sync.specs.declared.action.ClaimStep.TheVariants as steps
@@ -78,7 +78,8 @@ pub free_reads_none : (b : Bool) → (if b then actions.Nothing else actions.Ava
 free_reads_none true e = cc
 free_reads_none false e = cc
 
-claimed_reads_none : (none this settled erased : Bool) → (if none then actions.QueueClaim else if this then (if settled then actions.Nothing else actions.Bound) else if erased then actions.Release else actions.Unbind) ≡ actions.ReadClaim → ⊥
+claimed_reads_none : (none this settled erased : Bool)
+    → (if none then actions.QueueClaim else if this then (if settled then actions.Nothing else actions.Bound) else if erased then actions.Release else actions.Unbind) ≡ actions.ReadClaim → ⊥
 claimed_reads_none true this settled erased e = cc
 claimed_reads_none false true true erased e = cc
 claimed_reads_none false true false erased e = cc
@@ -116,7 +117,9 @@ pub claim_alone : (c : ClaimData) (live : Live) → is_asked live ≡ true → c
 unfolding claim_decision claim_read
 claim_alone c live asked = by (is_completed c) (is_deleting c.meta) (is_empty c.volume_name) (lacks_class c)
   where
-    by : (done deleting empty lacking : Bool) → step_by c done deleting empty false (lacking && false) (completed_step c live None) None ≡ (if done then (if empty then unless_lost c steps.Lost else read_step c (as_volume (shown live))) else steps.Nothing)
+    by : (done deleting empty lacking : Bool)
+        → step_by c done deleting empty false (lacking && false)
+        (completed_step c live None) None ≡ (if done then (if empty then unless_lost c steps.Lost else read_step c (as_volume (shown live))) else steps.Nothing)
     by true deleting true lacking = refl
     by true deleting false lacking = lacking_read c live asked
     by false true empty lacking = refl
@@ -144,7 +147,8 @@ pub completed_of : (rows : List Object) (c : ClaimData) → is_for_completed (cl
 unfolding claim_decision
 completed_of rows c = by (is_completed c) (is_deleting c.meta) (is_empty c.volume_name) (has_match rows c) (may_assign rows c)
   where
-    by : (done deleting empty match assignable : Bool) → is_for_completed (step_by c done deleting empty match assignable (completed_step c NotAsked (named_volume rows c)) (named_volume rows c)) ≡ true → done ≡ true
+    by : (done deleting empty match assignable : Bool)
+        → is_for_completed (step_by c done deleting empty match assignable (completed_step c NotAsked (named_volume rows c)) (named_volume rows c)) ≡ true → done ≡ true
     by true deleting empty match assignable e = refl
     by false true empty match assignable e = absurd (true≢false (sym e))
     by false false true true assignable e = absurd (true≢false (sym e))
@@ -153,7 +157,8 @@ completed_of rows c = by (is_completed c) (is_deleting c.meta) (is_empty c.volum
     by false false false match assignable e = absurd (true≢false (sym e ∙ named_for_none c (named_volume rows c)))
 
 -- the volume that the look-up shows does not carry the claim, so what was read decides
-completed_read : (c : ClaimData) (v : Option VolumeData) (live : Live) → is_asked live ≡ true → is_for_completed (completed_step c NotAsked v) ≡ true → completed_step c live v ≡ read_step c (as_volume (shown live))
+completed_read : (c : ClaimData) (v : Option VolumeData) (live : Live) → is_asked live ≡ true → is_for_completed (completed_step c NotAsked v) ≡ true
+    → completed_step c live v ≡ read_step c (as_volume (shown live))
 completed_read c None live asked e = lacking_read c live asked
 completed_read c (Some v) live asked e = by (has_other_uid v c) (has_write v c) live asked e
   where
@@ -165,12 +170,15 @@ completed_read c (Some v) live asked e = by (has_other_uid v c) (has_write v c) 
     by false true live asked e = absurd (true≢false (sym e))
     by false false live asked e = absurd (true≢false (sym e))
 
-pub claim_reads : (rows : List Object) (c : ClaimData) (live : Live) → is_asked live ≡ true → is_for_completed (claim_decision rows c NotAsked) ≡ true → claim_decision rows c live ≡ claim_read c (shown live)
+pub claim_reads : (rows : List Object) (c : ClaimData) (live : Live) → is_asked live ≡ true
+    → is_for_completed (claim_decision rows c NotAsked) ≡ true → claim_decision rows c live ≡ claim_read c (shown live)
 unfolding claim_decision claim_read
 claim_reads rows c live asked e = by (is_completed c) (is_deleting c.meta) (is_empty c.volume_name) (has_match rows c) (may_assign rows c) e
   where
-    by : (done deleting empty match assignable : Bool) → is_for_completed (step_by c done deleting empty match assignable (completed_step c NotAsked (named_volume rows c)) (named_volume rows c)) ≡ true
-        → step_by c done deleting empty match assignable (completed_step c live (named_volume rows c)) (named_volume rows c) ≡ (if done then (if empty then unless_lost c steps.Lost else read_step c (as_volume (shown live))) else steps.Nothing)
+    by : (done deleting empty match assignable : Bool)
+        → is_for_completed (step_by c done deleting empty match assignable (completed_step c NotAsked (named_volume rows c)) (named_volume rows c)) ≡ true
+        → step_by c done deleting empty match assignable (completed_step c live (named_volume rows c))
+        (named_volume rows c) ≡ (if done then (if empty then unless_lost c steps.Lost else read_step c (as_volume (shown live))) else steps.Nothing)
     by true deleting true match assignable e = refl
     by true deleting false match assignable e = completed_read c (named_volume rows c) live asked e
     by false true empty match assignable e = absurd (true≢false (sym e))

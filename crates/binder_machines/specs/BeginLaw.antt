@@ -1,12 +1,12 @@
 -- On a look-up that shows what a store can hold, each machine that begins has a next call, and so has each one that goes on after a read: what
 -- `call_of` tests holds back no decision. A choice of this project.
 use Rattle.std.specs.Prelude.{◌≡◌, Bool, true, false, List, [], Some, is_some}
-use Rattle.kube_types.specs.declared.key.Key.{Key}
-use Rattle.kube_types.specs.declared.objects.Class.{Class as ClassData}
-use Rattle.kube_types.specs.declared.objects.Volume.{Volume as VolumeData}
-use Rattle.kube_types.specs.declared.objects.Object.{Object}
-use Rattle.kube_types.specs.declared.objects.Object.TheVariants.{Class, Volume}
-use Rattle.kube_types.specs.Keys.{AreRows, meta_of, row_at}
+use Rattle.kube_objects.specs.declared.key.Key.{Key}
+use Rattle.kube_objects.specs.declared.objects.Class.{Class as ClassData}
+use Rattle.kube_objects.specs.declared.objects.Volume.{Volume as VolumeData}
+use Rattle.kube_objects.specs.declared.objects.Object.{Object}
+use Rattle.kube_objects.specs.declared.objects.Object.TheVariants.{Class, Volume}
+use Rattle.kube_objects.specs.Keys.{AreRows, meta_of, row_at}
 use Rattle.call_types.specs.declared.request.Request.{Request}
 use Rattle.call_types.specs.declared.reply.Reply.{Reply}
 use Rattle.binder_machines.specs.declared.decide.First.TheVariants.{Begins}

@@ -1,11 +1,11 @@
 -- The evidence that each machine keeps, in the entries of its seat, the newest first: the objects that it holds were told, and what the row
 -- of its next call asks beside. A choice of this project.
 use Rattle.std.specs.Prelude.{◌≡◌, true, false, List, [], Some}
-use Rattle.kube_types.specs.declared.uid.Uid.{Uid}
-use Rattle.kube_types.specs.declared.objects.Ref.{Ref}
-use Rattle.kube_types.specs.declared.objects.Volume.{Volume as VolumeData}
-use Rattle.kube_types.specs.declared.objects.Claim.{Claim as ClaimData}
-use Rattle.kube_types.specs.Bindings.{is_completed, is_ended}
+use Rattle.kube_parts.specs.declared.uid.Uid.{Uid}
+use Rattle.kube_objects.specs.declared.objects.Ref.{Ref}
+use Rattle.kube_objects.specs.declared.objects.Volume.{Volume as VolumeData}
+use Rattle.kube_objects.specs.declared.objects.Claim.{Claim as ClaimData}
+use Rattle.kube_objects.specs.Bindings.{is_completed, is_ended}
 use Rattle.call_types.specs.declared.entry.Entry.{Entry}
 use Rattle.binder_model.specs.ObjectKeys.{claim_key, volume_key}
 use Rattle.binder_model.specs.BindWrites.{unbound_volume}

@@ -1,17 +1,17 @@
 -- What is done about a key, on the look-up alone. Source: `syncVolume`, `syncUnboundClaim` and `syncBoundClaim` of `pv_controller.go`. That a
 -- claim is not Lost by what the look-up shows of its volume, but by what a read shows, is a choice of this project.
 use Rattle.std.specs.Prelude.{ℕ, ◌≡◌, Bool, true, false, List, Option, Some, None, slice_get}
-use Rattle.kube_types.specs.declared.parts.Kind.TheVariants as kinds
+use Rattle.kube_parts.specs.declared.parts.Kind.TheVariants as kinds
 use Rattle.kube_types.specs.declared.lookup.Live.TheVariants.{NotAsked}
-use Rattle.kube_types.specs.declared.objects.Ref.{Ref}
-use Rattle.kube_types.specs.declared.objects.Volume.{Volume as VolumeData}
-use Rattle.kube_types.specs.declared.objects.Claim.{Claim as ClaimData}
-use Rattle.kube_types.specs.declared.objects.Class.{Class as ClassData}
-use Rattle.kube_types.specs.declared.objects.Object.{Object}
-use Rattle.kube_types.specs.declared.objects.Object.TheVariants.{Volume, Claim}
-use Rattle.kube_types.specs.Keys.{rows_of}
+use Rattle.kube_objects.specs.declared.objects.Ref.{Ref}
+use Rattle.kube_objects.specs.declared.objects.Volume.{Volume as VolumeData}
+use Rattle.kube_objects.specs.declared.objects.Claim.{Claim as ClaimData}
+use Rattle.kube_objects.specs.declared.objects.Class.{Class as ClassData}
+use Rattle.kube_objects.specs.declared.objects.Object.{Object}
+use Rattle.kube_objects.specs.declared.objects.Object.TheVariants.{Volume, Claim}
+use Rattle.kube_objects.specs.Keys.{rows_of}
 use Rattle.kube_types.specs.Defaults.{IsDefaultOf, StandsIn}
-use Rattle.kube_types.specs.Bindings.{is_empty}
+use Rattle.kube_objects.specs.Bindings.{is_empty}
 use Rattle.binder_model.specs.ObjectKeys.{claim_key}
 use Rattle.claim_sync.specs.ClaimDecision.{IsVolumeFor, claim_decision}
 use Rattle.claim_sync.specs.declared.action.ClaimStep.{ClaimStep}

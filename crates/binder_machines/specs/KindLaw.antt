@@ -1,11 +1,11 @@
 -- What an actor may rely on, whichever machines there are: no call of theirs lists or watches a whole kind, so that none counts as a
 -- read of the actor's own; and the key that is queued in a volume's place is a claim's. A choice of this project.
 use Rattle.std.specs.Prelude.{◌≡◌, false, List, Some}
-use Rattle.kube_types.specs.declared.key.Key.{Key}
-use Rattle.kube_types.specs.declared.parts.Kind.{Kind}
-use Rattle.kube_types.specs.declared.parts.Kind.TheVariants as kinds
-use Rattle.kube_types.specs.declared.objects.Object.{Object}
-use Rattle.kube_types.specs.Keys.{row_at}
+use Rattle.kube_objects.specs.declared.key.Key.{Key}
+use Rattle.kube_parts.specs.declared.parts.Kind.{Kind}
+use Rattle.kube_parts.specs.declared.parts.Kind.TheVariants as kinds
+use Rattle.kube_objects.specs.declared.objects.Object.{Object}
+use Rattle.kube_objects.specs.Keys.{row_at}
 use Rattle.call_types.specs.declared.request.Request.{Request}
 use Rattle.call_types.specs.Kinds.{reads_kind}
 use Rattle.binder_machines.specs.declared.decide.First.TheVariants.{Queues}

@@ -3,7 +3,7 @@
 ghost use Rattle.std.specs.Prelude.{◌≡◌, IfOk};
 ghost use Rattle.std.specs.Option.{option_copied};
 ghost use Rattle.kube_types.specs.declared.lookup.Live.TheVariants.{NotAsked};
-ghost use Rattle.kube_types.specs.Keys.{row_at};
+ghost use Rattle.kube_objects.specs.Keys.{row_at};
 ghost use Rattle.kube_types.specs.Steps.Scan.{class_at};
 ghost use Rattle.claim_sync.specs.ClaimDecision.{claim_decision};
 ghost use Rattle.volume_sync.specs.VolumeDecision.{volume_decision};

@@ -2,7 +2,7 @@
 
 ghost use Rattle.std.specs.Prelude.{◌≡◌, []};
 ghost use Rattle.std.specs.Option.{option_copied};
-ghost use Rattle.kube_types.specs.Bindings.{is_available};
+ghost use Rattle.kube_objects.specs.Bindings.{is_available};
 ghost use Rattle.claim_sync.specs.ClaimDecision.{step_of};
 ghost use Rattle.volume_sync.specs.VolumeDecision.{refers_by_uid};
 ghost use Rattle.binder_machines.specs.Machines.{claim_read, volume_read};
@@ -12,7 +12,7 @@ use kube_types::key::Key;
 use kube_types::lookup::{Live, Lookup};
 use kube_types::objects::{Claim, Object, Volume};
 use kube_types::parts::{Kind, VolumePhase};
-use kube_types::volume_index::VolumeIndex;
+use volume_index::index::VolumeIndex;
 use volume_sync::{VolumeAction, decide_volume};
 
 /// A look-up that shows nothing: what was read by itself decides alone.

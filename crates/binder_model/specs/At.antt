@@ -1,9 +1,9 @@
 -- "At o": a write carries the version of a told object o of its key, and is o with the named change alone.
 -- Source: Kubernetes API conventions, "Concurrency Control and Consistency".
 use Rattle.std.specs.Prelude.{ℕ, ◌≡◌, ◌≢◌, List, [], Option, Some}
-use Rattle.kube_types.specs.declared.uid.Uid.{Uid}
-use Rattle.kube_types.specs.declared.objects.Meta.{Meta}
-use Rattle.kube_types.specs.declared.objects.Claim.{Claim as ClaimData}
+use Rattle.kube_parts.specs.declared.uid.Uid.{Uid}
+use Rattle.kube_objects.specs.declared.objects.Meta.{Meta}
+use Rattle.kube_objects.specs.declared.objects.Claim.{Claim as ClaimData}
 
 -- the write has the version and the name that the told object has
 pub record IsWrittenAt (given : Option ℕ) (namespace name : List ℕ) (o : Meta) : Type 0 where

@@ -3,15 +3,15 @@
 -- protection finalizer, is not made is this project's choice.
 use Rattle.std.specs.Prelude.{ℕ, Bool, true, false, not, ◌&&◌, ◌||◌, List, Option, Some, None, bytes_eq, is_none, if◌then◌else◌}
 use Rattle.plain_data.specs.Pairs.{put_pair, without_key}
-use Rattle.kube_types.specs.declared.parts.ClaimPhase.{ClaimPhase}
-use Rattle.kube_types.specs.declared.parts.ClaimPhase.TheVariants as claims
-use Rattle.kube_types.specs.declared.parts.VolumePhase.TheVariants as volumes
-use Rattle.kube_types.specs.declared.objects.Meta.{Meta}
-use Rattle.kube_types.specs.declared.objects.Ref.{Ref}
-use Rattle.kube_types.specs.declared.objects.Volume.{Volume as VolumeData}
-use Rattle.kube_types.specs.declared.objects.Claim.{Claim as ClaimData}
-use Rattle.kube_types.specs.declared.objects.Object.TheVariants.{Volume, Claim}
-use Rattle.kube_types.specs.Bindings.{bind_completed, bound_by_controller, yes, has_key, is_bound, is_ended, is_protected_volume, is_completed, is_empty, carries}
+use Rattle.kube_parts.specs.declared.parts.ClaimPhase.{ClaimPhase}
+use Rattle.kube_parts.specs.declared.parts.ClaimPhase.TheVariants as claims
+use Rattle.kube_parts.specs.declared.parts.VolumePhase.TheVariants as volumes
+use Rattle.kube_objects.specs.declared.objects.Meta.{Meta}
+use Rattle.kube_objects.specs.declared.objects.Ref.{Ref}
+use Rattle.kube_objects.specs.declared.objects.Volume.{Volume as VolumeData}
+use Rattle.kube_objects.specs.declared.objects.Claim.{Claim as ClaimData}
+use Rattle.kube_objects.specs.declared.objects.Object.TheVariants.{Volume, Claim}
+use Rattle.kube_objects.specs.Bindings.{bind_completed, bound_by_controller, yes, has_key, is_bound, is_ended, is_protected_volume, is_completed, is_empty, carries}
 use Rattle.call_types.specs.declared.request.NewStatus.TheVariants as statuses
 use Rattle.call_types.specs.declared.request.Request.{Request}
 use Rattle.call_types.specs.declared.request.Request.TheVariants.{Update, UpdateStatus}

@@ -2,17 +2,34 @@
 -- Source: `syncVolume`, `syncUnboundClaim` (with `assignDefaultStorageClass`) and `syncBoundClaim` of `pv_controller.go`.
 use Rattle.std.specs.Prelude.{Bool, false, not, ◌&&◌, ◌||◌, List, Option, Some, None, bytes_eq, is_none, is_some, if◌then◌else◌}
 use Rattle.std.specs.List.{list_any}
-use Rattle.kube_types.specs.declared.uid.Uid.{Uid}
-use Rattle.kube_types.specs.declared.names.Due.{Due}
-use Rattle.kube_types.specs.declared.names.Due.TheVariants.{Available, Bound, Release, Unbind, Bind, AssignClass, Lost}
-use Rattle.kube_types.specs.declared.objects.Ref.{Ref}
-use Rattle.kube_types.specs.declared.objects.Volume.{Volume as VolumeData}
-use Rattle.kube_types.specs.declared.objects.Claim.{Claim as ClaimData}
-use Rattle.kube_types.specs.declared.objects.Object.{Object}
-use Rattle.kube_types.specs.declared.objects.Object.TheVariants.{Class, Volume, Claim}
-use Rattle.kube_types.specs.Keys.{row_at}
+use Rattle.kube_parts.specs.declared.uid.Uid.{Uid}
+use Rattle.kube_parts.specs.declared.names.Due.{Due}
+use Rattle.kube_parts.specs.declared.names.Due.TheVariants.{Available, Bound, Release, Unbind, Bind, AssignClass, Lost}
+use Rattle.kube_objects.specs.declared.objects.Ref.{Ref}
+use Rattle.kube_objects.specs.declared.objects.Volume.{Volume as VolumeData}
+use Rattle.kube_objects.specs.declared.objects.Claim.{Claim as ClaimData}
+use Rattle.kube_objects.specs.declared.objects.Object.{Object}
+use Rattle.kube_objects.specs.declared.objects.Object.TheVariants.{Class, Volume, Claim}
+use Rattle.kube_objects.specs.Keys.{row_at}
 use Rattle.kube_types.specs.Defaults.{is_default}
-use Rattle.kube_types.specs.Bindings.{provisioned_by, has_key, lacks_class, is_lost, is_uid, is_available, is_bound, is_ended, is_delete, is_deleting, is_protected_volume, is_completed, is_empty, is_for, carries, ref_uid}
+use Rattle.kube_objects.specs.Bindings.{
+  provisioned_by,
+  has_key,
+  lacks_class,
+  is_lost,
+  is_uid,
+  is_available,
+  is_bound,
+  is_ended,
+  is_delete,
+  is_deleting,
+  is_protected_volume,
+  is_completed,
+  is_empty,
+  is_for,
+  carries,
+  ref_uid,
+}
 use Rattle.binder_model.specs.Matching.{fits, has_match}
 use Rattle.binder_model.specs.ObjectKeys.{claim_key, volume_key}
 use Rattle.binder_model.specs.BindWrites.{next_write}

@@ -1,17 +1,17 @@
 -- Where the binder may write, after its own earlier entries: a record for each row, its evidence as fields.
 -- A choice of this project; each row restates the evidence on which `pv_controller.go` acts.
 use Rattle.std.specs.Prelude.{ℕ, ◌≡◌, ◌≢◌, ◌⊎◌, true, false, List, [], Option, Some, None, is_some, ⊤}
-use Rattle.kube_types.specs.declared.uid.Uid.{Uid}
-use Rattle.kube_types.specs.declared.parts.Modes.{Modes}
-use Rattle.kube_types.specs.declared.objects.Amount.{Amount}
-use Rattle.kube_types.specs.declared.objects.Ref.{Ref}
-use Rattle.kube_types.specs.declared.objects.Volume.{Volume as VolumeData}
-use Rattle.kube_types.specs.declared.objects.Claim.{Claim as ClaimData}
-use Rattle.kube_types.specs.declared.objects.Class.{Class as ClassData}
-use Rattle.kube_types.specs.declared.objects.Object.{Object}
-use Rattle.kube_types.specs.declared.objects.Object.TheVariants.{Class, Volume, Claim}
+use Rattle.kube_parts.specs.declared.uid.Uid.{Uid}
+use Rattle.kube_parts.specs.declared.parts.Modes.{Modes}
+use Rattle.kube_objects.specs.declared.objects.Amount.{Amount}
+use Rattle.kube_objects.specs.declared.objects.Ref.{Ref}
+use Rattle.kube_objects.specs.declared.objects.Volume.{Volume as VolumeData}
+use Rattle.kube_objects.specs.declared.objects.Claim.{Claim as ClaimData}
+use Rattle.kube_objects.specs.declared.objects.Class.{Class as ClassData}
+use Rattle.kube_objects.specs.declared.objects.Object.{Object}
+use Rattle.kube_objects.specs.declared.objects.Object.TheVariants.{Class, Volume, Claim}
 use Rattle.kube_types.specs.Defaults.{IsDefaultOf}
-use Rattle.kube_types.specs.Bindings.{is_ended, is_bound, is_completed, is_deleting, lacks_class, is_protected_volume, carries, names_claim, ref_uid}
+use Rattle.kube_objects.specs.Bindings.{is_ended, is_bound, is_completed, is_deleting, lacks_class, is_protected_volume, carries, names_claim, ref_uid}
 use Rattle.call_types.specs.declared.entry.Entry.{Entry}
 use Rattle.binder_model.specs.ObjectKeys.{claim_key, class_key, volume_key}
 use Rattle.binder_model.specs.BindWrites.{taken_for, completed_with, unbound_volume}

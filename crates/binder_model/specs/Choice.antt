@@ -6,14 +6,14 @@ use Rattle.std.specs.List.{list_all, list_any}
 use Rattle.std.specs.declared.cmp.Ordering.{Ordering}
 use Rattle.std.specs.Ordering.{nat_cmp, ordering_then, is_gt}
 use Rattle.plain_data.specs.Pairs.{text_cmp}
-use Rattle.kube_types.specs.declared.parts.Kind.TheVariants as kinds
-use Rattle.kube_types.specs.declared.objects.Claim.{Claim as ClaimData}
-use Rattle.kube_types.specs.declared.objects.Node.{Node as NodeData}
-use Rattle.kube_types.specs.declared.objects.Pod.{Pod as PodData}
-use Rattle.kube_types.specs.declared.objects.Object.{Object}
-use Rattle.kube_types.specs.declared.objects.Object.TheVariants.{Class, Node, Volume, Claim}
-use Rattle.kube_types.specs.Keys.{row_at, rows_of}
-use Rattle.kube_types.specs.Bindings.{selected_node, has_key, class_of_claim, is_completed, is_deleting, is_empty, carries}
+use Rattle.kube_parts.specs.declared.parts.Kind.TheVariants as kinds
+use Rattle.kube_objects.specs.declared.objects.Claim.{Claim as ClaimData}
+use Rattle.kube_objects.specs.declared.objects.Node.{Node as NodeData}
+use Rattle.kube_objects.specs.declared.objects.Pod.{Pod as PodData}
+use Rattle.kube_objects.specs.declared.objects.Object.{Object}
+use Rattle.kube_objects.specs.declared.objects.Object.TheVariants.{Class, Node, Volume, Claim}
+use Rattle.kube_objects.specs.Keys.{row_at, rows_of}
+use Rattle.kube_objects.specs.Bindings.{selected_node, has_key, class_of_claim, is_completed, is_deleting, is_empty, carries}
 use Rattle.label_rules.specs.Selectors.{admits}
 use Rattle.binder_model.specs.ObjectKeys.{class_key, claim_key, volume_key}
 use Rattle.binder_model.specs.Matching.{IsBest, is_delayed}

@@ -1,10 +1,10 @@
 -- What a typed edit makes of an object. It takes the place of patches, a choice of this project.
 use Rattle.std.specs.Prelude.{ℕ, not, List, Option, Some, None, bytes_eq, filter}
 use Rattle.plain_data.specs.Pairs.{put_pair, without_key}
-use Rattle.kube_types.specs.declared.objects.Object.{Object}
-use Rattle.kube_types.specs.declared.objects.Object.TheVariants.{Volume, Claim}
-use Rattle.kube_types.specs.Keys.{meta_of}
-use Rattle.kube_types.specs.Bindings.{bound_by_controller}
+use Rattle.kube_objects.specs.declared.objects.Object.{Object}
+use Rattle.kube_objects.specs.declared.objects.Object.TheVariants.{Volume, Claim}
+use Rattle.kube_objects.specs.Keys.{meta_of}
+use Rattle.kube_objects.specs.Bindings.{bound_by_controller}
 use Rattle.call_types.specs.declared.edit.Edit.{Edit}
 use Rattle.call_types.specs.declared.edit.Edit.TheVariants.{AddFinalizer, DropFinalizer, DropLabel, DropAnnotation, SetLabel, SetAnnotation, SetVolumeName, SetPolicy, SetClaimRef, ClearClaimRef}
 use Rattle.binder_model.specs.Store.{with_meta, with_finalizer}

@@ -3,15 +3,15 @@
 use Rattle.std.specs.Prelude.{ℕ, Bool, true, false, not, ◌&&◌, ◌||◌, List, [], Option, Some, None, bytes_eq, is_some, is_none}
 use Rattle.std.specs.Bool.{xor}
 use Rattle.plain_data.specs.Pairs.{Pair, value_at}
-use Rattle.kube_types.specs.declared.names.Rule.{Rule}
-use Rattle.kube_types.specs.declared.names.Rule.TheVariants as rules
-use Rattle.kube_types.specs.declared.parts.VolumePhase.{VolumePhase}
-use Rattle.kube_types.specs.declared.parts.VolumePhase.TheVariants.{Released}
-use Rattle.kube_types.specs.declared.objects.Ref.{Ref}
-use Rattle.kube_types.specs.declared.objects.Object.{Object}
-use Rattle.kube_types.specs.declared.objects.Object.TheVariants.{Volume, Claim}
-use Rattle.kube_types.specs.Keys.{meta_of}
-use Rattle.kube_types.specs.Bindings.{bind_completed, bound_by_controller, provisioned_by, pv_protection, pvc_protection, has_name, is_ended, is_delete, ref_uid}
+use Rattle.kube_parts.specs.declared.names.Rule.{Rule}
+use Rattle.kube_parts.specs.declared.names.Rule.TheVariants as rules
+use Rattle.kube_parts.specs.declared.parts.VolumePhase.{VolumePhase}
+use Rattle.kube_parts.specs.declared.parts.VolumePhase.TheVariants.{Released}
+use Rattle.kube_objects.specs.declared.objects.Ref.{Ref}
+use Rattle.kube_objects.specs.declared.objects.Object.{Object}
+use Rattle.kube_objects.specs.declared.objects.Object.TheVariants.{Volume, Claim}
+use Rattle.kube_objects.specs.Keys.{meta_of}
+use Rattle.kube_objects.specs.Bindings.{bind_completed, bound_by_controller, provisioned_by, pv_protection, pvc_protection, has_name, is_ended, is_delete, ref_uid}
 use Rattle.binder_model.specs.Same.{same_option, same_ref}
 
 -- the annotations that stood there before the write, none before a create

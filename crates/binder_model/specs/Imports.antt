@@ -3,20 +3,20 @@
 -- (Reserving a PersistentVolume), and "Storage Object in Use Protection" for the finalizers.
 use Rattle.std.specs.Prelude.{ℕ, ◌≡◌, ◌-◌, ◌^◌, nat_lt, nat_le, max, Bool, true, false, not, ◌&&◌, ◌||◌, List, [], ◌∷◌, ◌++◌, Option, Some, None, bytes_eq, is_none, unwrap_or, if◌then◌else◌, ⊤}
 use Rattle.std.specs.List.{list_any}
-use Rattle.kube_types.specs.declared.uid.Uid.{Uid}
-use Rattle.kube_types.specs.declared.names.Field.{Field}
-use Rattle.kube_types.specs.declared.names.ImportFault.{ImportFault}
-use Rattle.kube_types.specs.declared.names.ImportFault.TheVariants as faults
-use Rattle.kube_types.specs.declared.parts.ClaimPhase.{ClaimPhase}
-use Rattle.kube_types.specs.declared.parts.ClaimPhase.TheVariants as claims
-use Rattle.kube_types.specs.declared.objects.Meta.{Meta}
-use Rattle.kube_types.specs.declared.objects.Ref.{Ref}
-use Rattle.kube_types.specs.declared.objects.Claim.{Claim as ClaimData}
-use Rattle.kube_types.specs.declared.objects.Object.{Object}
-use Rattle.kube_types.specs.declared.objects.Object.TheVariants.{Class, Node, Volume, Claim, Pod}
-use Rattle.kube_types.specs.Keys.{meta_of, key_of, put_row, same_key}
-use Rattle.kube_types.specs.Uids.{uid_of_serial}
-use Rattle.kube_types.specs.Bindings.{pv_protection, pvc_protection, is_empty, is_completed, is_deleting, is_scheduled, is_bound, is_ended, is_uid, names_claim, carries, ref_uid}
+use Rattle.kube_parts.specs.declared.uid.Uid.{Uid}
+use Rattle.kube_parts.specs.declared.names.Field.{Field}
+use Rattle.kube_parts.specs.declared.names.ImportFault.{ImportFault}
+use Rattle.kube_parts.specs.declared.names.ImportFault.TheVariants as faults
+use Rattle.kube_parts.specs.declared.parts.ClaimPhase.{ClaimPhase}
+use Rattle.kube_parts.specs.declared.parts.ClaimPhase.TheVariants as claims
+use Rattle.kube_objects.specs.declared.objects.Meta.{Meta}
+use Rattle.kube_objects.specs.declared.objects.Ref.{Ref}
+use Rattle.kube_objects.specs.declared.objects.Claim.{Claim as ClaimData}
+use Rattle.kube_objects.specs.declared.objects.Object.{Object}
+use Rattle.kube_objects.specs.declared.objects.Object.TheVariants.{Class, Node, Volume, Claim, Pod}
+use Rattle.kube_objects.specs.Keys.{meta_of, key_of, put_row, same_key}
+use Rattle.kube_parts.specs.Uids.{uid_of_serial}
+use Rattle.kube_objects.specs.Bindings.{pv_protection, pvc_protection, is_empty, is_completed, is_deleting, is_scheduled, is_bound, is_ended, is_uid, names_claim, carries, ref_uid}
 use Rattle.binder_model.specs.Store.{first_moment, with_finalizer, leaves}
 use Rattle.binder_model.specs.Fields.{create_fault}
 

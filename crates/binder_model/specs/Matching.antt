@@ -8,16 +8,16 @@ use Rattle.std.specs.declared.cmp.Ordering.{Ordering}
 use Rattle.std.specs.declared.cmp.Ordering.TheVariants.{Greater}
 use Rattle.std.specs.Ordering.{nat_cmp, ordering_then}
 use Rattle.plain_data.specs.Pairs.{Pair, text_cmp}
-use Rattle.kube_types.specs.declared.parts.Modes.{Modes}
-use Rattle.kube_types.specs.declared.parts.Kind.TheVariants as kinds
-use Rattle.kube_types.specs.declared.objects.Selector.{Selector}
-use Rattle.kube_types.specs.declared.objects.Node.{Node as NodeData}
-use Rattle.kube_types.specs.declared.objects.Volume.{Volume as VolumeData}
-use Rattle.kube_types.specs.declared.objects.Claim.{Claim as ClaimData}
-use Rattle.kube_types.specs.declared.objects.Object.{Object}
-use Rattle.kube_types.specs.declared.objects.Object.TheVariants.{Class, Volume}
-use Rattle.kube_types.specs.Keys.{rows_of, row_at}
-use Rattle.kube_types.specs.Bindings.{class_of_volume, class_of_claim, is_deleting, is_protected_volume, is_for, is_ended, is_available, mode_count}
+use Rattle.kube_parts.specs.declared.parts.Modes.{Modes}
+use Rattle.kube_parts.specs.declared.parts.Kind.TheVariants as kinds
+use Rattle.kube_objects.specs.declared.objects.Selector.{Selector}
+use Rattle.kube_objects.specs.declared.objects.Node.{Node as NodeData}
+use Rattle.kube_objects.specs.declared.objects.Volume.{Volume as VolumeData}
+use Rattle.kube_objects.specs.declared.objects.Claim.{Claim as ClaimData}
+use Rattle.kube_objects.specs.declared.objects.Object.{Object}
+use Rattle.kube_objects.specs.declared.objects.Object.TheVariants.{Class, Volume}
+use Rattle.kube_objects.specs.Keys.{rows_of, row_at}
+use Rattle.kube_objects.specs.Bindings.{class_of_volume, class_of_claim, is_deleting, is_protected_volume, is_for, is_ended, is_available, mode_count}
 use Rattle.label_rules.specs.Selectors.{selects, admits}
 use Rattle.binder_model.specs.ObjectKeys.{class_key}
 

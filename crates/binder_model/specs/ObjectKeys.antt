@@ -1,8 +1,8 @@
 -- The keys of the objects of each kind, by namespace and name.
 -- Source: Kubernetes documentation, "Object Names and IDs" and "Namespaces": claims and pods have a namespace, volumes, classes and nodes none.
 use Rattle.std.specs.Prelude.{ℕ, List, []}
-use Rattle.kube_types.specs.declared.parts.Kind.TheVariants as kinds
-use Rattle.kube_types.specs.declared.key.Key.{Key}
+use Rattle.kube_parts.specs.declared.parts.Kind.TheVariants as kinds
+use Rattle.kube_objects.specs.declared.key.Key.{Key}
 
 -- the key of the class of this name
 abbrev pub class_key : List ℕ → Key

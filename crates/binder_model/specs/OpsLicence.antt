@@ -2,15 +2,15 @@
 -- A choice of this project; each row restates the evidence on which `pv_controller.go` provisions and reclaims.
 use Rattle.std.specs.Prelude.{ℕ, ◌≡◌, ◌⊎◌, Bool, true, false, List, Option, Some, None, is_some}
 use Rattle.plain_data.specs.Pairs.{Pair, value_at, without_key}
-use Rattle.kube_types.specs.declared.uid.Uid.{Uid}
-use Rattle.kube_types.specs.declared.objects.DataId.{DataId}
-use Rattle.kube_types.specs.declared.objects.Class.{Class as ClassData}
-use Rattle.kube_types.specs.declared.objects.Claim.{Claim as ClaimData}
-use Rattle.kube_types.specs.declared.objects.Volume.{Volume as VolumeData}
-use Rattle.kube_types.specs.declared.objects.Node.{Node as NodeData}
-use Rattle.kube_types.specs.declared.objects.Object.TheVariants.{Class, Node, Claim}
-use Rattle.kube_types.specs.Sources.{data_id_of}
-use Rattle.kube_types.specs.Bindings.{selected_node, class_of_claim, is_completed, is_deleting, is_ended, is_delete, ref_uid}
+use Rattle.kube_parts.specs.declared.uid.Uid.{Uid}
+use Rattle.kube_objects.specs.declared.objects.DataId.{DataId}
+use Rattle.kube_objects.specs.declared.objects.Class.{Class as ClassData}
+use Rattle.kube_objects.specs.declared.objects.Claim.{Claim as ClaimData}
+use Rattle.kube_objects.specs.declared.objects.Volume.{Volume as VolumeData}
+use Rattle.kube_objects.specs.declared.objects.Node.{Node as NodeData}
+use Rattle.kube_objects.specs.declared.objects.Object.TheVariants.{Class, Node, Claim}
+use Rattle.kube_objects.specs.Sources.{data_id_of}
+use Rattle.kube_objects.specs.Bindings.{selected_node, class_of_claim, is_completed, is_deleting, is_ended, is_delete, ref_uid}
 use Rattle.call_types.specs.declared.entry.Entry.{Entry}
 use Rattle.call_types.specs.declared.request.Request.{Request}
 use Rattle.call_types.specs.declared.request.Request.TheVariants as requests

@@ -2,18 +2,18 @@
 -- Source: `provisionClaimOperation` of `pv_controller.go`.
 use Rattle.std.specs.Prelude.{ℕ, Bool, not, ◌&&◌, List, [], ◌∷◌, ◌++◌, Option, Some, None, codes, bytes_eq, is_none}
 use Rattle.plain_data.specs.Pairs.{put_pair}
-use Rattle.kube_types.specs.declared.uid.Uid.{Uid}
-use Rattle.kube_types.specs.declared.parts.Op.TheVariants.{In}
-use Rattle.kube_types.specs.declared.parts.SourceKind.TheVariants.{Csi}
-use Rattle.kube_types.specs.declared.parts.VolumePhase.TheVariants as volumes
-use Rattle.kube_types.specs.declared.objects.DataId.{DataId}
-use Rattle.kube_types.specs.declared.objects.Meta.{Meta}
-use Rattle.kube_types.specs.declared.objects.NodeTerms.{NodeTerms}
-use Rattle.kube_types.specs.declared.objects.Class.{Class as ClassData}
-use Rattle.kube_types.specs.declared.objects.Claim.{Claim as ClaimData}
-use Rattle.kube_types.specs.declared.objects.Volume.{Volume as VolumeData}
-use Rattle.kube_types.specs.Uids.{uid_text}
-use Rattle.kube_types.specs.Bindings.{bound_by_controller, provisioned_by, no_provisioner, yes, is_completed, is_deleting, is_empty}
+use Rattle.kube_parts.specs.declared.uid.Uid.{Uid}
+use Rattle.kube_parts.specs.declared.parts.Op.TheVariants.{In}
+use Rattle.kube_parts.specs.declared.parts.SourceKind.TheVariants.{Csi}
+use Rattle.kube_parts.specs.declared.parts.VolumePhase.TheVariants as volumes
+use Rattle.kube_objects.specs.declared.objects.DataId.{DataId}
+use Rattle.kube_objects.specs.declared.objects.Meta.{Meta}
+use Rattle.kube_objects.specs.declared.objects.NodeTerms.{NodeTerms}
+use Rattle.kube_objects.specs.declared.objects.Class.{Class as ClassData}
+use Rattle.kube_objects.specs.declared.objects.Claim.{Claim as ClaimData}
+use Rattle.kube_objects.specs.declared.objects.Volume.{Volume as VolumeData}
+use Rattle.kube_parts.specs.Uids.{uid_text}
+use Rattle.kube_objects.specs.Bindings.{bound_by_controller, provisioned_by, no_provisioner, yes, is_completed, is_deleting, is_empty}
 use Rattle.binder_model.specs.BindWrites.{ref_to}
 
 -- pvc- and the claim's UID

@@ -2,15 +2,15 @@
 -- A choice of this project; the words are those of the Kubernetes documentation, "Persistent Volumes".
 use Rattle.std.specs.Prelude.{◌≡◌, ◌⊎◌, ◌&&◌, Bool, true, false, List, [], ◌∷◌, Option, Some, None, is_some, ⊤}
 use Rattle.std.specs.List.{list_any}
-use Rattle.kube_types.specs.declared.uid.Uid.{Uid}
-use Rattle.kube_types.specs.declared.key.Key.{Key}
-use Rattle.kube_types.specs.declared.objects.DataId.{DataId}
-use Rattle.kube_types.specs.declared.objects.Volume.{Volume as VolumeData}
-use Rattle.kube_types.specs.declared.objects.Claim.{Claim as ClaimData}
-use Rattle.kube_types.specs.declared.objects.Object.{Object}
-use Rattle.kube_types.specs.declared.objects.Object.TheVariants.{Volume, Claim}
-use Rattle.kube_types.specs.Keys.{row_at}
-use Rattle.kube_types.specs.Bindings.{carries, is_bound, is_completed, is_ended, is_delete}
+use Rattle.kube_parts.specs.declared.uid.Uid.{Uid}
+use Rattle.kube_objects.specs.declared.key.Key.{Key}
+use Rattle.kube_objects.specs.declared.objects.DataId.{DataId}
+use Rattle.kube_objects.specs.declared.objects.Volume.{Volume as VolumeData}
+use Rattle.kube_objects.specs.declared.objects.Claim.{Claim as ClaimData}
+use Rattle.kube_objects.specs.declared.objects.Object.{Object}
+use Rattle.kube_objects.specs.declared.objects.Object.TheVariants.{Volume, Claim}
+use Rattle.kube_objects.specs.Keys.{row_at}
+use Rattle.kube_objects.specs.Bindings.{carries, is_bound, is_completed, is_ended, is_delete}
 use Rattle.call_types.specs.declared.entry.Entry.{Entry}
 use Rattle.call_types.specs.declared.setup.Setup.{Setup}
 use Rattle.call_types.specs.declared.request.Request.{Request}
@@ -100,9 +100,9 @@ pub record ErasesEnded (rows : List Object) (mine : List Entry) (id : DataId) : 
   pub known : volume.meta.uid ≡ Some uid
   pub since : (key : Key) (now : VolumeData) → row_at key rows ≡ Some (Volume now) → now.meta.uid ≡ Some uid → IsEndedForDelete now
 
--- an Erase that removed data
+-- an Erase that was answered, whether or not the back end had the data
 abbrev pub ErasesWell : List Object → List Entry → Request → Reply → Type 0
-ErasesWell rows mine (Erase id) (Erased true) = ErasesEnded rows mine id
+ErasesWell rows mine (Erase id) (Erased removed) = ErasesEnded rows mine id
 ErasesWell rows mine request reply = ⊤
 
 -- what is safe in one step of a history

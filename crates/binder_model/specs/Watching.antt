@@ -2,8 +2,8 @@
 -- `base` is the version with which the world began.
 -- Source: Kubernetes API concepts, "Efficient detection of changes"; the window and the limit are this project's choice.
 use Rattle.std.specs.Prelude.{ℕ, ◌-◌, ◌==◌, nat_lt, max, Bool, ◌&&◌, List, [], ◌∷◌, reverse, filter, take, length, if◌then◌else◌}
-use Rattle.kube_types.specs.declared.parts.Kind.{Kind}
-use Rattle.kube_types.specs.Keys.{is_of_kind}
+use Rattle.kube_parts.specs.declared.parts.Kind.{Kind}
+use Rattle.kube_objects.specs.Keys.{is_of_kind}
 use Rattle.call_types.specs.declared.reply.Event.{Event}
 use Rattle.call_types.specs.declared.reply.Events.{Events}
 

@@ -1,7 +1,7 @@
 -- Which requests read a whole kind: what counts as a read of an actor's own. A choice of this project.
 use Rattle.std.specs.Prelude.{ℕ, ◌≢◌, Bool, false, None}
-use Rattle.kube_types.specs.declared.parts.Kind.{Kind}
-use Rattle.kube_types.specs.Keys.{same_kind}
+use Rattle.kube_parts.specs.declared.parts.Kind.{Kind}
+use Rattle.kube_objects.specs.Keys.{same_kind}
 use Rattle.call_types.specs.declared.request.Request.{Request}
 use Rattle.call_types.specs.declared.request.Request.TheVariants as requests
 

@@ -60,7 +60,8 @@ get_set_later (c ∷ cs) (suc i) (suc j) below = get_set_later cs i j (omega ari
 halves : (k i e : ℕ) → e + suc i ≡ k → 2 ^ (k - i) ≡ 2 ^ e + 2 ^ e
 halves k i e place = ap (λ n. 2 ^ n) (omega arith) ∙ two_pow e
 
-pub digit_set : (k i number : ℕ) (cs : List Bool) (rest weight : ℕ) → i < k → weight ≡ 2 ^ (k - 1 - i) → weight ≤ rest → Digits k i number cs rest → Digits k (i + 1) number (set cs i true) (rest - weight)
+pub digit_set : (k i number : ℕ) (cs : List Bool) (rest weight : ℕ) → i < k → weight ≡ 2 ^ (k - 1 - i) → weight ≤ rest → Digits k i number cs rest
+    → Digits k (i + 1) number (set cs i true) (rest - weight)
 digit_set k i number cs rest weight below same enough d =
     let place : (k - 1 - i) + suc i ≡ k = omega arith in
     let exponent : k - (i + 1) ≡ k - 1 - i = omega arith in

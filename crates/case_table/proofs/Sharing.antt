@@ -58,14 +58,16 @@ common_first : (ns ms : List Need) → shared ns ms ≡ true → fits ns (common
 unfolding common
 common_first [] ms h = refl
 common_first (n ∷ ns) [] h = refl
-common_first (n ∷ ns) (m ∷ ms) h = and_from (fits_need n (wish n m)) (fits ns (common ns ms)) (wish_first n m (left_true (meets n m) (shared ns ms) h)) (common_first ns ms (right_true (meets n m) (shared ns ms) h))
+common_first (n ∷ ns) (m ∷ ms) h = and_from (fits_need n (wish n m)) (fits ns (common ns ms)) (wish_first n m
+    (left_true (meets n m) (shared ns ms) h)) (common_first ns ms (right_true (meets n m) (shared ns ms) h))
 
 common_second : (ns ms : List Need) → shared ns ms ≡ true → fits ms (common ns ms) ≡ true
 unfolding common
 common_second [] [] h = refl
 common_second [] (m ∷ ms) h = refl
 common_second (n ∷ ns) [] h = refl
-common_second (n ∷ ns) (m ∷ ms) h = and_from (fits_need m (wish n m)) (fits ms (common ns ms)) (wish_second n m (left_true (meets n m) (shared ns ms) h)) (common_second ns ms (right_true (meets n m) (shared ns ms) h))
+common_second (n ∷ ns) (m ∷ ms) h = and_from (fits_need m (wish n m)) (fits ms (common ns ms)) (wish_second n m
+    (left_true (meets n m) (shared ns ms) h)) (common_second ns ms (right_true (meets n m) (shared ns ms) h))
 
 one_meets : (n m : Need) (c : Bool) → fits_need n c ≡ true → fits_need m c ≡ true → meets n m ≡ true
 one_meets Yes Yes c h k = refl
@@ -88,7 +90,8 @@ fits_shared (n ∷ ns) (m ∷ ms) (c ∷ cs) same h k =
     (one_meets n m c (left_true (fits_need n c) (fits ns cs) h) (left_true (fits_need m c) (fits ms cs) k))
     (fits_shared ns ms cs (omega arith) (right_true (fits_need n c) (fits ns cs) h) (right_true (fits_need m c) (fits ms cs) k))
 
-pub overlap_yes : {k : ℕ} (rows : List (CaseRow k)) (i j : ℕ) (a b : CaseRow k) (r : Bool) → slice_get rows i ≡ Some a → slice_get rows j ≡ Some b → length a.needs ≡ k → length b.needs ≡ k → r ≡ shared a.needs b.needs → OnTrue r (Overlaps rows i j)
+pub overlap_yes : {k : ℕ} (rows : List (CaseRow k)) (i j : ℕ) (a b : CaseRow k) (r : Bool) → slice_get rows i ≡ Some a → slice_get rows j ≡ Some b
+    → length a.needs ≡ k → length b.needs ≡ k → r ≡ shared a.needs b.needs → OnTrue r (Overlaps rows i j)
 overlap_yes rows i j a b false x y whole_a whole_b e = tt
 overlap_yes {k} rows i j a b true x y whole_a whole_b e =
     record {
@@ -98,7 +101,8 @@ overlap_yes {k} rows i j a b true x y whole_a whole_b e =
       fits_second = ap (λ (o : Option (CaseRow k)). option_map_or (row_fits (common a.needs b.needs)) o false) y ∙ common_second a.needs b.needs (sym e);
     }
 
-pub overlap_no : {k : ℕ} (rows : List (CaseRow k)) (i j : ℕ) (a b : CaseRow k) (r : Bool) → slice_get rows i ≡ Some a → slice_get rows j ≡ Some b → length a.needs ≡ k → length b.needs ≡ k → r ≡ shared a.needs b.needs → OnFalse r (Overlaps rows i j → ⊥)
+pub overlap_no : {k : ℕ} (rows : List (CaseRow k)) (i j : ℕ) (a b : CaseRow k) (r : Bool) → slice_get rows i ≡ Some a → slice_get rows j ≡ Some b
+    → length a.needs ≡ k → length b.needs ≡ k → r ≡ shared a.needs b.needs → OnFalse r (Overlaps rows i j → ⊥)
 overlap_no rows i j a b true x y whole_a whole_b e = tt
 overlap_no {k} rows i j a b false x y whole_a whole_b e = λ o.
     let first : fits a.needs o.conditions ≡ true = sym (ap (λ (p : Option (CaseRow k)). option_map_or (row_fits o.conditions) p false) x) ∙ o.fits_first in

@@ -1,14 +1,14 @@
 -- A class is assigned to a claim that is neither completed nor deleting, names no volume, and may get one.
 use Rattle.std.proofs.Common.{◌≡◌, ◌∙◌, Bool, true, false, true≢false, List, Option, Some, None, refl, sym, if◌then◌else◌}
-use Rattle.kube_types.specs.declared.objects.Volume.{Volume as VolumeData}
-use Rattle.kube_types.specs.declared.objects.Claim.{Claim as ClaimData}
-use Rattle.kube_types.specs.declared.objects.Object.{Object}
+use Rattle.kube_objects.specs.declared.objects.Volume.{Volume as VolumeData}
+use Rattle.kube_objects.specs.declared.objects.Claim.{Claim as ClaimData}
+use Rattle.kube_objects.specs.declared.objects.Object.{Object}
 use Rattle.kube_types.specs.declared.lookup.Live.{Live}
 use Rattle.kube_types.specs.declared.lookup.Live.TheVariants.{NotAsked, Absent, Present}
-use Rattle.kube_types.specs.Bindings.{is_completed, is_deleting, is_empty, is_lost}
+use Rattle.kube_objects.specs.Bindings.{is_completed, is_deleting, is_empty, is_lost}
 use Rattle.binder_model.specs.Matching.{has_match}
 use Rattle.binder_model.specs.BinderDue.{has_other_uid}
-use Rattle.kube_types.specs.VolumeIndex.{as_volume}
+use Rattle.volume_index.specs.VolumeIndex.{as_volume}
 use Rattle.claim_sync.specs.declared.action.ClaimStep.TheVariants as steps
 use Rattle.claim_sync.specs.ClaimDecision.{claim_decision, completed_step, has_write, is_blocked, is_open_to, lacking_step, may_assign, named_step, named_volume, other_step, read_step, unless_lost}
 
@@ -68,7 +68,8 @@ unfolding claim_decision
 gets_class rows c live = by (is_completed c) (is_deleting c.meta) (is_empty c.volume_name) (has_match rows c) (may_assign rows c) refl refl refl refl
   where
     by : (done deleting empty matched assignable : Bool) → is_completed c ≡ done → is_deleting c.meta ≡ deleting → is_empty c.volume_name ≡ empty → may_assign rows c ≡ assignable
-        → (if done then (if empty then unless_lost c steps.Lost else completed_step c live (named_volume rows c)) else if deleting then steps.Nothing else if empty then (if matched then steps.Bind else if assignable then steps.AssignClass else steps.Nothing) else named_step c (named_volume rows c)) ≡ steps.AssignClass → GetsClass rows c
+        → (if done then (if empty then unless_lost c steps.Lost else completed_step c live (named_volume rows c)) else if deleting then steps.Nothing
+        else if empty then (if matched then steps.Bind else if assignable then steps.AssignClass else steps.Nothing) else named_step c (named_volume rows c)) ≡ steps.AssignClass → GetsClass rows c
     by true deleting true matched assignable d s n a e = absurd (lost_assigns_none (is_lost c.phase) e)
     by true deleting false matched assignable d s n a e = absurd (completed_assigns_none c live (named_volume rows c) e)
     by false true empty matched assignable d s n a e = cc

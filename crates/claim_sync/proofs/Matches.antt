@@ -2,15 +2,15 @@
 use Rattle.std.proofs.Common.{ℕ, zero, suc, ◌≡◌, ◌∙◌, Bool, true, false, true≢false, ◌&&◌, ◌||◌, List, [], ◌∷◌, length, Option, Some, None, is_some, slice_get, cond, refl, sym, ap}
 use Rattle.std.specs.List.{list_any}
 use Rattle.std.proofs.lemmas.Bool.{and_from}
-use Rattle.kube_types.specs.declared.parts.Kind.{Kind}
-use Rattle.kube_types.specs.declared.parts.Kind.TheVariants as kinds
-use Rattle.kube_types.specs.declared.objects.Claim.{Claim as ClaimData}
-use Rattle.kube_types.specs.declared.objects.Object.{Object}
-use Rattle.kube_types.specs.declared.objects.Object.TheVariants.{Class, Node, Volume, Claim, Pod}
-use Rattle.kube_types.specs.Keys.{AreRows, is_of_kind, rows_of}
-use Rattle.kube_types.specs.Bindings.{lacks_class}
+use Rattle.kube_parts.specs.declared.parts.Kind.{Kind}
+use Rattle.kube_parts.specs.declared.parts.Kind.TheVariants as kinds
+use Rattle.kube_objects.specs.declared.objects.Claim.{Claim as ClaimData}
+use Rattle.kube_objects.specs.declared.objects.Object.{Object}
+use Rattle.kube_objects.specs.declared.objects.Object.TheVariants.{Class, Node, Volume, Claim, Pod}
+use Rattle.kube_objects.specs.Keys.{AreRows, is_of_kind, rows_of}
+use Rattle.kube_objects.specs.Bindings.{lacks_class}
 use Rattle.kube_types.specs.Defaults.{IsDefaultPlace}
-use Rattle.kube_types.proofs.RowPlaces.{row_at_place}
+use Rattle.kube_objects.proofs.RowPlaces.{row_at_place}
 use Rattle.binder_model.specs.BinderDue.{is_default_row}
 use Rattle.claim_sync.specs.ClaimDecision.{may_assign}
 use Rattle.binder_model.specs.Matching.{IsBest, binder_takes, eligible, has_match, only_own_passes, waits_for_pod}
@@ -62,7 +62,8 @@ pub best_matches : (rows : List Object) (c : ClaimData) (answer : Option ℕ) �
 best_matches rows c (Some place) best =
     let k = best.candidate in
     let takes : binder_takes rows c (Volume best.volume) ≡ true = and_from (eligible best.volume c None) (only_own_passes (waits_for_pod rows c) best.volume c) k.eligible k.own in
-    sym (any_of_kind kinds.PersistentVolume (binder_takes rows c) (others_refused rows c) rows ∙ some_any (binder_takes rows c) (rows_of kinds.PersistentVolume rows) place (Volume best.volume) k.there takes)
+    sym (any_of_kind kinds.PersistentVolume (binder_takes rows c) (others_refused rows c) rows
+    ∙ some_any (binder_takes rows c) (rows_of kinds.PersistentVolume rows) place (Volume best.volume) k.there takes)
 best_matches rows c None best =
     sym (any_of_kind kinds.PersistentVolume (binder_takes rows c) (others_refused rows c) rows ∙ none_any (binder_takes rows c) (rows_of kinds.PersistentVolume rows) refused)
   where
@@ -107,7 +108,8 @@ none_of_none rows c lacks empty = assignable_is rows c false lacks (marked_rows 
     by (x ∷ xs) e = cc
 
 pub default_matches : (rows : List Object) (c : ClaimData) (answer : Option ℕ) → AreRows rows → lacks_class c ≡ true → IsDefaultPlace rows answer → is_some answer ≡ may_assign rows c
-default_matches rows c (Some place) order lacks default = sym (assignable_is rows c true lacks (marked_rows rows ∙ some_any is_default_row (rows_of kinds.StorageClass rows) place (Class default.class) default.at default.default.marked))
+default_matches rows c (Some place) order lacks default =
+    sym (assignable_is rows c true lacks (marked_rows rows ∙ some_any is_default_row (rows_of kinds.StorageClass rows) place (Class default.class) default.at default.default.marked))
 default_matches rows c None order lacks default = sym (assignable_is rows c false lacks (marked_rows rows ∙ none_any is_default_row (rows_of kinds.StorageClass rows) refused))
   where
     refused : (i : ℕ) (o : Object) → slice_get (rows_of kinds.StorageClass rows) i ≡ Some o → is_default_row o ≡ true → ⊥

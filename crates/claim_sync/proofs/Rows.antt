@@ -6,7 +6,8 @@ use Rattle.claim_sync.specs.declared.action.ClaimStep.{ClaimStep}
 use Rattle.claim_sync.specs.declared.action.ClaimStep.TheVariants as steps
 use Rattle.claim_sync.specs.ClaimTable.{claim_rows, completed_rows, step_number, unbound_rows}
 
-one_row : (completed deleting named matched assignable lost seen asked blocked takable other writing : Bool) → count_by (row_fits (completed ∷ deleting ∷ named ∷ matched ∷ assignable ∷ lost ∷ seen ∷ asked ∷ blocked ∷ takable ∷ other ∷ writing ∷ [])) claim_rows ≡ 1
+one_row : (completed deleting named matched assignable lost seen asked blocked takable other writing : Bool)
+    → count_by (row_fits (completed ∷ deleting ∷ named ∷ matched ∷ assignable ∷ lost ∷ seen ∷ asked ∷ blocked ∷ takable ∷ other ∷ writing ∷ [])) claim_rows ≡ 1
 unfolding claim_rows unbound_rows completed_rows
 one_row false true named matched assignable lost seen asked blocked takable other writing = refl
 one_row false false false true assignable lost seen asked blocked takable other writing = refl
@@ -45,7 +46,9 @@ chosen completed deleting named matched assignable lost seen asked blocked takab
     else if blocked then steps.Nothing
     else if takable then steps.Bind else steps.Nothing
 
-pub rows_say : (completed deleting named matched assignable lost seen asked blocked takable other writing : Bool) → action_of claim_rows (completed ∷ deleting ∷ named ∷ matched ∷ assignable ∷ lost ∷ seen ∷ asked ∷ blocked ∷ takable ∷ other ∷ writing ∷ []) ≡ step_number (chosen completed deleting named matched assignable lost seen asked blocked takable other writing)
+pub rows_say : (completed deleting named matched assignable lost seen asked blocked takable other writing : Bool)
+    → action_of claim_rows (completed ∷ deleting ∷ named ∷ matched ∷ assignable ∷ lost ∷ seen ∷ asked ∷ blocked ∷ takable ∷ other ∷ writing ∷ []) ≡
+    step_number (chosen completed deleting named matched assignable lost seen asked blocked takable other writing)
 unfolding claim_rows unbound_rows completed_rows
 rows_say false true named matched assignable lost seen asked blocked takable other writing = refl
 rows_say false false false true assignable lost seen asked blocked takable other writing = refl

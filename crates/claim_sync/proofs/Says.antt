@@ -1,18 +1,18 @@
 -- The table picks the decision, and what is bound is a volume that is seen.
 use Rattle.std.proofs.Common.{ℕ, ◌≡◌, ◌∙◌, Bool, true, false, not, ◌&&◌, List, Option, Some, None, is_some, refl, sym, ap, if◌then◌else◌}
-use Rattle.kube_types.specs.declared.objects.Volume.{Volume as VolumeData}
-use Rattle.kube_types.specs.declared.objects.Claim.{Claim as ClaimData}
-use Rattle.kube_types.specs.declared.objects.Object.{Object}
-use Rattle.kube_types.specs.declared.objects.Object.TheVariants.{Volume}
+use Rattle.kube_objects.specs.declared.objects.Volume.{Volume as VolumeData}
+use Rattle.kube_objects.specs.declared.objects.Claim.{Claim as ClaimData}
+use Rattle.kube_objects.specs.declared.objects.Object.{Object}
+use Rattle.kube_objects.specs.declared.objects.Object.TheVariants.{Volume}
 use Rattle.kube_types.specs.declared.lookup.Live.{Live}
 use Rattle.kube_types.specs.declared.lookup.Live.TheVariants.{NotAsked, Absent, Present}
-use Rattle.kube_types.specs.Keys.{row_at}
-use Rattle.kube_types.specs.Bindings.{is_completed, is_deleting, is_empty, is_lost}
+use Rattle.kube_objects.specs.Keys.{row_at}
+use Rattle.kube_objects.specs.Bindings.{is_completed, is_deleting, is_empty, is_lost}
 use Rattle.kube_types.specs.Lookups.{is_asked, is_present}
 use Rattle.binder_model.specs.Matching.{has_match}
 use Rattle.binder_model.specs.ObjectKeys.{volume_key}
 use Rattle.binder_model.specs.BinderDue.{has_other_uid}
-use Rattle.kube_types.specs.VolumeIndex.{as_volume}
+use Rattle.volume_index.specs.VolumeIndex.{as_volume}
 use Rattle.case_table.specs.declared.rows.CaseRow.{CaseRow}
 use Rattle.case_table.specs.Cases.{action_of}
 use Rattle.claim_sync.specs.declared.action.ClaimStep.{ClaimStep}
@@ -32,7 +32,9 @@ numbered_back steps.Lost = refl
 
 -- what is chosen on the conditions, with the texts of the claim laid open
 abbrev chosen_on : ClaimData → Bool → Bool → Bool → Bool → Bool → Bool → Bool → Option VolumeData → ClaimStep
-chosen_on c done deleting empty matched assignable asked bindable v = chosen done deleting (not empty) matched assignable (is_lost c.phase) (is_some v) asked (on_volume is_blocked v) (on_volume (λ u. is_open_to u c) v) (on_volume (λ u. has_other_uid u c) v) (on_volume (λ u. bindable && has_write u c) v)
+chosen_on c done deleting empty matched assignable asked bindable v =
+    chosen done deleting (not empty) matched assignable (is_lost c.phase) (is_some v) asked (on_volume is_blocked v)
+    (on_volume (λ u. is_open_to u c) v) (on_volume (λ u. has_other_uid u c) v) (on_volume (λ u. bindable && has_write u c) v)
 
 -- the decision, with the texts of the claim laid open
 abbrev decided : ClaimData → Bool → Bool → Bool → Bool → Bool → Live → Option VolumeData → ClaimStep
@@ -52,7 +54,8 @@ chosen_by c done deleting empty matched assignable live v =
     if done && (is_present live && lacks_claim c v) then chosen_on c done deleting empty matched assignable true false (live_volume live)
     else chosen_on c done deleting empty matched assignable (is_asked live) true v
 
-by_other : (c : ClaimData) (deleting matched assignable : Bool) (live : Live) (v : VolumeData) (other : Bool) → has_other_uid v c ≡ other → chosen_by c true deleting false matched assignable live (Some v) ≡ completed_step c live (Some v)
+by_other : (c : ClaimData) (deleting matched assignable : Bool) (live : Live) (v : VolumeData) (other : Bool) → has_other_uid v c ≡ other
+    → chosen_by c true deleting false matched assignable live (Some v) ≡ completed_step c live (Some v)
 by_other c deleting matched assignable NotAsked v other e = refl
 by_other c deleting matched assignable Absent v other e = refl
 by_other c deleting matched assignable (Present o) v true e = rw e (chosen_read c deleting matched assignable (as_volume (Some o.now)))
@@ -64,11 +67,14 @@ chosen_completed c deleting matched assignable Absent None = refl
 chosen_completed c deleting matched assignable (Present o) None = chosen_read c deleting matched assignable (as_volume (Some o.now))
 chosen_completed c deleting matched assignable live (Some v) = by_other c deleting matched assignable live v (has_other_uid v c) refl
 
-nameless : (c : ClaimData) (deleting matched assignable : Bool) (live : Live) (v : Option VolumeData) (b : Bool) → (if b then chosen_on c true deleting true matched assignable true false (live_volume live) else chosen_on c true deleting true matched assignable (is_asked live) true v) ≡ unless_lost c steps.Lost
+nameless : (c : ClaimData) (deleting matched assignable : Bool) (live : Live) (v : Option VolumeData) (b : Bool)
+    → (if b then chosen_on c true deleting true matched assignable true false
+    (live_volume live) else chosen_on c true deleting true matched assignable (is_asked live) true v) ≡ unless_lost c steps.Lost
 nameless c deleting matched assignable live v true = refl
 nameless c deleting matched assignable live v false = refl
 
-chosen_is : (c : ClaimData) (done deleting empty matched assignable : Bool) (live : Live) (v : Option VolumeData) → chosen_by c done deleting empty (empty && matched) assignable live v ≡ decided c done deleting empty matched assignable live v
+chosen_is : (c : ClaimData) (done deleting empty matched assignable : Bool) (live : Live) (v : Option VolumeData)
+    → chosen_by c done deleting empty (empty && matched) assignable live v ≡ decided c done deleting empty matched assignable live v
 chosen_is c true deleting true matched assignable live v = nameless c deleting matched assignable live v _
 chosen_is c true deleting false matched assignable live v = chosen_completed c deleting false assignable live v
 chosen_is c false true empty matched assignable live v = refl
@@ -76,20 +82,30 @@ chosen_is c false false true matched assignable live v = refl
 chosen_is c false false false matched assignable live None = refl
 chosen_is c false false false matched assignable live (Some v) = refl
 
-said : (c : ClaimData) (matched assignable asked bindable : Bool) (v : Option VolumeData) → action_of claim_rows (conditions_on c matched assignable asked bindable v) ≡ step_number (chosen_on c (is_completed c) (is_deleting c.meta) (is_empty c.volume_name) matched assignable asked bindable v)
+said : (c : ClaimData) (matched assignable asked bindable : Bool) (v : Option VolumeData)
+    → action_of claim_rows (conditions_on c matched assignable asked bindable v) ≡ step_number
+    (chosen_on c (is_completed c) (is_deleting c.meta) (is_empty c.volume_name) matched assignable asked bindable v)
 unfolding conditions_on
-said c matched assignable asked bindable v = rows_say (is_completed c) (is_deleting c.meta) (not (is_empty c.volume_name)) matched assignable (is_lost c.phase) (is_some v) asked (on_volume is_blocked v) (on_volume (λ u. is_open_to u c) v) (on_volume (λ u. has_other_uid u c) v) (on_volume (λ u. bindable && has_write u c) v)
+said c matched assignable asked bindable v =
+    rows_say (is_completed c) (is_deleting c.meta) (not (is_empty c.volume_name)) matched assignable (is_lost c.phase) (is_some v) asked
+    (on_volume is_blocked v) (on_volume (λ u. is_open_to u c) v) (on_volume (λ u. has_other_uid u c) v) (on_volume (λ u. bindable && has_write u c) v)
 
 pub picks : (rows : List Object) (c : ClaimData) (live : Live) → action_of claim_rows (claim_conditions rows c live) ≡ step_number (claim_decision rows c live)
 unfolding claim_conditions claim_decision
-picks rows c live = by (reads_live c live (named_volume rows c)) ∙ ap step_number (chosen_is c (is_completed c) (is_deleting c.meta) (is_empty c.volume_name) (has_match rows c) (may_assign rows c) live (named_volume rows c))
+picks rows c live = by (reads_live c live (named_volume rows c))
+    ∙ ap step_number (chosen_is c (is_completed c) (is_deleting c.meta) (is_empty c.volume_name) (has_match rows c) (may_assign rows c) live (named_volume rows c))
   where
-    by : (b : Bool) → action_of claim_rows (if b then conditions_on c (has_best rows c) (may_assign rows c) true false (live_volume live) else conditions_on c (has_best rows c) (may_assign rows c) (is_asked live) true (named_volume rows c)) ≡ step_number (if b then chosen_on c (is_completed c) (is_deleting c.meta) (is_empty c.volume_name) (has_best rows c) (may_assign rows c) true false (live_volume live) else chosen_on c (is_completed c) (is_deleting c.meta) (is_empty c.volume_name) (has_best rows c) (may_assign rows c) (is_asked live) true (named_volume rows c))
+    by : (b : Bool) → action_of claim_rows (if b then conditions_on c (has_best rows c) (may_assign rows c) true false (live_volume live) else
+        conditions_on c (has_best rows c) (may_assign rows c) (is_asked live) true (named_volume rows c)) ≡ step_number
+        (if b then chosen_on c (is_completed c) (is_deleting c.meta) (is_empty c.volume_name) (has_best rows c) (may_assign rows c) true false
+        (live_volume live) else chosen_on c (is_completed c) (is_deleting c.meta) (is_empty c.volume_name) (has_best rows c) (may_assign rows c) (is_asked live) true (named_volume rows c))
     by true = said c (has_best rows c) (may_assign rows c) true false (live_volume live)
     by false = said c (has_best rows c) (may_assign rows c) (is_asked live) true (named_volume rows c)
 
 -- the conditions that the code finds, on the volume that was read by itself and on the look-up's
-module _ (rows : List Object) (c : ClaimData) (live : Live) (named volume : Option VolumeData) (read matched assignable asked : Bool) (conditions : List Bool) (named_is : named ≡ named_volume rows c) (read_is : read ≡ reads_live c live named) (matched_is : matched ≡ has_best rows c) (assignable_is : assignable ≡ may_assign rows c) where
+module _ (rows : List Object) (c : ClaimData) (live : Live) (named volume : Option VolumeData) (read matched assignable asked : Bool)
+    (conditions : List Bool) (named_is : named ≡ named_volume rows c) (read_is : read ≡ reads_live c live named)
+    (matched_is : matched ≡ has_best rows c) (assignable_is : assignable ≡ may_assign rows c) where
   reads_is : (b : Bool) → read ≡ b → reads_live c live (named_volume rows c) ≡ b
   reads_is b reads = sym (ap (λ (v : Option VolumeData). reads_live c live v) named_is) ∙ (sym read_is ∙ reads)
 
@@ -104,10 +120,13 @@ module _ (rows : List Object) (c : ClaimData) (live : Live) (named volume : Opti
   pub found_shown : read ≡ false → asked ≡ is_asked live → conditions ≡ conditions_on c matched assignable asked true named → conditions ≡ claim_conditions rows c live
   unfolding claim_conditions
   found_shown reads asked_is found =
-      rw (reads_is false reads) (found ∙ (chances asked true named ∙ (ap (λ (a : Bool). conditions_on c (has_best rows c) (may_assign rows c) a true named) asked_is ∙ ap (λ (v : Option VolumeData). conditions_on c (has_best rows c) (may_assign rows c) (is_asked live) true v) named_is)))
+      rw (reads_is false reads) (found ∙
+      (chances asked true named ∙ (ap (λ (a : Bool). conditions_on c (has_best rows c) (may_assign rows c) a true named) asked_is ∙ ap
+      (λ (v : Option VolumeData). conditions_on c (has_best rows c) (may_assign rows c) (is_asked live) true v) named_is)))
 
 -- what the code reads off the table is the decision
-pub read_off : (rows : List Object) (c : ClaimData) (live : Live) (table : List (CaseRow 12)) (conditions : List Bool) (number : ℕ) (answer : ClaimStep) → table ≡ claim_rows → conditions ≡ claim_conditions rows c live → number ≡ action_of table conditions → answer ≡ step_numbered number → answer ≡ claim_decision rows c live
+pub read_off : (rows : List Object) (c : ClaimData) (live : Live) (table : List (CaseRow 12)) (conditions : List Bool) (number : ℕ)
+    (answer : ClaimStep) → table ≡ claim_rows → conditions ≡ claim_conditions rows c live → number ≡ action_of table conditions → answer ≡ step_numbered number → answer ≡ claim_decision rows c live
 read_off rows c live table conditions number answer rows_are conditions_are picked numbered =
     numbered
     ∙ (ap step_numbered picked
@@ -173,7 +192,8 @@ seen rows c live row e = by (as_volume row) refl e
     by (Some v) is e = (v, volume_seen row v is)
 
 -- a volume stands at the place of what is to be bound
-pub bound_there : (rows : List Object) (c : ClaimData) (live : Live) (place : ℕ) → IsVolumeFor (is_empty c.volume_name) rows c (Some place) → claim_decision rows c live ≡ steps.Bind → IsVolumeAt rows place
+pub bound_there : (rows : List Object) (c : ClaimData) (live : Live) (place : ℕ) → IsVolumeFor (is_empty c.volume_name) rows c (Some place)
+    → claim_decision rows c live ≡ steps.Bind → IsVolumeAt rows place
 unfolding claim_decision
 bound_there rows c live place choice e = by (is_empty c.volume_name) choice e
   where
@@ -187,5 +207,7 @@ unfolding claim_decision
 no_choice rows c live choice e = by (is_empty c.volume_name) choice e
   where
     by : (empty : Bool) → IsVolumeFor empty rows c None → decided_for rows c live empty (named_volume rows c) ≡ steps.Bind → ⊥
-    by true choice e = let match = matched_binds c (is_completed c) (is_deleting c.meta) (has_match rows c) (may_assign rows c) live (named_volume rows c) e in let none = best_matches rows c None choice in cc
-    by false choice e = unseen_binds_none c (is_completed c) (is_deleting c.meta) (has_match rows c) (may_assign rows c) live (ap (λ (o : Option Object). decided_for rows c live false (as_volume o)) (sym choice) ∙ e)
+    by true choice e = let match = matched_binds c (is_completed c) (is_deleting c.meta) (has_match rows c) (may_assign rows c) live (named_volume
+        rows c) e in let none = best_matches rows c None choice in cc
+    by false choice e = unseen_binds_none c (is_completed c) (is_deleting c.meta) (has_match rows c) (may_assign rows c) live
+        (ap (λ (o : Option Object). decided_for rows c live false (as_volume o)) (sym choice) ∙ e)

@@ -5,21 +5,21 @@
 -- assigned, are choices of this project.
 use Rattle.std.specs.Prelude.{ℕ, ◌≡◌, ⊤, Bool, true, false, not, ◌&&◌, ◌||◌, List, [], Option, Some, None, is_none, is_some, slice_get, if◌then◌else◌}
 use Rattle.std.specs.List.{list_any}
-use Rattle.kube_types.specs.declared.parts.Kind.TheVariants as kinds
-use Rattle.kube_types.specs.declared.objects.Volume.{Volume as VolumeData}
-use Rattle.kube_types.specs.declared.objects.Claim.{Claim as ClaimData}
-use Rattle.kube_types.specs.declared.objects.Object.{Object}
-use Rattle.kube_types.specs.declared.objects.Object.TheVariants.{Volume}
+use Rattle.kube_parts.specs.declared.parts.Kind.TheVariants as kinds
+use Rattle.kube_objects.specs.declared.objects.Volume.{Volume as VolumeData}
+use Rattle.kube_objects.specs.declared.objects.Claim.{Claim as ClaimData}
+use Rattle.kube_objects.specs.declared.objects.Object.{Object}
+use Rattle.kube_objects.specs.declared.objects.Object.TheVariants.{Volume}
 use Rattle.kube_types.specs.declared.lookup.Live.{Live}
 use Rattle.kube_types.specs.declared.lookup.Live.TheVariants.{NotAsked, Absent, Present}
-use Rattle.kube_types.specs.Keys.{row_at, rows_of}
+use Rattle.kube_objects.specs.Keys.{row_at, rows_of}
 use Rattle.kube_types.specs.Defaults.{IsDefaultAt}
-use Rattle.kube_types.specs.Bindings.{carries, is_completed, is_deleting, is_empty, is_for, is_lost, is_protected_volume, is_ended, lacks_class}
+use Rattle.kube_objects.specs.Bindings.{carries, is_completed, is_deleting, is_empty, is_for, is_lost, is_protected_volume, is_ended, lacks_class}
 use Rattle.binder_model.specs.Matching.{IsBest, fits, has_match, waits_for_pod}
 use Rattle.binder_model.specs.ObjectKeys.{volume_key}
 use Rattle.binder_model.specs.BindWrites.{next_write}
 use Rattle.binder_model.specs.BinderDue.{has_other_uid, is_default_row}
-use Rattle.kube_types.specs.VolumeIndex.{as_volume}
+use Rattle.volume_index.specs.VolumeIndex.{as_volume}
 use Rattle.claim_sync.specs.declared.action.ClaimAction.{ClaimAction}
 use Rattle.claim_sync.specs.declared.action.ClaimAction.TheVariants as actions
 use Rattle.claim_sync.specs.declared.action.ClaimStep.{ClaimStep}

@@ -1,9 +1,9 @@
 -- Where the look-up and each read see the store itself, the decision on a claim is what is due for it. A choice of this project.
 use Rattle.std.specs.Prelude.{◌≡◌, true, List, Option, Some, None}
-use Rattle.kube_types.specs.declared.names.Due.{Due}
-use Rattle.kube_types.specs.declared.names.Due.TheVariants as dues
-use Rattle.kube_types.specs.declared.objects.Claim.{Claim as ClaimData}
-use Rattle.kube_types.specs.declared.objects.Object.{Object}
+use Rattle.kube_parts.specs.declared.names.Due.{Due}
+use Rattle.kube_parts.specs.declared.names.Due.TheVariants as dues
+use Rattle.kube_objects.specs.declared.objects.Claim.{Claim as ClaimData}
+use Rattle.kube_objects.specs.declared.objects.Object.{Object}
 use Rattle.kube_types.specs.declared.lookup.Live.{Live}
 use Rattle.binder_model.specs.BinderDue.{claim_due}
 use Rattle.claim_sync.specs.declared.action.ClaimStep.{ClaimStep}

@@ -1,7 +1,7 @@
 -- The table of the decisions on a claim. Source: `syncUnboundClaim` and `syncBoundClaim` of `pv_controller.go`.
 use Rattle.std.specs.Prelude.{ℕ, ◌≡◌, ◌==◌, if◌then◌else◌, List, [], ◌∷◌, ◌++◌}
-use Rattle.kube_types.specs.declared.objects.Claim.{Claim as ClaimData}
-use Rattle.kube_types.specs.declared.objects.Object.{Object}
+use Rattle.kube_objects.specs.declared.objects.Claim.{Claim as ClaimData}
+use Rattle.kube_objects.specs.declared.objects.Object.{Object}
 use Rattle.kube_types.specs.declared.lookup.Live.{Live}
 use Rattle.case_table.specs.declared.rows.Need.{Need}
 use Rattle.case_table.specs.declared.rows.Need.TheVariants.{Yes, No, Any}

@@ -1,7 +1,7 @@
 //! The decision on a claim.
 
 ghost use Rattle.std.specs.Prelude.{◌≡◌, ◌&&◌, is_some};
-ghost use Rattle.kube_types.specs.Bindings.{is_empty};
+ghost use Rattle.kube_objects.specs.Bindings.{is_empty};
 ghost use Rattle.claim_sync.specs.ClaimDecision.{AssignsClass, BindsTo, BindsVolume, claim_decision, may_assign, step_of};
 ghost use Rattle.claim_sync.specs.Conditions.{has_best};
 

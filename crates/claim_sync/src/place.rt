@@ -1,7 +1,7 @@
 //! The places of the volume to be bound and of the class to be assigned.
 
 ghost use Rattle.std.specs.Prelude.{◌≡◌, IfSome, None, [], is_some};
-ghost use Rattle.kube_types.specs.Bindings.{is_empty};
+ghost use Rattle.kube_objects.specs.Bindings.{is_empty};
 ghost use Rattle.kube_types.specs.Defaults.{IsDefaultAt};
 ghost use Rattle.binder_model.specs.Matching.{IsBest, waits_for_pod};
 ghost use Rattle.claim_sync.specs.ClaimDecision.{IsVolumeFor, may_assign};

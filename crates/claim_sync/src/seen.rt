@@ -2,7 +2,7 @@
 
 ghost use Rattle.std.specs.Prelude.{◌≡◌};
 ghost use Rattle.std.specs.Option.{option_copied};
-ghost use Rattle.kube_types.specs.VolumeIndex.{as_volume};
+ghost use Rattle.volume_index.specs.VolumeIndex.{as_volume};
 ghost use Rattle.binder_model.specs.BinderDue.{has_other_uid};
 ghost use Rattle.claim_sync.specs.ClaimDecision.{named_volume};
 ghost use Rattle.claim_sync.specs.Conditions.{lacks_claim, live_volume, reads_live};

@@ -23,7 +23,8 @@ module _ (l : Command) (words : List Text) (built : app_of l ≡ line) where
   parsed m h k =
       let none : fault_of line words ≡ [] = ap (λ a. fault_of a words) (sym built) ∙ k (ap is_simple_and_free built) in
       let rows : rows_of (found_of m) ≡ matches_of line words = (h (ap is_simple built)).0 ∙ ap (λ a. matches_of a words) built in
-      let same : words_by (λ id. first_of id (matches_of line words)) ≡ words_by (first_value (found_of m)) = ap words_by (λ i id. (ap (first_of id) (sym rows) ∙ sym (first_value-rows (found_of m) id)) i) in
+      let same : words_by (λ id. first_of id (matches_of line words)) ≡ words_by (first_value (found_of m)) =
+      ap words_by (λ i id. (ap (first_of id) (sym rows) ∙ sym (first_value-rows (found_of m) id)) i) in
       parse_ok words none ∙ same
 
   pub refused : (e : Error) → (is_simple_and_free (app_of l) ≡ true → HasKind (fault_of (app_of l) words) e) → (kind_of e ≡ kind.OutOfMemory → ⊥) → Matches words (Err Usage)

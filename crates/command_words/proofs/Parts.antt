@@ -1,5 +1,38 @@
 -- The parts of a line, as rows that are added one after the other.
-use Rattle.std.proofs.Common.{◌≡◌, ◌∙◌, ◌&&◌, ◌||◌, ◌⊎◌, inl, inr, ℕ, Bool, cond, codes, true, false, not, refl, sym, ap, ap₂, subst, List, [], ◌∷◌, ◌++◌, map, Option, Some, None, true≢false, option_map, append_assoc, if◌then◌else◌, ◌==◌}
+use Rattle.std.proofs.Common.{
+  ◌≡◌,
+  ◌∙◌,
+  ◌&&◌,
+  ◌||◌,
+  ◌⊎◌,
+  inl,
+  inr,
+  ℕ,
+  Bool,
+  cond,
+  codes,
+  true,
+  false,
+  not,
+  refl,
+  sym,
+  ap,
+  ap₂,
+  subst,
+  List,
+  [],
+  ◌∷◌,
+  ◌++◌,
+  map,
+  Option,
+  Some,
+  None,
+  true≢false,
+  option_map,
+  append_assoc,
+  if◌then◌else◌,
+  ◌==◌,
+}
 use Rattle.std.specs.List.{find, list_all, list_any}
 use Rattle.std.specs.Prelude.{option_and_then}
 use Rattle.std.specs.Str.{bytes_eq}
@@ -57,7 +90,8 @@ shuffle true false false l = refl
 shuffle false true h l = refl
 shuffle false false h l = refl
 
-free_more : (taken : List Row) (p : Part) (parts : List Part) → list_all (λ q. not (has_row q.0 (taken ++ row p ∷ []))) parts ≡ (not (has_part p.0 parts) && list_all (λ q. not (has_row q.0 taken)) parts)
+free_more : (taken : List Row) (p : Part) (parts : List Part)
+    → list_all (λ q. not (has_row q.0 (taken ++ row p ∷ []))) parts ≡ (not (has_part p.0 parts) && list_all (λ q. not (has_row q.0 taken)) parts)
 free_more taken p [] = refl
 free_more taken p (q ∷ rest) =
     ap₂ (λ a b. not a && b) (has_more taken p q.0) (free_more taken p rest)
@@ -77,7 +111,8 @@ pub take_part : (taken : List Row) (name text : Text) (o : Option (List Part)) �
 take_part taken name text None = sym (one_none (has_row name taken))
 take_part taken name text (Some parts) =
     pick (has_part name parts) (each_once parts) (has_row name taken) (list_all (λ q. not (has_row q.0 taken)) parts) (reads (taken ++ row (name, text) ∷ map row parts))
-    ∙ ap₂ (λ free rows. cond (has_row name taken) None (cond (each_once parts && free) (reads rows) None)) (sym (free_more taken (name, text) parts)) (sym (append_assoc taken (row (name, text) ∷ []) (map row parts)))
+    ∙ ap₂ (λ free rows. cond (has_row name taken) None (cond (each_once parts && free) (reads rows) None)) (sym (free_more taken (name, text) parts))
+    (sym (append_assoc taken (row (name, text) ∷ []) (map row parts)))
 
 -- ---- a text that begins with a hyphen is neither a command nor a number
 
@@ -114,7 +149,8 @@ no_number least most (x ∷ xs) e = subst (λ y. number_between least most (Some
 
 pub is_one_of : (name : Text) → is_option name ≡ true
     → (codes "workers" ≡ name) ⊎ ((codes "seed" ≡ name) ⊎ ((codes "calls" ≡ name) ⊎ (codes "budget" ≡ name)))
-is_one_of name e = go (bytes_eq (codes "workers") name) (bytes_eq (codes "seed") name) (bytes_eq (codes "calls") name) (bytes_eq (codes "budget") name) (same_text _ _) (same_text _ _) (same_text _ _) (same_text _ _) e
+is_one_of name e = go (bytes_eq (codes "workers") name) (bytes_eq (codes "seed") name) (bytes_eq (codes "calls") name)
+    (bytes_eq (codes "budget") name) (same_text _ _) (same_text _ _) (same_text _ _) (same_text _ _) e
   where
     go : (a b c d : Bool) → (a ≡ true → codes "workers" ≡ name) → (b ≡ true → codes "seed" ≡ name) → (c ≡ true → codes "calls" ≡ name) → (d ≡ true → codes "budget" ≡ name)
         → (a || (b || (c || d))) ≡ true → (codes "workers" ≡ name) ⊎ ((codes "seed" ≡ name) ⊎ ((codes "calls" ≡ name) ⊎ (codes "budget" ≡ name)))
@@ -171,12 +207,15 @@ module _ (given : Text → Option Text) (word : Text) (hyphened : hyphen word �
         (ap (number_between 1 4) (ap given h ∙ e) ∙ no_number 1 4 word hyphened)) refl
     | inr r ↦ elim r [
       | inl h ↦ without _ (ap (λ o. options_from (number_of 1 4 (codes "workers")) o (number_of 0 1000 (codes "calls")) (number_of 0 999999999 (codes "budget")))
-          (ap (number_between 0 999999999) (ap given h ∙ e) ∙ no_number 0 999999999 word hyphened)) (no_seed (number_of 1 4 (codes "workers")) (number_of 0 1000 (codes "calls")) (number_of 0 999999999 (codes "budget")))
+          (ap (number_between 0 999999999) (ap given h ∙ e) ∙ no_number 0 999999999 word hyphened))
+          (no_seed (number_of 1 4 (codes "workers")) (number_of 0 1000 (codes "calls")) (number_of 0 999999999 (codes "budget")))
       | inr s ↦ elim s [
         | inl h ↦ without _ (ap (λ o. options_from (number_of 1 4 (codes "workers")) (number_of 0 999999999 (codes "seed")) o (number_of 0 999999999 (codes "budget")))
-            (ap (number_between 0 1000) (ap given h ∙ e) ∙ no_number 0 1000 word hyphened)) (no_calls (number_of 1 4 (codes "workers")) (number_of 0 999999999 (codes "seed")) (number_of 0 999999999 (codes "budget")))
+            (ap (number_between 0 1000) (ap given h ∙ e) ∙ no_number 0 1000 word hyphened))
+            (no_calls (number_of 1 4 (codes "workers")) (number_of 0 999999999 (codes "seed")) (number_of 0 999999999 (codes "budget")))
         | inr h ↦ without _ (ap (λ o. options_from (number_of 1 4 (codes "workers")) (number_of 0 999999999 (codes "seed")) (number_of 0 1000 (codes "calls")) o)
-            (ap (number_between 0 999999999) (ap given h ∙ e) ∙ no_number 0 999999999 word hyphened)) (no_budget (number_of 1 4 (codes "workers")) (number_of 0 999999999 (codes "seed")) (number_of 0 1000 (codes "calls")))
+            (ap (number_between 0 999999999) (ap given h ∙ e) ∙ no_number 0 999999999 word hyphened))
+            (no_budget (number_of 1 4 (codes "workers")) (number_of 0 999999999 (codes "seed")) (number_of 0 1000 (codes "calls")))
       ]
     ]
   ]
@@ -223,7 +262,9 @@ first_is : (parts : List Part) (id : Text) → first_of id (map row parts) ≡ p
 first_is [] id = refl
 first_is (p ∷ rest) id = go (bytes_eq p.0 id) (first_is rest id)
   where
-    go : (b : Bool) → first_of id (map row rest) ≡ part_text rest id → option_and_then (λ (r : Row). Rattle.std.specs.Prelude.slice_get r.values 0) (cond b (Some (row p)) (find (λ r. bytes_eq r.id id) (map row rest))) ≡ option_map (λ q. q.1) (cond b (Some p) (find (λ q. bytes_eq q.0 id) rest))
+    go : (b : Bool) → first_of id (map row rest) ≡ part_text rest id
+        → option_and_then (λ (r : Row). Rattle.std.specs.Prelude.slice_get r.values 0)
+        (cond b (Some (row p)) (find (λ r. bytes_eq r.id id) (map row rest))) ≡ option_map (λ q. q.1) (cond b (Some p) (find (λ q. bytes_eq q.0 id) rest))
     go true later = refl
     go false later = later
 

@@ -39,7 +39,8 @@ or_default least most default text (Some n) h low high = given_in_range least mo
 
 options_in_range : (given : Text → Option Text) (options : Options) → options_by given ≡ Some options → AreInRange options
 options_in_range given options h =
-    by (number_between 1 4 (given (codes "workers"))) refl (number_between 0 999999999 (given (codes "seed"))) (number_between 0 1000 (given (codes "calls"))) refl (number_between 0 999999999 (given (codes "budget"))) h
+    by (number_between 1 4 (given (codes "workers"))) refl (number_between 0 999999999 (given (codes "seed")))
+    (number_between 0 1000 (given (codes "calls"))) refl (number_between 0 999999999 (given (codes "budget"))) h
   where
     by : (w : Option (Option ℕ)) → number_between 1 4 (given (codes "workers")) ≡ w → (s c : Option (Option ℕ)) → number_between 0 1000 (given (codes "calls")) ≡ c → (b : Option (Option ℕ))
         → option_and_then (λ workers. option_and_then (λ seed. option_and_then (λ calls. option_map (λ budget. record {

@@ -1,15 +1,105 @@
 -- What `clap` makes of the words, word by word: the parts of the grammar.
-use Rattle.std.proofs.Common.{◌≡◌, ◌∙◌, ◌&&◌, ◌||◌, inl, inr, ℕ, Bool, cond, codes, true, false, not, refl, sym, ap, ap₂, subst, List, [], ◌∷◌, ◌++◌, length, Option, Some, None, is_some, true≢false, append-nil}
+use Rattle.std.proofs.Common.{
+  ◌≡◌,
+  ◌∙◌,
+  ◌&&◌,
+  ◌||◌,
+  inl,
+  inr,
+  ℕ,
+  Bool,
+  cond,
+  codes,
+  true,
+  false,
+  not,
+  refl,
+  sym,
+  ap,
+  ap₂,
+  subst,
+  List,
+  [],
+  ◌∷◌,
+  ◌++◌,
+  length,
+  Option,
+  Some,
+  None,
+  is_some,
+  true≢false,
+  append-nil,
+}
 use Rattle.std.specs.List.{find, fold, list_all, list_any}
 use Rattle.std.specs.Option.{option_map_or}
 use Rattle.std.specs.Prelude.{slice_get}
 use Rattle.std.specs.Str.{bytes_eq, chars}
 use Rattle.std.proofs.lemmas.Bool.{not-true}
 use Rattle.clap.specs.Lexer.{long_of, short_of}
-use Rattle.clap.specs.Walk.{Held, Row, Rule, Step, Waiting, Walk, after_flag, after_step, arg_by_id, arg_by_index, arg_by_long, at_row, bundle, bundle_met, done, finished, has_row, idle, is_pending, long_met, long_or_other, long_word, more_values, nothing_held, option, option_word, plain_word, pushed, refused, settled, settled_rows, short_or_plain, takes_several, trailing, used, used_by_id, value, walk, walk_from, walked, with_default, without}
+use Rattle.clap.specs.Walk.{
+  Held,
+  Row,
+  Rule,
+  Step,
+  Waiting,
+  Walk,
+  after_flag,
+  after_step,
+  arg_by_id,
+  arg_by_index,
+  arg_by_long,
+  at_row,
+  bundle,
+  bundle_met,
+  done,
+  finished,
+  has_row,
+  idle,
+  is_pending,
+  long_met,
+  long_or_other,
+  long_word,
+  more_values,
+  nothing_held,
+  option,
+  option_word,
+  plain_word,
+  pushed,
+  refused,
+  settled,
+  settled_rows,
+  short_or_plain,
+  takes_several,
+  trailing,
+  used,
+  used_by_id,
+  value,
+  walk,
+  walk_from,
+  walked,
+  with_default,
+  without,
+}
 use Rattle.clap.specs.Simple.{Shape, built, entered, filled, matches_of}
 use Rattle.clap.specs.Kinds.{Kinds, or_else}
-use Rattle.clap.specs.Faults.{bundle_fault, check_fault, default_fault, defaults_fault, entered_fault, fault_of, flag_word_fault, flags_fault, long_fault, positional_fault, settle_fault, step_fault, stray_fault, turn_fault, use_fault, walk_fault}
+use Rattle.clap.specs.Faults.{
+  bundle_fault,
+  check_fault,
+  default_fault,
+  defaults_fault,
+  entered_fault,
+  fault_of,
+  flag_word_fault,
+  flags_fault,
+  long_fault,
+  positional_fault,
+  settle_fault,
+  step_fault,
+  stray_fault,
+  turn_fault,
+  use_fault,
+  walk_fault,
+}
 use Rattle.clap.specs.declared.error.kind.ErrorKind.TheVariants as kind
 use Rattle.clap.specs.declared.parser.matches.ValueSource.TheVariants.{CommandLine}
 use Rattle.command_words.specs.Grammar.{Part, Text, is_option, last_parts, option_parts, parts_from, with_part, word_parts, words_of}
@@ -85,10 +175,12 @@ abbrev found_long : Text → Option Rule
 found_long name = cond (is_option name) (Some (option_taken name)) None
 
 arg_long : (name : Text) → arg_by_long rules name ≡ found_long name
-arg_long name = go (bytes_eq (codes "workers") name) (bytes_eq (codes "seed") name) (bytes_eq (codes "calls") name) (bytes_eq (codes "budget") name) (same_text _ _) (same_text _ _) (same_text _ _) (same_text _ _)
+arg_long name = go (bytes_eq (codes "workers") name) (bytes_eq (codes "seed") name) (bytes_eq (codes "calls") name) (bytes_eq (codes "budget") name)
+    (same_text _ _) (same_text _ _) (same_text _ _) (same_text _ _)
   where
     go : (a b c d : Bool) → (a ≡ true → codes "workers" ≡ name) → (b ≡ true → codes "seed" ≡ name) → (c ≡ true → codes "calls" ≡ name) → (d ≡ true → codes "budget" ≡ name)
-        → cond (a || false) (Some (option_taken (codes "workers"))) (cond (b || false) (Some (option_taken (codes "seed"))) (cond (c || false) (Some (option_taken (codes "calls"))) (cond (d || false) (Some (option_taken (codes "budget"))) None)))
+        → cond (a || false) (Some (option_taken (codes "workers")))
+        (cond (b || false) (Some (option_taken (codes "seed"))) (cond (c || false) (Some (option_taken (codes "calls"))) (cond (d || false) (Some (option_taken (codes "budget"))) None)))
         ≡ cond (a || (b || (c || d))) (Some (option_taken name)) None
     go true b c d f g h k = ap (λ n. Some (option_taken n)) (f refl)
     go false true c d f g h k = ap (λ n. Some (option_taken n)) (g refl)
@@ -126,7 +218,8 @@ none_at : (id : Text) (change : Row → List Row) (missing rows : List Row) → 
 none_at id change missing [] e = refl
 none_at id change missing (r ∷ rs) e = go (bytes_eq r.id id) e (none_at id change missing rs)
   where
-    go : (b : Bool) → (b || has_row id rs) ≡ false → (has_row id rs ≡ false → at_row id change missing rs ≡ rs ++ missing) → cond b (change r ++ rs) (r ∷ at_row id change missing rs) ≡ r ∷ (rs ++ missing)
+    go : (b : Bool) → (b || has_row id rs) ≡ false → (has_row id rs ≡ false → at_row id change missing rs ≡ rs ++ missing)
+        → cond b (change r ++ rs) (r ∷ at_row id change missing rs) ≡ r ∷ (rs ++ missing)
     go true h later = absurd (true≢false h)
     go false h later = ap (λ xs. r ∷ xs) (later h)
 
@@ -317,7 +410,8 @@ step_idle : (word : Text) (rest : List Text) (rows : List Row) (p : Pending) (po
 unfolding walked
 step_idle word rest rows p position =
     step (at rows p idle position false) word rest
-    ∙ ap₂ (λ (fault : Kinds) (met : Held × Step). said_with (cond (bytes_eq word dashes) [] fault) (cond (bytes_eq word dashes) (held rows p, trailing position) met) (at rows p idle position false) word rest)
+    ∙ ap₂ (λ (fault : Kinds) (met : Held × Step). said_with (cond (bytes_eq word dashes) [] fault)
+    (cond (bytes_eq word dashes) (held rows p, trailing position) met) (at rows p idle position false) word rest)
     (flag_is (long_of word) word (held rows p)) (met_is (long_of word) idle word (held rows p))
 
 step_waits : (word : Text) (rest : List Text) (name : Text) (rows : List Row) (p : Pending) (position : ℕ)
@@ -325,7 +419,8 @@ step_waits : (word : Text) (rest : List Text) (name : Text) (rows : List Row) (p
 unfolding walked
 step_waits word rest name rows p position =
     step (at rows p (option name) position false) word rest
-    ∙ ap₂ (λ (fault : Kinds) (met : Held × Step). said_with (cond (bytes_eq word dashes) [] fault) (cond (bytes_eq word dashes) (held rows p, trailing position) met) (at rows p (option name) position false) word rest)
+    ∙ ap₂ (λ (fault : Kinds) (met : Held × Step). said_with (cond (bytes_eq word dashes) [] fault)
+    (cond (bytes_eq word dashes) (held rows p, trailing position) met) (at rows p (option name) position false) word rest)
     (flag_is (long_of word) word (held rows p)) (met_is (long_of word) (option name) word (held rows p))
 
 -- a word `-x` is refused
@@ -357,7 +452,8 @@ and_true : (b : Bool) → (b && true) ≡ b
 and_true true = refl
 and_true false = refl
 
-module _ (name : Text) (known : is_option name ≡ true) (word : Text) (rest : List Text) (rows : List Row) (p : Pending) (taken : List Row) (good has_command : Bool) (st : Stands rows p taken good has_command) where
+module _ (name : Text) (known : is_option name ≡ true) (word : Text) (rest : List Text) (rows : List Row) (p : Pending) (taken : List Row)
+    (good has_command : Bool) (st : Stands rows p taken good has_command) where
   abbrev said_joined : Text → List Row → Option Words
   said_joined text rs = cond (not (has_row name rs)) (says (at (used (option_taken name) (text ∷ []) rs) None idle (place has_command) false) rest) None
 
@@ -365,7 +461,8 @@ module _ (name : Text) (known : is_option name ≡ true) (word : Text) (rest : L
   joined text =
       go (settle_fault rules false (held rows p)) (use_fault false (option_taken name) (text ∷ []) (settled_rows rules p rows))
       (says (at (used (option_taken name) (text ∷ []) (settled_rows rules p rows)) None idle (place has_command) false) rest)
-      ∙ ap (λ b. cond (is_nil (settle_fault rules false (held rows p))) (cond b (says (at (used (option_taken name) (text ∷ []) (settled_rows rules p rows)) None idle (place has_command) false) rest) None) None)
+      ∙ ap (λ b. cond (is_nil (settle_fault rules false (held rows p)))
+      (cond b (says (at (used (option_taken name) (text ∷ []) (settled_rows rules p rows)) None idle (place has_command) false) rest) None) None)
       (use_nil None (Some name) name text (settled_rows rules p rows))
       ∙ stands_to rows p taken good has_command st (said_joined text)
     where
@@ -374,7 +471,8 @@ module _ (name : Text) (known : is_option name ≡ true) (word : Text) (rest : L
       go [] (k ∷ ks) said = refl
       go (k ∷ ks) u said = refl
 
-  apart : said_long (Some (option_taken name)) None (at rows p idle (place has_command) false) word rest ≡ cond good (says (at taken (Some (name, [])) (option name) (place has_command) false) rest) None
+  apart : said_long (Some (option_taken name)) None (at rows p idle (place has_command) false) word rest ≡ cond good
+      (says (at taken (Some (name, [])) (option name) (place has_command) false) rest) None
   apart =
       ap (λ b. cond b (says (at (settled_rows rules p rows) (Some (name, [])) (option name) (place has_command) false) rest) None) (nil_or (settle_fault rules false (held rows p)) [] ∙ and_true _)
       ∙ stands_to rows p taken good has_command st (λ rs. says (at rs (Some (name, [])) (option name) (place has_command) false) rest)
@@ -398,7 +496,8 @@ module _ (word : Text) (rest : List Text) (idles : Idle rest) (waits : Waits res
   joined_part name text taken has_command known h = go (has_row name taken) refl ∙ sym (take_part taken name text (parts_from None rest))
     where
       go : (b : Bool) → has_row name taken ≡ b
-          → cond (not b) (says (at (used (option_taken name) (text ∷ []) taken) None idle (place has_command) false) rest) None ≡ cond b None (adds (taken ++ row (name, text) ∷ []) (parts_from None rest))
+          → cond (not b) (says (at (used (option_taken name) (text ∷ []) taken) None idle (place has_command) false) rest) None ≡ cond b None
+          (adds (taken ++ row (name, text) ∷ []) (parts_from None rest))
       go true e = refl
       go false e =
           ap (λ rs. says (at rs None idle (place has_command) false) rest) (used_new None (Some name) name text taken e)
@@ -434,7 +533,8 @@ module _ (word : Text) (rest : List Text) (idles : Idle rest) (waits : Waits res
     plain_part = plain_idle word false rest rows p taken good has_command st ∙ go good st.command
       where
         go : (b : Bool) → (b ≡ true → has_row (codes "command") taken ≡ has_command)
-            → cond b (cond has_command None (says (at taken (Some (codes "command", word ∷ [])) idle 2 false) rest)) None ≡ cond b (adds taken (with_part (codes "command") word (parts_from None rest))) None
+            → cond b (cond has_command None (says (at taken (Some (codes "command", word ∷ [])) idle 2 false) rest)) None ≡ cond b
+            (adds taken (with_part (codes "command") word (parts_from None rest))) None
         go true h = command_part taken word (parts_from None rest) _ has_command (h refl) (λ e.
             idles taken (Some (codes "command", word ∷ [])) (taken ++ row (codes "command", word) ∷ []) true true (command_stands word taken (h refl ∙ e)))
         go false h = refl
@@ -450,7 +550,8 @@ module _ (word : Text) (rest : List Text) (idles : Idle rest) (waits : Waits res
         go false None None e = plain_part
         go false None (Some flags) e = short_case flags rows p idle (place has_command) word rest ∙ refused_or (opens flags)
           where
-            refused_or : (b : Bool) → cond b None (said_by false None None (at rows p idle (place has_command) false) word rest) ≡ cond good (adds taken (with_part (codes "command") word (parts_from None rest))) None
+            refused_or : (b : Bool) → cond b None (said_by false None None (at rows p idle (place has_command) false) word rest) ≡ cond good (adds
+                taken (with_part (codes "command") word (parts_from None rest))) None
             refused_or true = sym (ap (λ x. cond good x None) (bad_command taken word (parts_from None rest) (hyphen_of_short word flags e)) ∙ one_none good)
             refused_or false = plain_part
 
@@ -473,12 +574,17 @@ module _ (word : Text) (rest : List Text) (idles : Idle rest) (waits : Waits res
       where
         go : (k : Bool) (v : Option Text) → said_long (cond k (Some (option_taken other)) None) v here word rest ≡ None
         go false v = refl
-        go true (Some text) = unsettled (settle_fault rules false (held taken (Some (name, [])))) (use_fault false (option_taken other) (text ∷ []) (settled_rows rules (Some (name, [])) taken)) _ (settle_empty name taken known)
+        go true (Some text) = unsettled (settle_fault rules false (held taken (Some (name, [])))) (use_fault false (option_taken other) (text ∷ [])
+            (settled_rows rules (Some (name, [])) taken)) _ (settle_empty name taken known)
         go true None = unsettled_bare (settle_fault rules false (held taken (Some (name, [])))) _ (settle_empty name taken known)
 
     plain_waits : said_by false None None here word rest ≡ adds taken (with_part name word (parts_from None rest))
     plain_waits =
-        ap (λ o. said_with [] ((option_word o name word (held taken (Some (name, [])))).0, Rattle.clap.specs.Walk.next (option_word o name word (held taken (Some (name, [])))).1) here word rest) (arg_id name known)
+        ap (λ o. said_with [] (
+          (option_word o name word (held taken (Some (name, [])))).0,
+          Rattle.clap.specs.Walk.next
+              (option_word o name word (held taken (Some (name, [])))).1,
+        ) here word rest) (arg_id name known)
         ∙ ap (λ b. says (at taken (Some (name, word ∷ [])) (cond (Rattle.std.specs.Prelude.nat_lt (cond b 1 0) 1) (option name) idle) (place has_command) false) rest) (itself name)
         ∙ apart_part name taken has_command known h
 
@@ -548,7 +654,8 @@ option_default name rows = with_default rows (option_taken name)
 
 no_defaults : (rows : List Row) → fold with_default rows rules ≡ rows
 no_defaults rows =
-    ap (λ rs. option_default (codes "budget") (option_default (codes "calls") (option_default (codes "seed") (option_default (codes "workers") rs)))) (no_default (Some 1) None (codes "command") rows [])
+    ap (λ rs. option_default (codes "budget") (option_default (codes "calls") (option_default (codes "seed") (option_default (codes "workers") rs))))
+    (no_default (Some 1) None (codes "command") rows [])
     ∙ ap (λ rs. option_default (codes "budget") (option_default (codes "calls") (option_default (codes "seed") rs))) (no_default None (Some (codes "workers")) (codes "workers") rows [])
     ∙ ap (λ rs. option_default (codes "budget") (option_default (codes "calls") rs)) (no_default None (Some (codes "seed")) (codes "seed") rows [])
     ∙ ap (λ rs. option_default (codes "budget") rs) (no_default None (Some (codes "calls")) (codes "calls") rows [])

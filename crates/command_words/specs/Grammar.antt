@@ -1,7 +1,32 @@
 -- The grammar of the command line, and what words of it say: one command word, and options `--name N` or
 -- `--name=N` in any place. The forms are those of getopt_long and of the crate `clap`; the commands, the names of
 -- the options, their ranges and defaults are a choice of this project.
-use Rattle.std.specs.Prelude.{⊤, ℕ, ◌≤◌, Bool, true, not, ◌&&◌, ◌||◌, List, [], ◌∷◌, Option, Some, None, length, nat_le, ◌≡◌, codes, bytes_eq, if◌then◌else◌, find, option_map, option_and_then, unwrap_or}
+use Rattle.std.specs.Prelude.{
+  ⊤,
+  ℕ,
+  ◌≤◌,
+  Bool,
+  true,
+  not,
+  ◌&&◌,
+  ◌||◌,
+  List,
+  [],
+  ◌∷◌,
+  Option,
+  Some,
+  None,
+  length,
+  nat_le,
+  ◌≡◌,
+  codes,
+  bytes_eq,
+  if◌then◌else◌,
+  find,
+  option_map,
+  option_and_then,
+  unwrap_or,
+}
 use Rattle.std.specs.List.{list_all, list_any}
 use Rattle.std.specs.Char.{is_ascii_digit}
 use Rattle.std.specs.Str.Parse.{digits_value}

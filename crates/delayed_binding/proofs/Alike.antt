@@ -7,15 +7,15 @@ use Rattle.std.specs.declared.cmp.Ordering.{Ordering}
 use Rattle.std.specs.declared.cmp.Ordering.TheVariants.{Less, Equal, Greater}
 use Rattle.std.proofs.lemmas.Cmp.{ranked}
 use Rattle.std.proofs.lemmas.Option.{slice_get_past}
-use Rattle.kube_types.specs.declared.parts.Kind.TheVariants as kinds
-use Rattle.kube_types.specs.declared.objects.Claim.{Claim as ClaimData}
-use Rattle.kube_types.specs.declared.objects.Node.{Node as NodeData}
-use Rattle.kube_types.specs.declared.objects.Volume.{Volume as VolumeData}
-use Rattle.kube_types.specs.declared.objects.Object.{Object}
-use Rattle.kube_types.specs.declared.objects.Object.TheVariants.{Volume}
-use Rattle.kube_types.specs.Bindings.{is_deleting, is_protected_volume}
-use Rattle.kube_types.specs.Keys.{rows_of}
-use Rattle.kube_types.specs.VolumeIndex.{as_volume}
+use Rattle.kube_parts.specs.declared.parts.Kind.TheVariants as kinds
+use Rattle.kube_objects.specs.declared.objects.Claim.{Claim as ClaimData}
+use Rattle.kube_objects.specs.declared.objects.Node.{Node as NodeData}
+use Rattle.kube_objects.specs.declared.objects.Volume.{Volume as VolumeData}
+use Rattle.kube_objects.specs.declared.objects.Object.{Object}
+use Rattle.kube_objects.specs.declared.objects.Object.TheVariants.{Volume}
+use Rattle.kube_objects.specs.Bindings.{is_deleting, is_protected_volume}
+use Rattle.kube_objects.specs.Keys.{rows_of}
+use Rattle.volume_index.specs.VolumeIndex.{as_volume}
 use Rattle.label_rules.specs.Selectors.{admits}
 use Rattle.binder_model.specs.Choice.{AreShares, IsProvisioned, Share, TakesVolume}
 use Rattle.binder_model.specs.Matching.{IsBest, IsCandidate, fits, is_selected, may_serve}
@@ -69,7 +69,8 @@ module _ (rows : List Object) (one other : NodeData) (alike : AreAlike rows one 
       there = k.there;
       open_to = k.open_to;
       own = k.own;
-      eligible = sym (ap (λ b. not (is_deleting v.meta) && is_protected_volume v && fits v c && is_selected c.selector v.meta.labels && b && may_serve v c) (admitted_alike place v k.there)) ∙ k.eligible;
+      eligible = sym (ap (λ b. not (is_deleting v.meta) && is_protected_volume v && fits v c && is_selected c.selector v.meta.labels && b &&
+          may_serve v c) (admitted_alike place v k.there)) ∙ k.eligible;
     }
 
     candidate_here : (place : ℕ) (v : VolumeData) → IsCandidate rows c (Some other) false taken place v → IsCandidate rows c (Some one) false taken place v
@@ -102,10 +103,12 @@ like_refused rows others None n none like = absurd like
 like_refused rows others (Some m) n none like = λ shares are. none shares (shares_here rows m n like others (set_aside rows) shares are)
 
 -- a node without shares does not serve the claims
-pub none_closed : (rows : List Object) (claims others : List ClaimData) (n : NodeData) (none : Bool) → others ≡ others_in rows claims → OnTrue none (HaveNoShares rows n others) → none ≡ true → (m : NodeData) → n ≡ m → ServesClaims rows claims m → ⊥
+pub none_closed : (rows : List Object) (claims others : List ClaimData) (n : NodeData) (none : Bool) → others ≡ others_in rows claims
+    → OnTrue none (HaveNoShares rows n others) → none ≡ true → (m : NodeData) → n ≡ m → ServesClaims rows claims m → ⊥
 none_closed rows claims others n true are none is m same serves = subst (HaveNoShares rows m) are (subst (λ k. HaveNoShares rows k others) same none) serves.0 serves.1.shared
 none_closed rows claims others n false are none is m same serves = absurd (true≢false (sym is))
 
-pub like_closed : (rows : List Object) (claims others : List ClaimData) (refused : Option NodeData) (n : NodeData) (like : Bool) → others ≡ others_in rows claims → HasRefused rows others refused → OnTrue like (IsLikeOne rows refused n) → like ≡ true → (m : NodeData) → n ≡ m → ServesClaims rows claims m → ⊥
+pub like_closed : (rows : List Object) (claims others : List ClaimData) (refused : Option NodeData) (n : NodeData) (like : Bool)
+    → others ≡ others_in rows claims → HasRefused rows others refused → OnTrue like (IsLikeOne rows refused n) → like ≡ true → (m : NodeData) → n ≡ m → ServesClaims rows claims m → ⊥
 like_closed rows claims others refused n true are none like is m same serves = none_closed rows claims others n true are (like_refused rows others refused n none like) is m same serves
 like_closed rows claims others refused n false are none like is m same serves = absurd (true≢false (sym is))

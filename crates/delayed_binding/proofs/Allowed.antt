@@ -1,25 +1,73 @@
 -- The writes of a choice, and the assignment of a pod, are allowed after what the seat was told.
-use Rattle.std.proofs.Common.{ℕ, zero, suc, ◌≡◌, ◌<◌, ◌+◌, ◌∙◌, Bool, true, false, true≢false, not, ◌&&◌, ◌||◌, ◌==◌, List, [], ◌∷◌, ◌++◌, length, map, Option, Some, None, refl, sym, ap, subst, arith, option_map, if◌then◌else◌}
+use Rattle.std.proofs.Common.{
+  ℕ,
+  zero,
+  suc,
+  ◌≡◌,
+  ◌<◌,
+  ◌+◌,
+  ◌∙◌,
+  Bool,
+  true,
+  false,
+  true≢false,
+  not,
+  ◌&&◌,
+  ◌||◌,
+  ◌==◌,
+  List,
+  [],
+  ◌∷◌,
+  ◌++◌,
+  length,
+  map,
+  Option,
+  Some,
+  None,
+  refl,
+  sym,
+  ap,
+  subst,
+  arith,
+  option_map,
+  if◌then◌else◌,
+}
 use Rattle.std.specs.Prelude.{is_none, is_some, slice_get}
 use Rattle.std.specs.List.{cons_option, filter_map, list_all, list_any}
 use Rattle.std.proofs.lemmas.List.{length-map}
 use Rattle.std.proofs.lemmas.Option.{slice_get-map}
-use Rattle.kube_types.specs.declared.uid.Uid.{Uid}
-use Rattle.kube_types.specs.declared.key.Key.{Key}
-use Rattle.kube_types.specs.declared.parts.Kind.TheVariants as kinds
-use Rattle.kube_types.specs.declared.parts.VolumePhase.{VolumePhase}
-use Rattle.kube_types.specs.declared.parts.VolumePhase.TheVariants as phases
-use Rattle.kube_types.specs.declared.objects.Class.{Class as ClassData}
-use Rattle.kube_types.specs.declared.objects.Claim.{Claim as ClaimData}
-use Rattle.kube_types.specs.declared.objects.Node.{Node as NodeData}
-use Rattle.kube_types.specs.declared.objects.Pod.{Pod as PodData}
-use Rattle.kube_types.specs.declared.objects.Ref.{Ref}
-use Rattle.kube_types.specs.declared.objects.Volume.{Volume as VolumeData}
-use Rattle.kube_types.specs.declared.objects.Object.{Object}
-use Rattle.kube_types.specs.declared.objects.Object.TheVariants.{Class, Node, Volume, Claim, Pod}
-use Rattle.kube_types.specs.Bindings.{bound_by_controller, carries, class_of_claim, is_available, is_completed, is_deleting, is_empty, is_ended, is_for, is_protected_volume, names_claim, refers_carrying, refers_for, uid_carries, uid_fits}
-use Rattle.kube_types.specs.Keys.{AreRows, kind_index, row_at, rows_of}
-use Rattle.kube_types.proofs.RowPlaces.{row_at_place}
+use Rattle.kube_parts.specs.declared.uid.Uid.{Uid}
+use Rattle.kube_objects.specs.declared.key.Key.{Key}
+use Rattle.kube_parts.specs.declared.parts.Kind.TheVariants as kinds
+use Rattle.kube_parts.specs.declared.parts.VolumePhase.{VolumePhase}
+use Rattle.kube_parts.specs.declared.parts.VolumePhase.TheVariants as phases
+use Rattle.kube_objects.specs.declared.objects.Class.{Class as ClassData}
+use Rattle.kube_objects.specs.declared.objects.Claim.{Claim as ClaimData}
+use Rattle.kube_objects.specs.declared.objects.Node.{Node as NodeData}
+use Rattle.kube_objects.specs.declared.objects.Pod.{Pod as PodData}
+use Rattle.kube_objects.specs.declared.objects.Ref.{Ref}
+use Rattle.kube_objects.specs.declared.objects.Volume.{Volume as VolumeData}
+use Rattle.kube_objects.specs.declared.objects.Object.{Object}
+use Rattle.kube_objects.specs.declared.objects.Object.TheVariants.{Class, Node, Volume, Claim, Pod}
+use Rattle.kube_objects.specs.Bindings.{
+  bound_by_controller,
+  carries,
+  class_of_claim,
+  is_available,
+  is_completed,
+  is_deleting,
+  is_empty,
+  is_ended,
+  is_for,
+  is_protected_volume,
+  names_claim,
+  refers_carrying,
+  refers_for,
+  uid_carries,
+  uid_fits,
+}
+use Rattle.kube_objects.specs.Keys.{AreRows, kind_index, row_at, rows_of}
+use Rattle.kube_objects.proofs.RowPlaces.{row_at_place}
 use Rattle.label_rules.specs.Selectors.{admits}
 use Rattle.call_types.specs.declared.entry.Entry.{Entry}
 use Rattle.call_types.specs.declared.request.Request.{Request}
@@ -27,7 +75,21 @@ use Rattle.call_types.specs.declared.request.Request.TheVariants.{Update}
 use Rattle.binder_model.specs.At.{IsWrittenAt}
 use Rattle.binder_model.specs.BinderLicence.{IsFreeFor, IsTaken, MayTake}
 use Rattle.binder_model.specs.BindWrites.{taken_for, write_reference}
-use Rattle.binder_model.specs.Choice.{AreShares, admits_node, are_completed, carries_claim, claim_in, claim_named, claims_of, has_carrier, is_missing, is_served_elsewhere, is_under_way, lacks_claim, volume_admits}
+use Rattle.binder_model.specs.Choice.{
+  AreShares,
+  admits_node,
+  are_completed,
+  carries_claim,
+  claim_in,
+  claim_named,
+  claims_of,
+  has_carrier,
+  is_missing,
+  is_served_elsewhere,
+  is_under_way,
+  lacks_claim,
+  volume_admits,
+}
 use Rattle.binder_model.specs.Fields.{has_twice}
 use Rattle.call_types.specs.declared.request.SeatKind.TheVariants as seats
 use Rattle.binder_model.specs.Licence.{RowAllows}
@@ -35,15 +97,43 @@ use Rattle.binder_model.specs.Matching.{eligible, fits, is_admitted_on, is_delay
 use Rattle.binder_model.specs.ObjectKeys.{class_key, node_key, claim_key, volume_key}
 use Rattle.binder_model.specs.SchedulerLicence.{AreReadyOn, MaySelectNode}
 use Rattle.binder_model.specs.Told.{IsNewest, ToldClaim, ToldVolume}
-use Rattle.kube_types.specs.VolumeIndex.{as_volume}
+use Rattle.volume_index.specs.VolumeIndex.{as_volume}
 use Rattle.model_laws.proofs.Evidence.{told_claim, told_volume}
 use Rattle.model_laws.proofs.Lists.{none_some, one}
 use Rattle.model_laws.proofs.Identity.{placed_same}
 use Rattle.model_laws.proofs.Newest.{newest_claim, newest_volume}
 use Rattle.delayed_binding.specs.declared.choice.Choice.{Choice}
 use Rattle.delayed_binding.specs.declared.choice.Choice.TheVariants.{Assign, Prepare, Wait, NoNode}
-use Rattle.delayed_binding.specs.Choices.{IsAssigned, IsChoice, IsChoiceAt, IsCompleted, IsPrepared, IsSearching, IsServedElsewhere, IsUnderWay, LacksClaim, Stage, binds_of, others_in, provisions_of, set_aside}
-use Rattle.delayed_binding.specs.WriteLaw.{OthersAreUnchanged, AssignedPodsAreAllowed, ChosenWritesAreAllowed, HasWrite, IsUnwritten, PreparedHaveWrites, PreparedWritesAreAllowed, PreparedWritesAreThere, ShowsNewest, WritesAreApart, is_known, written_keys}
+use Rattle.delayed_binding.specs.Choices.{
+  IsAssigned,
+  IsChoice,
+  IsChoiceAt,
+  IsCompleted,
+  IsPrepared,
+  IsSearching,
+  IsServedElsewhere,
+  IsUnderWay,
+  LacksClaim,
+  Stage,
+  binds_of,
+  others_in,
+  provisions_of,
+  set_aside,
+}
+use Rattle.delayed_binding.specs.WriteLaw.{
+  OthersAreUnchanged,
+  AssignedPodsAreAllowed,
+  ChosenWritesAreAllowed,
+  HasWrite,
+  IsUnwritten,
+  PreparedHaveWrites,
+  PreparedWritesAreAllowed,
+  PreparedWritesAreThere,
+  ShowsNewest,
+  WritesAreApart,
+  is_known,
+  written_keys,
+}
 use Rattle.delayed_binding.specs.Writes.{bind_write, joined, node_write, placed_on, prepare_write, reference_write, selecting_write}
 use Rattle.delayed_binding.proofs.Known.{Each, IsSome, IsSought, claim_of_row, others_apart, others_sought, others_stored, some_others, and_right}
 use Rattle.delayed_binding.proofs.Scanning.{carriers_are_volumes}
@@ -81,19 +171,25 @@ free_for : (r : Option Ref) (c : ClaimData) (phase : VolumePhase) → ((refers_f
 free_for None c phase serves out = tt
 free_for (Some r) c phase serves out = free_by (names_claim r c) r.uid c (own_of (refers_for (Some r) c) (is_ended phase) (is_available phase) serves) out
 
-reference_allowed : (mine : List Entry) (v : VolumeData) (c : ClaimData) (n : NodeData) → ToldVolume (λ o. o ≡ v) mine → ToldClaim (λ o. o ≡ c) mine → is_known c ≡ true → eligible v c (Some n) ≡ true → carries v c ≡ false → RowAllows seats.Scheduler mine (write_reference v c)
+reference_allowed : (mine : List Entry) (v : VolumeData) (c : ClaimData) (n : NodeData) → ToldVolume (λ o. o ≡ v) mine → ToldClaim (λ o. o ≡ c) mine
+    → is_known c ≡ true → eligible v c (Some n) ≡ true → carries v c ≡ false → RowAllows seats.Scheduler mine (write_reference v c)
 unfolding taken_for
 reference_allowed mine v c n volume claim known e out =
     let new = taken_for v c in
     let same = placed_same (is_none v.claim_ref) bound_by_controller v.meta in
     let serves = serves_of v c n e in
     let taken : IsTaken v new c = record { known = known; free = free_for v.claim_ref c v.phase serves out; change = refl } in
-    let row : MayTake mine v new = record { live = lives (is_for v c) (is_ended v.phase) (is_available v.phase) (is_none v.claim_ref) (available_lives v.phase) serves; told = told_claim (IsTaken v new) c mine claim taken } in
+    let row : MayTake mine v new = record {
+      live = lives (is_for v c) (is_ended v.phase) (is_available v.phase) (is_none v.claim_ref)
+          (available_lives v.phase) serves;
+      told = told_claim (IsTaken v new) c mine claim taken;
+    } in
     told_volume (λ o. IsWrittenAt (Some v.meta.version) new.meta.namespace new.meta.name o.meta × MayTake mine o new) v mine volume
     (record { version = refl; placed = sym same.0; named = sym same.1 }, row)
 
 -- no volume of the rows carries the claim
-uncarried : (rows : List Object) (c : ClaimData) (v : VolumeData) (place : ℕ) → has_carrier rows c ≡ false → slice_get (rows_of kinds.PersistentVolume rows) place ≡ Some (Volume v) → carries v c ≡ false
+uncarried : (rows : List Object) (c : ClaimData) (v : VolumeData) (place : ℕ) → has_carrier rows c ≡ false
+    → slice_get (rows_of kinds.PersistentVolume rows) place ≡ Some (Volume v) → carries v c ≡ false
 uncarried rows c v place none there = by (carries v c) refl
   where
     any_at : (os : List Object) (i : ℕ) → slice_get os i ≡ Some (Volume v) → carries v c ≡ true → list_any (carries_claim c) os ≡ true
@@ -124,7 +220,9 @@ delayed_class (Some (Volume x)) e = absurd (true≢false (sym e))
 delayed_class (Some (Claim x)) e = absurd (true≢false (sym e))
 delayed_class (Some (Pod x)) e = absurd (true≢false (sym e))
 
-node_allowed : (mine : List Entry) (c : ClaimData) (n : NodeData) (name : List ℕ) (x : ClassData) → ToldClaim (λ o. o ≡ c) mine → name ≡ n.meta.name → is_completed c ≡ false → IsNewest mine (class_key (class_of_claim c)) (Class x) → x.delayed ≡ true → IsNewest mine (node_key n.meta.name) (Node n) → RowAllows seats.Scheduler mine (Update (Claim (placed_on name c)) (Some c.meta.version))
+node_allowed : (mine : List Entry) (c : ClaimData) (n : NodeData) (name : List ℕ) (x : ClassData) → ToldClaim (λ o. o ≡ c) mine → name ≡ n.meta.name
+    → is_completed c ≡ false → IsNewest mine (class_key (class_of_claim c)) (Class x) → x.delayed ≡ true
+    → IsNewest mine (node_key n.meta.name) (Node n) → RowAllows seats.Scheduler mine (Update (Claim (placed_on name c)) (Some c.meta.version))
 node_allowed mine c n name x claim named open_ class delayed node =
     let new = placed_on name c in
     let row : MaySelectNode mine c new = record { undone = open_; class = x; class_newest = class; delayed = delayed; node = n; node_newest = node; change = ap (λ s. placed_on s c) named } in
@@ -149,7 +247,9 @@ pub record IsSearch (rows : List Object) (p : PodData) (last : Option (List ℕ)
   served : list_any (is_served_elsewhere rows) (claims_of rows p) ≡ false
   waiting : list_all (is_under_way rows) (claims_of rows p) ≡ false
 
-search_of : (rows : List Object) (p : PodData) (last : Option (List ℕ)) (name : List ℕ) (bs : List (Key × Key)) (ps : List Key) (lacks done elsewhere under : Bool) → list_any (is_served_elsewhere rows) (claims_of rows p) ≡ elsewhere → list_all (is_under_way rows) (claims_of rows p) ≡ under → IsChoiceAt (stage_at lacks done elsewhere under) rows (claims_of rows p) last (Prepare name bs ps) → IsSearch rows p last name bs ps
+search_of : (rows : List Object) (p : PodData) (last : Option (List ℕ)) (name : List ℕ) (bs : List (Key × Key)) (ps : List Key)
+    (lacks done elsewhere under : Bool) → list_any (is_served_elsewhere rows) (claims_of rows p) ≡ elsewhere
+    → list_all (is_under_way rows) (claims_of rows p) ≡ under → IsChoiceAt (stage_at lacks done elsewhere under) rows (claims_of rows p) last (Prepare name bs ps) → IsSearch rows p last name bs ps
 search_of rows p last name bs ps true done elsewhere under s w f = absurd (true≢false (ap is_prepare f))
 search_of rows p last name bs ps false true elsewhere under s w f = absurd f
 search_of rows p last name bs ps false false true under s w f = absurd (true≢false (ap is_prepare f))
@@ -161,7 +261,8 @@ record IsAssignment (rows : List Object) (p : PodData) (name : List ℕ) : Type 
   whole : lacks_claim rows p ≡ false
   completed : are_completed rows p ≡ true
 
-assignment_of : (rows : List Object) (p : PodData) (last : Option (List ℕ)) (name : List ℕ) (lacks done elsewhere under : Bool) → lacks_claim rows p ≡ lacks → are_completed rows p ≡ done → IsChoiceAt (stage_at lacks done elsewhere under) rows (claims_of rows p) last (Assign name) → IsAssignment rows p name
+assignment_of : (rows : List Object) (p : PodData) (last : Option (List ℕ)) (name : List ℕ) (lacks done elsewhere under : Bool)
+    → lacks_claim rows p ≡ lacks → are_completed rows p ≡ done → IsChoiceAt (stage_at lacks done elsewhere under) rows (claims_of rows p) last (Assign name) → IsAssignment rows p name
 assignment_of rows p last name true done elsewhere under l d f = absurd (true≢false (ap is_assign f))
 assignment_of rows p last name false true elsewhere under l d f = record { assigned = f; whole = l; completed = d }
 assignment_of rows p last name false false true under l d f = absurd (true≢false (ap is_assign f))
@@ -231,10 +332,12 @@ module _ (rows : List Object) (order : AreRows rows) (p : PodData) (last : Optio
   -- each item, by what is known of the claims
   module _ {P : ClaimData → Type 0} (each : Each P others) where
     bound : (i : ℕ) (pair : Key × Key) → slice_get bs i ≡ Some pair → IsBound rows node P (set_aside rows) pair
-    bound i pair at = bound_at rows node others s.prepared.prepares.shares (set_aside rows) each s.prepared.prepares.serves.shared i pair (subst (λ xs. slice_get xs i ≡ Some pair) s.prepared.prepares.binds_are at)
+    bound i pair at = bound_at rows node others s.prepared.prepares.shares (set_aside rows) each s.prepared.prepares.serves.shared i pair
+        (subst (λ xs. slice_get xs i ≡ Some pair) s.prepared.prepares.binds_are at)
 
     provided : (i : ℕ) (key : Key) → slice_get ps i ≡ Some key → IsToProvision rows P key
-    provided i key at = provided_at rows node others s.prepared.prepares.shares (set_aside rows) each s.prepared.prepares.serves.shared i key (subst (λ xs. slice_get xs i ≡ Some key) s.prepared.prepares.provisions_are at)
+    provided i key at = provided_at rows node others s.prepared.prepares.shares (set_aside rows) each s.prepared.prepares.serves.shared i key
+        (subst (λ xs. slice_get xs i ≡ Some key) s.prepared.prepares.provisions_are at)
 
   volume_key_at : (i : ℕ) (pair : Key × Key) → slice_get bs i ≡ Some pair → is_volume_key pair.1 ≡ true
   volume_key_at i pair at = ap is_volume_key (bound (others_stored rows p) i pair at).second
@@ -301,7 +404,8 @@ module _ (rows : List Object) (order : AreRows rows) (p : PodData) (last : Optio
   bind_there i pair at =
       let b = bound (others_stored rows p) i pair at in
       let claim : claim_in (row_at pair.0 rows) ≡ Some b.claim = ap (λ k. claim_in (row_at k rows)) b.first ∙ ap claim_in b.holds in
-      let volume : as_volume (row_at pair.1 rows) ≡ Some b.volume = ap (λ k. as_volume (row_at k rows)) b.second ∙ ap as_volume (row_at_place kinds.PersistentVolume b.place (Volume b.volume) rows order b.there) in
+      let volume : as_volume (row_at pair.1 rows) ≡ Some b.volume = ap (λ k. as_volume (row_at k rows)) b.second
+      ∙ ap as_volume (row_at_place kinds.PersistentVolume b.place (Volume b.volume) rows order b.there) in
       ap (λ c. is_some (reference_write c (as_volume (row_at pair.1 rows)))) claim ∙ ap (λ v. is_some (reference_write (Some b.claim) v)) volume
 
   node_there : (i : ℕ) (key : Key) → slice_get ps i ≡ Some key → is_some (node_write rows name key) ≡ true
@@ -316,12 +420,14 @@ module _ (rows : List Object) (order : AreRows rows) (p : PodData) (last : Optio
       by : (key : Key) → IsOf (map (λ (pair : Key × Key). pair.1) bs) ps nth key → is_some (joined (slice_get (map (bind_write rows) bs ++ map (node_write rows name) ps) nth)) ≡ true
       by key (OfFirst mt h) =
           let m = made_of (λ (pair : Key × Key). pair.1) bs nth key h in
-          ap (λ o. is_some (joined o)) (in_first (map (bind_write rows) bs) (map (node_write rows name) ps) nth (bind_write rows m.item) (made_at (bind_write rows) bs nth m.item m.at)) ∙ bind_there nth m.item m.at
+          ap (λ o. is_some (joined o)) (in_first (map (bind_write rows) bs) (map (node_write rows name) ps) nth (bind_write rows m.item)
+          (made_at (bind_write rows) bs nth m.item m.at)) ∙ bind_there nth m.item m.at
       by key (OfSecond j is h) =
           let a = length-map bs (λ (pair : Key × Key). pair.1) in
           let b = length-map bs (bind_write rows) in
           let place : nth ≡ length (map (bind_write rows) bs) + j = is ∙ ap (λ n. n + j) (a ∙ sym b) in
-          ap (λ o. is_some (joined o)) (in_second (map (bind_write rows) bs) (map (node_write rows name) ps) nth j (node_write rows name key) place (made_at (node_write rows name) ps j key h)) ∙ node_there j key h
+          ap (λ o. is_some (joined o)) (in_second (map (bind_write rows) bs) (map (node_write rows name) ps) nth j (node_write rows name key) place
+          (made_at (node_write rows name) ps j key h)) ∙ node_there j key h
 
   -- the writes on later rows, which keep what the next write is made from
 
@@ -335,7 +441,8 @@ module _ (rows : List Object) (order : AreRows rows) (p : PodData) (last : Optio
   keeps_all : (nth : ℕ) → KeepsNext rows rows written (length bs) nth
   keeps_all nth = record { next = λ key at. refl; claims = λ key below h. refl; rest = λ key h. refl }
 
-  module _ (later : List Object) (nth : ℕ) (mine : List Entry) (known : list_all is_known (claims_of rows p) ≡ true) (kept : KeepsNext rows later written (length bs) nth) (shows : ShowsNewest later mine) where
+  module _ (later : List Object) (nth : ℕ) (mine : List Entry) (known : list_all is_known (claims_of rows p) ≡ true)
+      (kept : KeepsNext rows later written (length bs) nth) (shows : ShowsNewest later mine) where
     newest_of : (key : Key) (o : Object) → row_at key later ≡ row_at key rows → row_at key rows ≡ Some o → IsNewest mine key o
     newest_of key o same at = sym (shows key) ∙ same ∙ at
 
@@ -358,7 +465,8 @@ module _ (rows : List Object) (order : AreRows rows) (p : PodData) (last : Optio
         ap (λ x. reference_write x (as_volume (row_at pair.1 later))) (ap claim_in (claim_same ∙ claim_row))
         ∙ ap (λ x. reference_write (Some c) x) (ap as_volume (volume_same ∙ volume_row)) in
         answered (write_reference v c) request (sym seen ∙ e)
-        (reference_allowed mine v c node (newest_volume (λ u. u ≡ v) mine pair.1 v (newest_of pair.1 (Volume v) volume_same volume_row) refl) (newest_claim (λ d. d ≡ c) mine pair.0 c (newest_of pair.0 (Claim c) claim_same claim_row) refl)
+        (reference_allowed mine v c node (newest_volume (λ u. u ≡ v) mine pair.1 v (newest_of pair.1 (Volume v) volume_same volume_row) refl)
+        (newest_claim (λ d. d ≡ c) mine pair.0 c (newest_of pair.0 (Claim c) claim_same claim_row) refl)
         b.holds.known b.eligible (uncarried rows c v b.place b.holds.uncarried b.there))
 
     provision_allowed : (key : Key) (j : ℕ) (request : Request) → nth ≡ length bs + j → slice_get ps j ≡ Some key → node_write later name key ≡ Some request → RowAllows seats.Scheduler mine request
@@ -391,16 +499,21 @@ module _ (rows : List Object) (order : AreRows rows) (p : PodData) (last : Optio
             provision_allowed m.item j request (omega (arith, n, is)) m.at m.is
 
   have_writes : HasWrite (Prepare name bs ps)
-  have_writes = subst (λ xs. 0 < length xs + length ps) (sym s.prepared.prepares.binds_are) (subst (λ xs. 0 < length (binds_of rows others s.prepared.prepares.shares) + length xs) (sym s.prepared.prepares.provisions_are) (by others (some_others rows p s.waiting) s.prepared.prepares.serves.shared))
+  have_writes = subst (λ xs. 0 < length xs + length ps) (sym s.prepared.prepares.binds_are)
+      (subst (λ xs. 0 < length (binds_of rows others s.prepared.prepares.shares) + length xs) (sym s.prepared.prepares.provisions_are)
+      (by others (some_others rows p s.waiting) s.prepared.prepares.serves.shared))
     where
-      by : (cs : List ClaimData) → IsSome cs → AreShares rows node (set_aside rows) cs s.prepared.prepares.shares → 0 < length (binds_of rows cs s.prepared.prepares.shares) + length (provisions_of cs s.prepared.prepares.shares)
+      by : (cs : List ClaimData) → IsSome cs → AreShares rows node (set_aside rows) cs s.prepared.prepares.shares
+          → 0 < length (binds_of rows cs s.prepared.prepares.shares) + length (provisions_of cs s.prepared.prepares.shares)
       by [] none are = absurd none
       by (c ∷ cs) some are = some_write rows node c cs s.prepared.prepares.shares (set_aside rows) are
 
 -- the laws
 
-pub searched : (rows : List Object) (p : PodData) (last : Option (List ℕ)) (name : List ℕ) (bs : List (Key × Key)) (ps : List Key) → IsChoice rows p last (Prepare name bs ps) → IsSearch rows p last name bs ps
-searched rows p last name bs ps f = search_of rows p last name bs ps (lacks_claim rows p) (are_completed rows p) (list_any (is_served_elsewhere rows) (claims_of rows p)) (list_all (is_under_way rows) (claims_of rows p)) refl refl f
+pub searched : (rows : List Object) (p : PodData) (last : Option (List ℕ)) (name : List ℕ) (bs : List (Key × Key)) (ps : List Key)
+    → IsChoice rows p last (Prepare name bs ps) → IsSearch rows p last name bs ps
+searched rows p last name bs ps f = search_of rows p last name bs ps (lacks_claim rows p) (are_completed rows p) (list_any (is_served_elsewhere rows)
+    (claims_of rows p)) (list_all (is_under_way rows) (claims_of rows p)) refl refl f
 
 pub prepared_writes_are_allowed : PreparedWritesAreAllowed
 unfolding prepare_write
@@ -457,7 +570,9 @@ module _ (rows : List Object) (mine : List Entry) (shows : ShowsNewest rows mine
   seen : (key : Key) (o : Object) → row_at key rows ≡ Some o → IsNewest mine key o
   seen key o at = sym (shows key) ∙ at
 
-  all_ready : (names : List (List ℕ)) → list_any (λ name. is_missing (claim_named rows namespace name)) names ≡ false → list_all is_completed (filter_map (claim_named rows namespace) names) ≡ true → list_all (volume_admits rows n) (filter_map (claim_named rows namespace) names) ≡ true → AreReadyOn mine n namespace names
+  all_ready : (names : List (List ℕ)) → list_any (λ name. is_missing (claim_named rows namespace name)) names ≡ false
+      → list_all is_completed (filter_map (claim_named rows namespace) names) ≡ true
+      → list_all (volume_admits rows n) (filter_map (claim_named rows namespace) names) ≡ true → AreReadyOn mine n namespace names
   all_ready [] whole done admitted = tt
   all_ready (name ∷ names) whole done admitted = by (claim_named rows namespace name) refl whole done admitted (all_ready names)
     where
@@ -469,12 +584,18 @@ module _ (rows : List Object) (mine : List Entry) (shows : ShowsNewest rows mine
       and_left true b e = refl
       and_left false b e = e
 
-      by : (o : Option ClaimData) → claim_named rows namespace name ≡ o → (is_missing o || list_any (λ x. is_missing (claim_named rows namespace x)) names) ≡ false → list_all is_completed (cons_option o (filter_map (claim_named rows namespace) names)) ≡ true → list_all (volume_admits rows n) (cons_option o (filter_map (claim_named rows namespace) names)) ≡ true
-          → (list_any (λ x. is_missing (claim_named rows namespace x)) names ≡ false → list_all is_completed (filter_map (claim_named rows namespace) names) ≡ true → list_all (volume_admits rows n) (filter_map (claim_named rows namespace) names) ≡ true → AreReadyOn mine n namespace names)
+      by : (o : Option ClaimData) → claim_named rows namespace name ≡ o
+          → (is_missing o || list_any (λ x. is_missing (claim_named rows namespace x)) names) ≡ false
+          → list_all is_completed (cons_option o (filter_map (claim_named rows namespace) names)) ≡ true
+          → list_all (volume_admits rows n) (cons_option o (filter_map (claim_named rows namespace) names)) ≡ true
+          → (list_any (λ x. is_missing (claim_named rows namespace x)) names ≡ false
+          → list_all is_completed (filter_map (claim_named rows namespace) names) ≡ true
+          → list_all (volume_admits rows n) (filter_map (claim_named rows namespace) names) ≡ true → AreReadyOn mine n namespace names)
           → AreReadyOn mine n namespace (name ∷ names)
       by None at whole done admitted rest = absurd (true≢false whole)
       by (Some c) at whole done admitted rest =
-          let v = admitting (row_at (volume_key c.volume_name) rows) n (and_left (volume_admits rows n c) (list_all (volume_admits rows n) (filter_map (claim_named rows namespace) names)) admitted) in (
+          let v = admitting (row_at (volume_key c.volume_name) rows) n
+          (and_left (volume_admits rows n c) (list_all (volume_admits rows n) (filter_map (claim_named rows namespace) names)) admitted) in (
             record {
               claim = c;
               newest = seen (claim_key namespace name) (Claim c) (claim_of_row (row_at (claim_key namespace name) rows) c at);
@@ -494,7 +615,8 @@ no_name (x ∷ xs) e = absurd (true≢false e)
 
 pub assigned_pods_are_allowed : AssignedPodsAreAllowed
 assigned_pods_are_allowed rows key p uid last name mine at same unscheduled f shows own =
-    let a = assignment_of rows p last name (lacks_claim rows p) (are_completed rows p) (list_any (is_served_elsewhere rows) (claims_of rows p)) (list_all (is_under_way rows) (claims_of rows p)) refl refl f in
+    let a = assignment_of rows p last name (lacks_claim rows p) (are_completed rows p) (list_any (is_served_elsewhere rows) (claims_of rows p))
+    (list_all (is_under_way rows) (claims_of rows p)) refl refl f in
     let n = a.assigned.node in
     let there : row_at (node_key name) rows ≡ Some (Node n) = ap (λ x. row_at (node_key x) rows) a.assigned.named ∙ a.assigned.first.there in (
       own,

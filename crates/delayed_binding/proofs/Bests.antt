@@ -7,16 +7,16 @@ use Rattle.std.specs.Ordering.{MatchOrdering, is_eq, is_lt, nat_cmp, ordering_re
 use Rattle.std.proofs.lemmas.Bool.Decides.{Decides-eqb}
 use Rattle.std.proofs.lemmas.Cmp.{ranked, tied_itself}
 use Rattle.std.proofs.lemmas.Map.Lookups.{exact_bytes}
-use Rattle.kube_types.specs.declared.key.Key.{Key}
-use Rattle.kube_types.specs.declared.parts.Kind.TheVariants as kinds
-use Rattle.kube_types.specs.declared.objects.Claim.{Claim as ClaimData}
-use Rattle.kube_types.specs.declared.objects.Node.{Node as NodeData}
-use Rattle.kube_types.specs.declared.objects.Volume.{Volume as VolumeData}
-use Rattle.kube_types.specs.declared.objects.Object.{Object}
-use Rattle.kube_types.specs.declared.objects.Object.TheVariants.{Volume}
-use Rattle.kube_types.specs.Bindings.{is_empty}
-use Rattle.kube_types.specs.Keys.{AreRows, is_of_kind, key_cmp, key_of, meta_of, rows_of}
-use Rattle.kube_types.proofs.KeyOrder.{key_cmp_total}
+use Rattle.kube_objects.specs.declared.key.Key.{Key}
+use Rattle.kube_parts.specs.declared.parts.Kind.TheVariants as kinds
+use Rattle.kube_objects.specs.declared.objects.Claim.{Claim as ClaimData}
+use Rattle.kube_objects.specs.declared.objects.Node.{Node as NodeData}
+use Rattle.kube_objects.specs.declared.objects.Volume.{Volume as VolumeData}
+use Rattle.kube_objects.specs.declared.objects.Object.{Object}
+use Rattle.kube_objects.specs.declared.objects.Object.TheVariants.{Volume}
+use Rattle.kube_objects.specs.Bindings.{is_empty}
+use Rattle.kube_objects.specs.Keys.{AreRows, is_of_kind, key_cmp, key_of, meta_of, rows_of}
+use Rattle.kube_objects.proofs.KeyOrder.{key_cmp_total}
 use Rattle.binder_model.specs.Matching.{IsBest, IsBestAt, IsCandidate, is_excluded, match_cmp}
 use Rattle.volume_match.proofs.Scans.{match_total}
 use Rattle.model_laws.proofs.Lists.{none_some, one}

@@ -2,16 +2,16 @@
 use Rattle.std.proofs.Common.{◌≡◌, ◌∙◌, Bool, true, false, true≢false, not, ◌&&◌, ◌||◌, List, [], ◌∷◌, ◌⊎◌, inl, inr, refl, sym, ap}
 use Rattle.std.specs.List.{Contains, list_all, list_any}
 use Rattle.std.specs.Prelude.{Option, Some, None}
-use Rattle.kube_types.specs.declared.objects.Claim.{Claim as ClaimData}
-use Rattle.kube_types.specs.declared.objects.Node.{Node as NodeData}
-use Rattle.kube_types.specs.declared.objects.Ref.{Ref}
-use Rattle.kube_types.specs.declared.objects.Volume.{Volume as VolumeData}
-use Rattle.kube_types.specs.declared.objects.Object.{Object}
-use Rattle.kube_types.specs.declared.objects.Object.TheVariants.{Class, Node, Volume, Claim, Pod}
-use Rattle.kube_types.specs.Bindings.{carries, names_claim, refers_carrying, uid_carries}
-use Rattle.kube_types.specs.VolumeIndex.{HoldsThose, volumes_in}
-use Rattle.kube_types.proofs.HeldValues.{here, nothing, split, there}
-use Rattle.kube_types.proofs.IndexRows.{held_volume, volume_held}
+use Rattle.kube_objects.specs.declared.objects.Claim.{Claim as ClaimData}
+use Rattle.kube_objects.specs.declared.objects.Node.{Node as NodeData}
+use Rattle.kube_objects.specs.declared.objects.Ref.{Ref}
+use Rattle.kube_objects.specs.declared.objects.Volume.{Volume as VolumeData}
+use Rattle.kube_objects.specs.declared.objects.Object.{Object}
+use Rattle.kube_objects.specs.declared.objects.Object.TheVariants.{Class, Node, Volume, Claim, Pod}
+use Rattle.kube_objects.specs.Bindings.{carries, names_claim, refers_carrying, uid_carries}
+use Rattle.volume_index.specs.VolumeIndex.{HoldsThose, volumes_in}
+use Rattle.volume_index.proofs.HeldValues.{here, nothing, split, there}
+use Rattle.volume_index.proofs.IndexRows.{held_volume, volume_held}
 use Rattle.label_rules.specs.Selectors.{admits}
 use Rattle.binder_model.specs.Choice.{admits_if_carrying, carries_claim}
 use Rattle.volume_match.specs.Passing.{refers_to_claim}

@@ -2,26 +2,60 @@
 use Rattle.std.proofs.Common.{ℕ, zero, suc, ◌≡◌, ◌<◌, ◌+◌, ◌∙◌, ◌↔◌, Bool, true, false, true≢false, List, [], ◌∷◌, cond, filter, Option, Some, None, refl, sym, ap, subst, arith, if◌then◌else◌}
 use Rattle.std.specs.Prelude.{slice_get}
 use Rattle.std.specs.List.{list_all, list_any}
-use Rattle.kube_types.specs.declared.key.Key.{Key}
-use Rattle.kube_types.specs.declared.names.Due.{Due}
-use Rattle.kube_types.specs.declared.names.Due.TheVariants as dues
-use Rattle.kube_types.specs.declared.parts.Kind.TheVariants as kinds
-use Rattle.kube_types.specs.declared.objects.Node.{Node as NodeData}
-use Rattle.kube_types.specs.declared.objects.Pod.{Pod as PodData}
-use Rattle.kube_types.specs.declared.objects.Object.{Object}
-use Rattle.kube_types.specs.declared.objects.Object.TheVariants.{Class, Node, Volume, Claim, Pod}
-use Rattle.kube_types.specs.Bindings.{is_empty}
-use Rattle.kube_types.specs.Keys.{AreRows, is_of_kind, key_of, meta_of, rows_of}
-use Rattle.kube_types.proofs.RowPlaces.{row_at_place}
+use Rattle.kube_objects.specs.declared.key.Key.{Key}
+use Rattle.kube_parts.specs.declared.names.Due.{Due}
+use Rattle.kube_parts.specs.declared.names.Due.TheVariants as dues
+use Rattle.kube_parts.specs.declared.parts.Kind.TheVariants as kinds
+use Rattle.kube_objects.specs.declared.objects.Node.{Node as NodeData}
+use Rattle.kube_objects.specs.declared.objects.Pod.{Pod as PodData}
+use Rattle.kube_objects.specs.declared.objects.Object.{Object}
+use Rattle.kube_objects.specs.declared.objects.Object.TheVariants.{Class, Node, Volume, Claim, Pod}
+use Rattle.kube_objects.specs.Bindings.{is_empty}
+use Rattle.kube_objects.specs.Keys.{AreRows, is_of_kind, key_of, meta_of, rows_of}
+use Rattle.kube_objects.proofs.RowPlaces.{row_at_place}
 use Rattle.call_types.specs.declared.setup.Setup.{Setup}
-use Rattle.binder_model.specs.Choice.{AreShares, GoesNowhere, Searches, Serves, Share, Step, Waits, are_completed, assigned_node, claims_of, first_taking, is_served_elsewhere, is_under_way, lacks_claim, node_in, others_of, step_of, takes_pod}
+use Rattle.binder_model.specs.Choice.{
+  AreShares,
+  GoesNowhere,
+  Searches,
+  Serves,
+  Share,
+  Step,
+  Waits,
+  are_completed,
+  assigned_node,
+  claims_of,
+  first_taking,
+  is_served_elsewhere,
+  is_under_way,
+  lacks_claim,
+  node_in,
+  others_of,
+  step_of,
+  takes_pod,
+}
 use Rattle.binder_model.specs.Due.{CanPrepare, IsPodDue, IsStepDue}
 use Rattle.binder_model.specs.World.{World}
 use Rattle.model_laws.proofs.Lists.{none_some, one}
 use Rattle.delayed_binding.specs.declared.choice.Choice.{Choice}
 use Rattle.delayed_binding.specs.declared.choice.Choice.TheVariants.{Assign, Prepare, Wait, NoNode}
 use Rattle.delayed_binding.specs.ChoiceLaw.{ChoicesAreDue, ChosenNodesAreDue, HaveNoNamespace, IsAssignedNode, IsDueBy, IsNodeOf, IsServingNode}
-use Rattle.delayed_binding.specs.Choices.{AreAdmitted, HasNoNode, IsAssigned, IsChoiceAt, IsCompleted, IsPrepared, IsSearching, IsServedElsewhere, IsUnderWay, LacksClaim, ServesAll, Stage, places_from, set_aside}
+use Rattle.delayed_binding.specs.Choices.{
+  AreAdmitted,
+  HasNoNode,
+  IsAssigned,
+  IsChoiceAt,
+  IsCompleted,
+  IsPrepared,
+  IsSearching,
+  IsServedElsewhere,
+  IsUnderWay,
+  LacksClaim,
+  ServesAll,
+  Stage,
+  places_from,
+  set_aside,
+}
 use Rattle.delayed_binding.specs.Steps.Scans.{NoneBelow, as_node, node_at}
 use Rattle.delayed_binding.proofs.Rounds.{as_node_plain, found_first, seen_node, there_at}
 use Rattle.delayed_binding.proofs.Unique.{one_first}
@@ -49,7 +83,8 @@ record IsTaken (rows : List Object) (p : PodData) (os : List Object) (n : NodeDa
   takes : takes_pod rows p (Node n) ≡ true
   first : (k : ℕ) → k < place → (m : NodeData) → slice_get os k ≡ Some (Node m) → takes_pod rows p (Node m) ≡ true → ⊥
 
-taken_later : (rows : List Object) (p : PodData) (o : Object) (os : List Object) (n : NodeData) → ((m : NodeData) → o ≡ Node m → takes_pod rows p (Node m) ≡ true → ⊥) → IsTaken rows p os n → IsTaken rows p (o ∷ os) n
+taken_later : (rows : List Object) (p : PodData) (o : Object) (os : List Object) (n : NodeData)
+    → ((m : NodeData) → o ≡ Node m → takes_pod rows p (Node m) ≡ true → ⊥) → IsTaken rows p os n → IsTaken rows p (o ∷ os) n
 taken_later rows p o os n none t = record { place = suc t.place; there = t.there; takes = t.takes; first = first }
   where
     first : (k : ℕ) → k < suc t.place → (m : NodeData) → slice_get (o ∷ os) k ≡ Some (Node m) → takes_pod rows p (Node m) ≡ true → ⊥
@@ -113,7 +148,8 @@ module _ (rows : List Object) (order : AreRows rows) (plain : HaveNoNamespace ro
   pub at_node : (i : ℕ) (n : NodeData) → slice_get (rows_of kinds.Node rows) i ≡ Some (Node n) → node_at rows i ≡ Some n
   at_node i n at = ap as_node at ∙ as_node_plain n (plain.nodes (key_of (Node n)) n (row_at_place kinds.Node i (Node n) rows order at))
 
-  assigned : (name : List ℕ) → IsAssigned rows (claims_of rows p) name → (t : Option NodeData) → first_taking rows p (rows_of kinds.Node rows) ≡ t → (n : NodeData) × ((t ≡ Some n) × (name ≡ n.meta.name))
+  assigned : (name : List ℕ) → IsAssigned rows (claims_of rows p) name → (t : Option NodeData) → first_taking rows p (rows_of kinds.Node rows) ≡ t
+      → (n : NodeData) × ((t ≡ Some n) × (name ≡ n.meta.name))
   assigned name f None e =
       let spot = there_at rows order f.node f.first.there in
       absurd (none_taken rows p (rows_of kinds.Node rows) e spot.0 f.node (seen_node (slice_get (rows_of kinds.Node rows) spot.0) f.node spot.1).is f.first.holds)
@@ -127,7 +163,8 @@ module _ (rows : List Object) (order : AreRows rows) (plain : HaveNoNamespace ro
   not_assigned none None e = refl
   not_assigned none (Some n) e =
       let t = taken rows p (rows_of kinds.Node rows) n e in
-      let first = found_first rows order (AreAdmitted rows (claims_of rows p)) t.place n (at_node t.place n t.there) t.takes (λ k lt m at holds. t.first k lt m (seen_node (slice_get (rows_of kinds.Node rows) k) m at).is holds) in
+      let first = found_first rows order (AreAdmitted rows (claims_of rows p)) t.place n (at_node t.place n t.there) t.takes
+      (λ k lt m at holds. t.first k lt m (seen_node (slice_get (rows_of kinds.Node rows) k) m at).is holds) in
       absurd (none n first.there t.takes)
 
 -- the steps
@@ -142,7 +179,8 @@ module _ (setup : Setup) (w : World) (order : AreRows w.store.rows) (plain : Hav
   by_choice : (choice is : Choice) → choice ≡ is → (IsStepDue setup w p GoesNowhere action ↔ IsDueBy setup w p is action) → IsStepDue setup w p GoesNowhere action ↔ IsDueBy setup w p choice action
   by_choice choice is e h = subst (λ (c : Choice). IsStepDue setup w p GoesNowhere action ↔ IsDueBy setup w p c action) (sym e) h
 
-  completed : (choice : Choice) (t : Option NodeData) → first_taking w.store.rows p (rows_of kinds.Node w.store.rows) ≡ t → IsChoiceAt IsCompleted w.store.rows (claims_of w.store.rows p) last choice → IsStepDue setup w p (assigned_node t) action ↔ IsDueBy setup w p choice action
+  completed : (choice : Choice) (t : Option NodeData) → first_taking w.store.rows p (rows_of kinds.Node w.store.rows) ≡ t
+      → IsChoiceAt IsCompleted w.store.rows (claims_of w.store.rows p) last choice → IsStepDue setup w p (assigned_node t) action ↔ IsDueBy setup w p choice action
   completed (Assign name) t e f =
       let n = assigned w.store.rows order plain p name f t e in
       subst (λ (o : Option NodeData). IsStepDue setup w p (assigned_node o) action ↔ (action ≡ Some dues.Assign)) (sym n.1.0) (λ x. x, λ x. x)
@@ -162,7 +200,9 @@ module _ (setup : Setup) (w : World) (order : AreRows w.store.rows) (plain : Hav
   searching (Assign name) a f = absurd f
   searching Wait a f = absurd f
 
-  by_steps : (lacks done elsewhere under : Bool) (choice : Choice) → IsChoiceAt (stage_at lacks done elsewhere under) w.store.rows (claims_of w.store.rows p) last choice → IsStepDue setup w p (step_at lacks done elsewhere under (first_taking w.store.rows p (rows_of kinds.Node w.store.rows))) action ↔ IsDueBy setup w p choice action
+  by_steps : (lacks done elsewhere under : Bool) (choice : Choice)
+      → IsChoiceAt (stage_at lacks done elsewhere under) w.store.rows (claims_of w.store.rows p) last choice
+      → IsStepDue setup w p (step_at lacks done elsewhere under (first_taking w.store.rows p (rows_of kinds.Node w.store.rows))) action ↔ IsDueBy setup w p choice action
   by_steps true done elsewhere under choice f = by_choice choice NoNode f (λ x. x, λ x. x)
   by_steps false true elsewhere under choice f = completed choice (first_taking w.store.rows p (rows_of kinds.Node w.store.rows)) refl f
   by_steps false false true under choice f = by_choice choice Wait f (λ x. x, λ x. x)
@@ -172,7 +212,8 @@ module _ (setup : Setup) (w : World) (order : AreRows w.store.rows) (plain : Hav
 pub choices_are_due : ChoicesAreDue
 choices_are_due setup w p last choice action order plain unscheduled f =
     let rows = w.store.rows in
-    let h = by_steps setup w order plain p last action (lacks_claim rows p) (are_completed rows p) (list_any (is_served_elsewhere rows) (claims_of rows p)) (list_all (is_under_way rows) (claims_of rows p)) choice f in
+    let h = by_steps setup w order plain p last action (lacks_claim rows p) (are_completed rows p)
+    (list_any (is_served_elsewhere rows) (claims_of rows p)) (list_all (is_under_way rows) (claims_of rows p)) choice f in
     subst (λ b. IsPodDue setup w p b action ↔ IsDueBy setup w p choice action) (sym unscheduled) h
 
 -- the nodes
@@ -187,7 +228,14 @@ is_prepare choice = false
 
 module _ (rows : List Object) (order : AreRows rows) (plain : HaveNoNamespace rows) (p : PodData) (last : Option (List ℕ)) where
   serving : (name : List ℕ) (bs : List (Key × Key)) (ps : List Key) → IsPrepared rows (claims_of rows p) last name bs ps → IsServingNode rows p name
-  serving name bs ps f = record { node = f.node; named = f.named; there = f.first.there; shares = f.prepares.shares; serves = serves_there rows order plain p f.node f.prepares.shares f.prepares.serves }
+  serving name bs ps f = record {
+    node = f.node;
+    named = f.named;
+    there = f.first.there;
+    shares = f.prepares.shares;
+    serves = serves_there rows order
+        plain p f.node f.prepares.shares f.prepares.serves;
+  }
 
   assigns : (name : List ℕ) → IsAssigned rows (claims_of rows p) name → lacks_claim rows p ≡ false → are_completed rows p ≡ true → IsAssignedNode rows p name
   assigns name f lacks done =
@@ -195,7 +243,8 @@ module _ (rows : List Object) (order : AreRows rows) (plain : HaveNoNamespace ro
       let steps : step_of rows p ≡ assigned_node (first_taking rows p (rows_of kinds.Node rows)) = rw (lacks, done) refl in
       record { node = n.0; named = n.1.1; assigns = steps ∙ ap assigned_node n.1.0 }
 
-  nodes : (lacks done elsewhere under : Bool) → lacks_claim rows p ≡ lacks → are_completed rows p ≡ done → (choice : Choice) → IsChoiceAt (stage_at lacks done elsewhere under) rows (claims_of rows p) last choice → IsNodeOf rows p choice
+  nodes : (lacks done elsewhere under : Bool) → lacks_claim rows p ≡ lacks → are_completed rows p ≡ done → (choice : Choice)
+      → IsChoiceAt (stage_at lacks done elsewhere under) rows (claims_of rows p) last choice → IsNodeOf rows p choice
   nodes false true elsewhere under l d (Assign name) f = assigns name f l d
   nodes false false false false l d (Prepare name bs ps) f = serving name bs ps f
   nodes lacks done elsewhere under l d Wait f = tt
@@ -211,4 +260,5 @@ module _ (rows : List Object) (order : AreRows rows) (plain : HaveNoNamespace ro
 
 pub chosen_nodes_are_due : ChosenNodesAreDue
 chosen_nodes_are_due rows p last choice order plain f =
-    nodes rows order plain p last (lacks_claim rows p) (are_completed rows p) (list_any (is_served_elsewhere rows) (claims_of rows p)) (list_all (is_under_way rows) (claims_of rows p)) refl refl choice f
+    nodes rows order plain p last (lacks_claim rows p) (are_completed rows p) (list_any (is_served_elsewhere rows) (claims_of rows p))
+    (list_all (is_under_way rows) (claims_of rows p)) refl refl choice f

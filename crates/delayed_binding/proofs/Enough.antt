@@ -1,22 +1,53 @@
 -- A node that may give fewer volumes than there are claims, each as large as one and of its class, does not serve them.
-use Rattle.std.proofs.Common.{ℕ, zero, suc, ◌≡◌, ◌∙◌, ◌<◌, ◌≤◌, ◌+◌, ◌==◌, Bool, true, false, true≢false, not, ◌&&◌, ◌||◌, List, [], ◌∷◌, drop, length, Some, refl, sym, ap, subst, arith, bytes_eq, nat_le, is_none}
+use Rattle.std.proofs.Common.{
+  ℕ,
+  zero,
+  suc,
+  ◌≡◌,
+  ◌∙◌,
+  ◌<◌,
+  ◌≤◌,
+  ◌+◌,
+  ◌==◌,
+  Bool,
+  true,
+  false,
+  true≢false,
+  not,
+  ◌&&◌,
+  ◌||◌,
+  List,
+  [],
+  ◌∷◌,
+  drop,
+  length,
+  Some,
+  refl,
+  sym,
+  ap,
+  subst,
+  arith,
+  bytes_eq,
+  nat_le,
+  is_none,
+}
 use Rattle.std.specs.Prelude.{slice_get}
 use Rattle.std.specs.Bool.{OnTrue}
 use Rattle.std.specs.List.{list_all}
 use Rattle.std.proofs.lemmas.Bool.{le-leb, leb-true, and_parts}
 use Rattle.std.proofs.lemmas.Bool.Decides.{Decides-eqb}
 use Rattle.std.proofs.lemmas.Slice.Eq.{bytes_eq-Decides}
-use Rattle.kube_types.specs.declared.parts.Kind.TheVariants as kinds
-use Rattle.kube_types.specs.declared.parts.VolumePhase.{VolumePhase}
-use Rattle.kube_types.specs.declared.parts.VolumePhase.TheVariants as phases
-use Rattle.kube_types.specs.declared.objects.Claim.{Claim as ClaimData}
-use Rattle.kube_types.specs.declared.objects.Node.{Node as NodeData}
-use Rattle.kube_types.specs.declared.objects.Volume.{Volume as VolumeData}
-use Rattle.kube_types.specs.declared.objects.Object.{Object}
-use Rattle.kube_types.specs.declared.objects.Object.TheVariants.{Volume}
-use Rattle.kube_types.specs.Bindings.{class_of_claim, class_of_volume, is_available, is_deleting, is_ended, is_for, is_protected_volume}
-use Rattle.kube_types.specs.Keys.{row_at, rows_of}
-use Rattle.kube_types.specs.VolumeIndex.{as_volume}
+use Rattle.kube_parts.specs.declared.parts.Kind.TheVariants as kinds
+use Rattle.kube_parts.specs.declared.parts.VolumePhase.{VolumePhase}
+use Rattle.kube_parts.specs.declared.parts.VolumePhase.TheVariants as phases
+use Rattle.kube_objects.specs.declared.objects.Claim.{Claim as ClaimData}
+use Rattle.kube_objects.specs.declared.objects.Node.{Node as NodeData}
+use Rattle.kube_objects.specs.declared.objects.Volume.{Volume as VolumeData}
+use Rattle.kube_objects.specs.declared.objects.Object.{Object}
+use Rattle.kube_objects.specs.declared.objects.Object.TheVariants.{Volume}
+use Rattle.kube_objects.specs.Bindings.{class_of_claim, class_of_volume, is_available, is_deleting, is_ended, is_for, is_protected_volume}
+use Rattle.kube_objects.specs.Keys.{row_at, rows_of}
+use Rattle.volume_index.specs.VolumeIndex.{as_volume}
 use Rattle.label_rules.specs.Selectors.{admits}
 use Rattle.binder_model.specs.Choice.{AreShares, IsProvisioned, Share, TakesVolume, can_provision, class_provisions}
 use Rattle.binder_model.specs.Matching.{eligible, fits, is_excluded, is_selected, may_serve}
@@ -53,16 +84,19 @@ module _ (one : ClaimData) (n : NodeData) where
 
   fewer : (os : List Object) (at p : ℕ) (taken : List ℕ) → count_left one n (p ∷ taken) at os ≤ count_left one n taken at os
   fewer [] at p taken = omega arith
-  fewer (o ∷ os) at p taken = more_left (gives_at one n (as_volume (Some o))) (p == at) (is_excluded taken at) (count_left one n (p ∷ taken) (at + 1) os) (count_left one n taken (at + 1) os) (fewer os (at + 1) p taken)
+  fewer (o ∷ os) at p taken = more_left (gives_at one n (as_volume (Some o))) (p == at) (is_excluded taken at) (count_left one n (p ∷ taken) (at + 1)
+      os) (count_left one n taken (at + 1) os) (fewer os (at + 1) p taken)
 
-  one_taken : (os : List Object) (at i p : ℕ) (taken : List ℕ) (v : VolumeData) → p ≡ at + i → slice_get os i ≡ Some (Volume v) → may_give one n v ≡ true → is_excluded taken p ≡ false → count_left one n (p ∷ taken) at os < count_left one n taken at os
+  one_taken : (os : List Object) (at i p : ℕ) (taken : List ℕ) (v : VolumeData) → p ≡ at + i → slice_get os i ≡ Some (Volume v)
+      → may_give one n v ≡ true → is_excluded taken p ≡ false → count_left one n (p ∷ taken) at os < count_left one n taken at os
   one_taken [] at i p taken v e there gives out = none_some there
   one_taken (o ∷ os) at zero p taken v e there gives out =
       let here : p ≡ at = omega (arith, e) in
       one_goes (gives_at one n (as_volume (Some o))) (p == at) (is_excluded taken at) (count_left one n (p ∷ taken) (at + 1) os) (count_left one n taken (at + 1) os) (fewer os (at + 1) p taken)
       (ap (λ x. gives_at one n (as_volume x)) there ∙ gives) ((Decides-eqb p at).1 here) (subst (λ k. is_excluded taken k ≡ false) here out)
   one_taken (o ∷ os) at (suc i) p taken v e there gives out =
-      less_left (gives_at one n (as_volume (Some o))) (p == at) (is_excluded taken at) (count_left one n (p ∷ taken) (at + 1) os) (count_left one n taken (at + 1) os) (one_taken os (at + 1) i p taken v (omega (arith, e)) there gives out)
+      less_left (gives_at one n (as_volume (Some o))) (p == at) (is_excluded taken at) (count_left one n (p ∷ taken) (at + 1) os)
+      (count_left one n taken (at + 1) os) (one_taken os (at + 1) i p taken v (omega (arith, e)) there gives out)
 
   -- what is left is no more than there is
   at_most : (os : List Object) (at : ℕ) (taken : List ℕ) → count_left one n taken at os ≤ count_given one n os
@@ -81,8 +115,11 @@ module _ (one : ClaimData) (n : NodeData) where
   counted_from (o ∷ os) zero = refl
   counted_from (o ∷ os) (suc i) = counted_from os i
 
-  pub count_next : (os : List Object) (i left after wanted : ℕ) → 0 < left → after ≡ one_less (gives_at one n (as_volume (slice_get os i))) left → count_given one n os + left ≡ wanted + count_given one n (drop i os) → count_given one n os + after ≡ wanted + count_given one n (drop (i + 1) os)
-  count_next os i left after wanted some is before = subst (λ k. count_given one n os + after ≡ wanted + count_given one n (drop k os)) (next i) (by (gives_at one n (as_volume (slice_get os i))) (count_given one n os) (count_given one n (drop i os)) (count_given one n (drop (suc i) os)) (counted_from os i) is before)
+  pub count_next : (os : List Object) (i left after wanted : ℕ) → 0 < left → after ≡ one_less (gives_at one n (as_volume (slice_get os i))) left
+      → count_given one n os + left ≡ wanted + count_given one n (drop i os) → count_given one n os + after ≡ wanted + count_given one n (drop (i + 1) os)
+  count_next os i left after wanted some is before =
+      subst (λ k. count_given one n os + after ≡ wanted + count_given one n (drop k os)) (next i)
+      (by (gives_at one n (as_volume (slice_get os i))) (count_given one n os) (count_given one n (drop i os)) (count_given one n (drop (suc i) os)) (counted_from os i) is before)
     where
       next : (k : ℕ) → suc k ≡ k + 1
       next k = omega arith
@@ -164,7 +201,8 @@ module _ (rows : List Object) (one : ClaimData) (n : NodeData) (cannot : class_p
   at_first p = omega arith
 
   -- each claim takes one of those that are left
-  needed : (cs : List ClaimData) (taken : List ℕ) (shares : List Share) → list_all (asks_like one) cs ≡ true → AreShares rows n taken cs shares → length cs ≤ count_left one n taken 0 (rows_of kinds.PersistentVolume rows)
+  needed : (cs : List ClaimData) (taken : List ℕ) (shares : List Share) → list_all (asks_like one) cs ≡ true → AreShares rows n taken cs shares
+      → length cs ≤ count_left one n taken 0 (rows_of kinds.PersistentVolume rows)
   needed [] taken shares all are = omega arith
   needed (c ∷ cs) taken [] all are = absurd are
   needed (c ∷ cs) taken (TakesVolume p ∷ shares) all are =
@@ -178,7 +216,8 @@ module _ (rows : List Object) (one : ClaimData) (n : NodeData) (cannot : class_p
   short a b d e x y z same = omega (arith, x, y, z, same)
 
   -- so there are enough of them, where the claims have shares
-  pub too_few : (cs : List ClaimData) (wanted : ℕ) (fewer : Bool) → list_all (asks_like one) cs ≡ true → wanted ≡ length cs → OnTrue fewer (count_given one n (rows_of kinds.PersistentVolume rows) < wanted) → OnTrue fewer (HaveNoShares rows n cs)
+  pub too_few : (cs : List ClaimData) (wanted : ℕ) (fewer : Bool) → list_all (asks_like one) cs ≡ true → wanted ≡ length cs
+      → OnTrue fewer (count_given one n (rows_of kinds.PersistentVolume rows) < wanted) → OnTrue fewer (HaveNoShares rows n cs)
   too_few cs wanted true all is less = λ shares are.
       short (length cs) (count_left one n (set_aside rows) 0 (rows_of kinds.PersistentVolume rows)) (count_given one n (rows_of kinds.PersistentVolume rows)) wanted
       (needed cs (set_aside rows) shares all are) (at_most one n (rows_of kinds.PersistentVolume rows) 0 (set_aside rows)) less is

@@ -1,22 +1,22 @@
 -- A volume is given only to a claim that it fits: the references that are written are those of eligible volumes.
 use Rattle.std.proofs.Common.{ℕ, ◌≡◌, ◌∙◌, Bool, true, false, not, ◌&&◌, List, map, Option, Some, None, refl, sym, ap, subst}
 use Rattle.std.specs.Prelude.{slice_get}
-use Rattle.kube_types.specs.declared.key.Key.{Key}
-use Rattle.kube_types.specs.declared.parts.Kind.TheVariants as kinds
-use Rattle.kube_types.specs.declared.objects.Claim.{Claim as ClaimData}
-use Rattle.kube_types.specs.declared.objects.Node.{Node as NodeData}
-use Rattle.kube_types.specs.declared.objects.Pod.{Pod as PodData}
-use Rattle.kube_types.specs.declared.objects.Volume.{Volume as VolumeData}
-use Rattle.kube_types.specs.declared.objects.Object.{Object}
-use Rattle.kube_types.specs.declared.objects.Object.TheVariants.{Volume}
-use Rattle.kube_types.specs.Bindings.{is_deleting, is_protected_volume}
-use Rattle.kube_types.specs.Keys.{AreRows, key_of, row_at}
-use Rattle.kube_types.proofs.RowPlaces.{row_at_place}
+use Rattle.kube_objects.specs.declared.key.Key.{Key}
+use Rattle.kube_parts.specs.declared.parts.Kind.TheVariants as kinds
+use Rattle.kube_objects.specs.declared.objects.Claim.{Claim as ClaimData}
+use Rattle.kube_objects.specs.declared.objects.Node.{Node as NodeData}
+use Rattle.kube_objects.specs.declared.objects.Pod.{Pod as PodData}
+use Rattle.kube_objects.specs.declared.objects.Volume.{Volume as VolumeData}
+use Rattle.kube_objects.specs.declared.objects.Object.{Object}
+use Rattle.kube_objects.specs.declared.objects.Object.TheVariants.{Volume}
+use Rattle.kube_objects.specs.Bindings.{is_deleting, is_protected_volume}
+use Rattle.kube_objects.specs.Keys.{AreRows, key_of, row_at}
+use Rattle.kube_objects.proofs.RowPlaces.{row_at_place}
 use Rattle.call_types.specs.declared.request.Request.{Request}
 use Rattle.binder_model.specs.BindWrites.{write_reference}
 use Rattle.binder_model.specs.Choice.{claim_in, claims_of}
 use Rattle.binder_model.specs.Matching.{eligible, fits, is_admitted_on, is_selected, may_serve}
-use Rattle.kube_types.specs.VolumeIndex.{as_volume}
+use Rattle.volume_index.specs.VolumeIndex.{as_volume}
 use Rattle.model_laws.proofs.Lists.{none_some, one}
 use Rattle.delayed_binding.specs.declared.choice.Choice.TheVariants.{Assign, Prepare, Wait, NoNode}
 use Rattle.delayed_binding.specs.Choices.{others_in, set_aside}
@@ -51,11 +51,13 @@ module _ (rows : List Object) (order : AreRows rows) (p : PodData) (last : Optio
       let node = s.prepared.node in
       let others = others_in rows (claims_of rows p) in
       let b : IsBound rows node (IsStored rows) (set_aside rows) pair =
-      bound_at rows node others s.prepared.prepares.shares (set_aside rows) (others_stored rows p) s.prepared.prepares.serves.shared i pair (subst (λ xs. slice_get xs i ≡ Some pair) s.prepared.prepares.binds_are at) in
+      bound_at rows node others s.prepared.prepares.shares (set_aside rows) (others_stored rows p) s.prepared.prepares.serves.shared i pair
+      (subst (λ xs. slice_get xs i ≡ Some pair) s.prepared.prepares.binds_are at) in
       let volume_row : row_at (key_of (Volume b.volume)) rows ≡ Some (Volume b.volume) = row_at_place kinds.PersistentVolume b.place (Volume b.volume) rows order b.there in
       let claim_seen : claim_in (row_at pair.0 rows) ≡ Some b.claim = ap (λ k. claim_in (row_at k rows)) b.first ∙ ap claim_in b.holds in
       let volume_seen : as_volume (row_at pair.1 rows) ≡ Some b.volume = ap (λ k. as_volume (row_at k rows)) b.second ∙ ap as_volume volume_row in
-      let is : bind_write rows pair ≡ Some (write_reference b.volume b.claim) = ap (λ x. reference_write x (as_volume (row_at pair.1 rows))) claim_seen ∙ ap (λ x. reference_write (Some b.claim) x) volume_seen in
+      let is : bind_write rows pair ≡ Some (write_reference b.volume b.claim) =
+      ap (λ x. reference_write x (as_volume (row_at pair.1 rows))) claim_seen ∙ ap (λ x. reference_write (Some b.claim) x) volume_seen in
       let fitting : IsFitting rows (write_reference b.volume b.claim) =
       record { volume = b.volume; claim = b.claim; volume_there = volume_row; claim_there = b.holds; is = refl; fits = fits_of b.volume b.claim node b.eligible } in
       subst (FitsIfReference rows) (one (write_reference b.volume b.claim) request (sym is ∙ e)) fitting

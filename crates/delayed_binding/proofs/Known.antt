@@ -5,14 +5,14 @@ use Rattle.std.specs.List.{cons_option, list_all, list_any}
 use Rattle.std.specs.Ordering.{is_gt}
 use Rattle.std.proofs.lemmas.Slice.Eq.{bytes_eq-Decides}
 use Rattle.std.proofs.lemmas.Bool.{not-true, or_parts}
-use Rattle.kube_types.specs.declared.key.Key.{Key}
-use Rattle.kube_types.specs.declared.objects.Claim.{Claim as ClaimData}
-use Rattle.kube_types.specs.declared.objects.Pod.{Pod as PodData}
-use Rattle.kube_types.specs.declared.objects.Object.{Object}
-use Rattle.kube_types.specs.declared.objects.Object.TheVariants.{Class, Node, Volume, Claim, Pod}
-use Rattle.kube_types.specs.Bindings.{class_of_claim, has_key, has_name, is_completed, is_empty, selected_node}
-use Rattle.kube_types.specs.Keys.{key_of, row_at}
-use Rattle.kube_types.proofs.KeyOrder.{row_at_key}
+use Rattle.kube_objects.specs.declared.key.Key.{Key}
+use Rattle.kube_objects.specs.declared.objects.Claim.{Claim as ClaimData}
+use Rattle.kube_objects.specs.declared.objects.Pod.{Pod as PodData}
+use Rattle.kube_objects.specs.declared.objects.Object.{Object}
+use Rattle.kube_objects.specs.declared.objects.Object.TheVariants.{Class, Node, Volume, Claim, Pod}
+use Rattle.kube_objects.specs.Bindings.{class_of_claim, has_key, has_name, is_completed, is_empty, selected_node}
+use Rattle.kube_objects.specs.Keys.{key_of, row_at}
+use Rattle.kube_objects.proofs.KeyOrder.{row_at_key}
 use Rattle.binder_model.specs.Choice.{by_size, claim_cmp, claim_in, claim_named, claims_of, has_carrier, insert_claim, is_other, is_served_elsewhere, is_under_way}
 use Rattle.binder_model.specs.Fields.{has_twice}
 use Rattle.binder_model.specs.Matching.{is_delayed}
@@ -75,7 +75,8 @@ module _ (rows : List Object) (namespace : List ℕ) where
   all_stored [] = tt
   all_stored (name ∷ names) = by (claim_named rows namespace name) refl (all_stored names)
     where
-      by : (o : Option ClaimData) → claim_named rows namespace name ≡ o → Each (IsStored rows) (filter_map (claim_named rows namespace) names) → Each (IsStored rows) (cons_option o (filter_map (claim_named rows namespace) names))
+      by : (o : Option ClaimData) → claim_named rows namespace name ≡ o → Each (IsStored rows) (filter_map (claim_named rows namespace) names)
+          → Each (IsStored rows) (cons_option o (filter_map (claim_named rows namespace) names))
       by None e rest = rest
       by (Some c) e rest = (named_stored name c e, rest)
 
@@ -91,7 +92,9 @@ module _ (rows : List Object) (namespace : List ℕ) where
       first : (c : ClaimData) → c.meta.name ≡ name → has_name c.meta.name (name ∷ names) ≡ true
       first c e = ap (λ b. b || has_name c.meta.name names) ((bytes_eq-Decides name c.meta.name).1 (sym e))
 
-      by : (o : Option ClaimData) → claim_named rows namespace name ≡ o → Each (λ c. has_name c.meta.name (name ∷ names) ≡ true) (filter_map (claim_named rows namespace) names) → Each (λ c. has_name c.meta.name (name ∷ names) ≡ true) (cons_option o (filter_map (claim_named rows namespace) names))
+      by : (o : Option ClaimData) → claim_named rows namespace name ≡ o
+          → Each (λ c. has_name c.meta.name (name ∷ names) ≡ true) (filter_map (claim_named rows namespace) names)
+          → Each (λ c. has_name c.meta.name (name ∷ names) ≡ true) (cons_option o (filter_map (claim_named rows namespace) names))
       by None e rest = rest
       by (Some c) e rest = (first c (ap (λ (k : Key). k.name) (named_key name c e)), rest)
 
@@ -141,14 +144,16 @@ named_apart rows namespace (name ∷ names) once = by (claim_named rows namespac
         let names_are : d.meta.name ≡ name = sym (ap (λ (k : Key). k.name) same) ∙ e in
         true≢false (sym h ∙ ap (λ x. has_name x names) names_are ∙ or_left (has_name name names) (has_twice names) once)
 
-    by : (o : Option ClaimData) → claim_named rows namespace name ≡ o → AreApart (filter_map (claim_named rows namespace) names) → AreApart (cons_option o (filter_map (claim_named rows namespace) names))
+    by : (o : Option ClaimData) → claim_named rows namespace name ≡ o → AreApart (filter_map (claim_named rows namespace) names)
+        → AreApart (cons_option o (filter_map (claim_named rows namespace) names))
     by None e rest = rest
     by (Some c) e rest = (each_map (other c (ap (λ (k : Key). k.name) (named_key rows namespace name c e))) (filter_map (claim_named rows namespace) names) (all_named rows namespace names), rest)
 
 -- those that are not fixed
 
 pub others_stored : (rows : List Object) (p : PodData) → Each (IsStored rows) (others_in rows (claims_of rows p))
-others_stored rows p = each_by_size (IsStored rows) (filter (is_other rows) (claims_of rows p)) (each_filter (IsStored rows) (is_other rows) (claims_of rows p) (all_stored rows p.meta.namespace p.claims))
+others_stored rows p = each_by_size (IsStored rows) (filter (is_other rows) (claims_of rows p)) (each_filter (IsStored rows) (is_other rows)
+    (claims_of rows p) (all_stored rows p.meta.namespace p.claims))
 
 pub others_apart : (rows : List Object) (p : PodData) → has_twice p.claims ≡ false → AreApart (others_in rows (claims_of rows p))
 others_apart rows p once = apart_by_size (filter (is_other rows) (claims_of rows p)) (apart_filter (is_other rows) (claims_of rows p) (named_apart rows p.meta.namespace p.claims once))
@@ -175,10 +180,12 @@ is_delayed_one false empty true undone e = refl
 is_delayed_one false true false undone e = absurd (true≢false e)
 is_delayed_one false false false undone e = absurd (true≢false e)
 
-sought_in : (rows : List Object) (cs : List ClaimData) → Each (IsStored rows) cs → list_all is_known cs ≡ true → list_any (is_served_elsewhere rows) cs ≡ false → Each (IsSought rows) (filter (is_other rows) cs)
+sought_in : (rows : List Object) (cs : List ClaimData) → Each (IsStored rows) cs → list_all is_known cs ≡ true
+    → list_any (is_served_elsewhere rows) cs ≡ false → Each (IsSought rows) (filter (is_other rows) cs)
 sought_in rows [] stored known elsewhere = tt
 sought_in rows (c ∷ cs) stored known elsewhere =
-    by (is_other rows c) refl (sought_in rows cs stored.1 (and_right (is_known c) (list_all is_known cs) known) (or_parts (is_served_elsewhere rows c) (list_any (is_served_elsewhere rows) cs) elsewhere).1)
+    by (is_other rows c) refl (sought_in rows cs stored.1 (and_right (is_known c) (list_all is_known cs) known)
+    (or_parts (is_served_elsewhere rows c) (list_any (is_served_elsewhere rows) cs) elsewhere).1)
   where
     sought : is_other rows c ≡ true → IsSought rows c
     sought e =
@@ -188,15 +195,18 @@ sought_in rows (c ∷ cs) stored known elsewhere =
           known = and_left (is_known c) (list_all is_known cs) known;
           undone = undone;
           uncarried = not-true (has_carrier rows c) (and_right (not (is_completed c)) (not (has_carrier rows c)) e);
-          delayed = is_delayed_one (is_completed c) (is_empty c.volume_name) (is_delayed (row_at (class_key (class_of_claim c)) rows)) undone (or_parts (is_served_elsewhere rows c) (list_any (is_served_elsewhere rows) cs) elsewhere).0;
+          delayed = is_delayed_one (is_completed c) (is_empty c.volume_name) (is_delayed (row_at (class_key (class_of_claim c)) rows)) undone
+              (or_parts (is_served_elsewhere rows c) (list_any (is_served_elsewhere rows) cs) elsewhere).0;
         }
 
     by : (b : Bool) → is_other rows c ≡ b → Each (IsSought rows) (filter (is_other rows) cs) → Each (IsSought rows) (cond b (c ∷ filter (is_other rows) cs) (filter (is_other rows) cs))
     by true e rest = (sought e, rest)
     by false e rest = rest
 
-pub others_sought : (rows : List Object) (p : PodData) → list_all is_known (claims_of rows p) ≡ true → list_any (is_served_elsewhere rows) (claims_of rows p) ≡ false → Each (IsSought rows) (others_in rows (claims_of rows p))
-others_sought rows p known elsewhere = each_by_size (IsSought rows) (filter (is_other rows) (claims_of rows p)) (sought_in rows (claims_of rows p) (all_stored rows p.meta.namespace p.claims) known elsewhere)
+pub others_sought : (rows : List Object) (p : PodData) → list_all is_known (claims_of rows p) ≡ true
+    → list_any (is_served_elsewhere rows) (claims_of rows p) ≡ false → Each (IsSought rows) (others_in rows (claims_of rows p))
+others_sought rows p known elsewhere = each_by_size (IsSought rows) (filter (is_other rows) (claims_of rows p)) (sought_in rows (claims_of rows p)
+    (all_stored rows p.meta.namespace p.claims) known elsewhere)
 
 -- where some claim is not under way, there is one that is not fixed
 
@@ -220,7 +230,8 @@ some_other : (rows : List Object) (cs : List ClaimData) → list_all (is_under_w
 some_other rows [] e = absurd (true≢false e)
 some_other rows (c ∷ cs) e = by (is_completed c) (has_carrier rows c) e (some_other rows cs)
   where
-    by : (done carried : Bool) → ((done || carried || has_key selected_node c.meta.annotations) && list_all (is_under_way rows) cs) ≡ false → (list_all (is_under_way rows) cs ≡ false → IsSome (filter (is_other rows) cs)) → IsSome (cond (not done && not carried) (c ∷ filter (is_other rows) cs) (filter (is_other rows) cs))
+    by : (done carried : Bool) → ((done || carried || has_key selected_node c.meta.annotations) && list_all (is_under_way rows) cs) ≡ false
+        → (list_all (is_under_way rows) cs ≡ false → IsSome (filter (is_other rows) cs)) → IsSome (cond (not done && not carried) (c ∷ filter (is_other rows) cs) (filter (is_other rows) cs))
     by false false e rest = tt
     by true true e rest = rest e
     by true false e rest = rest e

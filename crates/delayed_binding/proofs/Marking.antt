@@ -1,5 +1,38 @@
 -- Marks and the places that they stand for.
-use Rattle.std.proofs.Common.{ℕ, zero, suc, ◌≡◌, ◌≢◌, ◌∙◌, ◌+◌, ◌<◌, Bool, true, false, ◌||◌, ◌==◌, List, [], ◌∷◌, ◌++◌, length, set, get_or, Option, Some, None, IfSome, MatchOption, HoldsAt, Bor, ◌≤◌, refl, sym, ap, arith}
+use Rattle.std.proofs.Common.{
+  ℕ,
+  zero,
+  suc,
+  ◌≡◌,
+  ◌≢◌,
+  ◌∙◌,
+  ◌+◌,
+  ◌<◌,
+  Bool,
+  true,
+  false,
+  ◌||◌,
+  ◌==◌,
+  List,
+  [],
+  ◌∷◌,
+  ◌++◌,
+  length,
+  set,
+  get_or,
+  Option,
+  Some,
+  None,
+  IfSome,
+  MatchOption,
+  HoldsAt,
+  Bor,
+  ◌≤◌,
+  refl,
+  sym,
+  ap,
+  arith,
+}
 use Rattle.std.specs.Prelude.{slice_get}
 use Rattle.std.specs.Option.{option_copied}
 use Rattle.std.proofs.lemmas.Bool.Decides.{Decides-eqb}
@@ -32,7 +65,8 @@ first_place at = omega arith
 -- a place before the first has no mark
 none_before : (marks : List Bool) (at k : ℕ) → k < at → is_excluded (marked at marks) k ≡ false
 none_before [] at k lt = refl
-none_before (true ∷ marks) at k lt = or_same (at == k) false (is_excluded (marked (at + 1) marks) k) (eq_other at k (λ (e : at ≡ k). absurd (omega (arith, lt, e)))) ∙ none_before marks (at + 1) k (omega (arith, lt))
+none_before (true ∷ marks) at k lt = or_same (at == k) false (is_excluded (marked (at + 1) marks) k) (eq_other at k
+    (λ (e : at ≡ k). absurd (omega (arith, lt, e)))) ∙ none_before marks (at + 1) k (omega (arith, lt))
 none_before (false ∷ marks) at k lt = none_before marks (at + 1) k (omega (arith, lt))
 
 -- whether there is a mark, and it is set
@@ -45,7 +79,9 @@ set_from [] at zero = refl
 set_from [] at (suc i) = refl
 set_from (true ∷ marks) at zero = sym (or_same (at == at + 0) true (is_excluded (marked (at + 1) marks) (at + 0)) (eq_itself at (at + 0) (first_place at)))
 set_from (false ∷ marks) at zero = sym (none_before marks (at + 1) (at + 0) (omega arith))
-set_from (true ∷ marks) at (suc i) = set_from marks (at + 1) i ∙ (ap (is_excluded (marked (at + 1) marks)) (past_place at i) ∙ sym (or_same (at == at + suc i) false (is_excluded (marked (at + 1) marks) (at + suc i)) (eq_other at (at + suc i) (λ (e : at ≡ at + suc i). absurd (omega (arith, e))))))
+set_from (true ∷ marks) at (suc i) = set_from marks (at + 1) i
+    ∙ (ap (is_excluded (marked (at + 1) marks)) (past_place at i)
+    ∙ sym (or_same (at == at + suc i) false (is_excluded (marked (at + 1) marks) (at + suc i)) (eq_other at (at + suc i) (λ (e : at ≡ at + suc i). absurd (omega (arith, e))))))
 set_from (false ∷ marks) at (suc i) = set_from marks (at + 1) i ∙ ap (is_excluded (marked (at + 1) marks)) (past_place at i)
 
 -- the mark of a place
@@ -56,7 +92,8 @@ mark_there marks place = set_from marks 0 place ∙ ap (is_excluded (marked 0 ma
     zero_place n = omega arith
 
 -- what was got at a place
-pub got_mark : (r : Option (Bor Bool)) (marks : List Bool) (place : ℕ) → IfSome r (λ x. x.now ≡ get_or marks place x.now) → MatchOption r (length marks ≤ place) (λ x. (place < length marks) × HoldsAt {X = Bool} (λ y. x.now ≡ y) marks place) → is_set (option_copied r) ≡ is_excluded (marked 0 marks) place
+pub got_mark : (r : Option (Bor Bool)) (marks : List Bool) (place : ℕ) → IfSome r (λ x. x.now ≡ get_or marks place x.now)
+    → MatchOption r (length marks ≤ place) (λ x. (place < length marks) × HoldsAt {X = Bool} (λ y. x.now ≡ y) marks place) → is_set (option_copied r) ≡ is_excluded (marked 0 marks) place
 got_mark None marks place h m = ap is_set (sym (slice_get_past marks place m)) ∙ mark_there marks place
 got_mark (Some x) marks place h m = ap is_set (sym (slice_get_read marks (length marks) place x.now refl m.0 h)) ∙ mark_there marks place
 
@@ -80,7 +117,8 @@ put_from (true ∷ marks) at zero k lt = twice (at == k) (at + 0 == k) (is_exclu
     twice true false r e = cc
     twice false true r e = cc
 put_from (false ∷ marks) at zero k lt = or_same (at == k) (at + 0 == k) (is_excluded (marked (at + 1) marks) k) (ap (λ n. n == k) (first_place at))
-put_from (true ∷ marks) at (suc i) k lt = ap (λ r. (at == k) || r) (put_from marks (at + 1) i k (omega (arith, lt))) ∙ turned (at == k) ((at + 1) + i == k) (at + suc i == k) (is_excluded (marked (at + 1) marks) k) (ap (λ n. n == k) (past_place at i))
+put_from (true ∷ marks) at (suc i) k lt = ap (λ r. (at == k) || r) (put_from marks (at + 1) i k (omega (arith, lt)))
+    ∙ turned (at == k) ((at + 1) + i == k) (at + suc i == k) (is_excluded (marked (at + 1) marks) k) (ap (λ n. n == k) (past_place at i))
   where
     turned : (a b d r : Bool) → b ≡ d → (a || (b || r)) ≡ (d || (a || r))
     turned true true true r e = refl
@@ -89,7 +127,8 @@ put_from (true ∷ marks) at (suc i) k lt = ap (λ r. (at == k) || r) (put_from 
     turned false false false r e = refl
     turned a true false r e = cc
     turned a false true r e = cc
-put_from (false ∷ marks) at (suc i) k lt = put_from marks (at + 1) i k (omega (arith, lt)) ∙ or_same ((at + 1) + i == k) (at + suc i == k) (is_excluded (marked (at + 1) marks) k) (ap (λ n. n == k) (past_place at i))
+put_from (false ∷ marks) at (suc i) k lt = put_from marks (at + 1) i k (omega (arith, lt))
+    ∙ or_same ((at + 1) + i == k) (at + suc i == k) (is_excluded (marked (at + 1) marks) k) (ap (λ n. n == k) (past_place at i))
 
 pub mark_put : (marks : List Bool) (place : ℕ) → place < length marks → AreSame (marked 0 (set marks place true)) (place ∷ marked 0 marks)
 mark_put marks place lt k = put_from marks 0 place k lt ∙ or_same (0 + place == k) (place == k) (is_excluded (marked 0 marks) k) (ap (λ n. n == k) (zero_place place))

@@ -1,5 +1,35 @@
 -- What a scan of the nodes finds is the first in the round.
-use Rattle.std.proofs.Common.{ℕ, zero, suc, ◌≡◌, ◌≢◌, ◌<◌, ◌∙◌, Bool, true, false, true≢false, List, [], ◌∷◌, length, cond, filter, ◌⊎◌, Option, Some, None, inl, inr, refl, sym, ap, subst, arith, if◌then◌else◌}
+use Rattle.std.proofs.Common.{
+  ℕ,
+  zero,
+  suc,
+  ◌≡◌,
+  ◌≢◌,
+  ◌<◌,
+  ◌∙◌,
+  Bool,
+  true,
+  false,
+  true≢false,
+  List,
+  [],
+  ◌∷◌,
+  length,
+  cond,
+  filter,
+  ◌⊎◌,
+  Option,
+  Some,
+  None,
+  inl,
+  inr,
+  refl,
+  sym,
+  ap,
+  subst,
+  arith,
+  if◌then◌else◌,
+}
 use Rattle.std.specs.Prelude.{slice_get}
 use Rattle.std.specs.Bool.{beq}
 use Rattle.std.specs.declared.cmp.Ordering.{Ordering}
@@ -9,16 +39,16 @@ use Rattle.std.proofs.lemmas.Cmp.{nat_list_cmp_total, ranked, tied_itself}
 use Rattle.std.proofs.lemmas.Option.{slice_get_within}
 use Rattle.plain_data.specs.Pairs.{text_cmp}
 use Rattle.plain_data.specs.Rows.{IsAfter, IsRising}
-use Rattle.kube_types.specs.declared.key.Key.{Key}
-use Rattle.kube_types.specs.declared.parts.Kind.TheVariants as kinds
-use Rattle.kube_types.specs.declared.objects.Claim.{Claim as ClaimData}
-use Rattle.kube_types.specs.declared.objects.Node.{Node as NodeData}
-use Rattle.kube_types.specs.declared.objects.Object.{Object}
-use Rattle.kube_types.specs.declared.objects.Object.TheVariants.{Class, Node, Volume, Claim, Pod}
-use Rattle.kube_types.specs.Bindings.{is_empty}
-use Rattle.kube_types.specs.Keys.{AreRows, is_of_kind, key_cmp, key_of, row_at, rows_of}
-use Rattle.kube_types.proofs.KeyOrder.{row_at_key}
-use Rattle.kube_types.proofs.RowPlaces.{place_of_row, row_at_place}
+use Rattle.kube_objects.specs.declared.key.Key.{Key}
+use Rattle.kube_parts.specs.declared.parts.Kind.TheVariants as kinds
+use Rattle.kube_objects.specs.declared.objects.Claim.{Claim as ClaimData}
+use Rattle.kube_objects.specs.declared.objects.Node.{Node as NodeData}
+use Rattle.kube_objects.specs.declared.objects.Object.{Object}
+use Rattle.kube_objects.specs.declared.objects.Object.TheVariants.{Class, Node, Volume, Claim, Pod}
+use Rattle.kube_objects.specs.Bindings.{is_empty}
+use Rattle.kube_objects.specs.Keys.{AreRows, is_of_kind, key_cmp, key_of, row_at, rows_of}
+use Rattle.kube_objects.proofs.KeyOrder.{row_at_key}
+use Rattle.kube_objects.proofs.RowPlaces.{place_of_row, row_at_place}
 use Rattle.binder_model.specs.ObjectKeys.{node_key}
 use Rattle.model_laws.proofs.Lists.{none_some, one}
 use Rattle.delayed_binding.specs.declared.choice.Choice.{Choice}
@@ -108,7 +138,8 @@ module _ (rows : List Object) (order : AreRows rows) where
   equal_is o e g = absurd (true≢false (sym (ap is_gt g) ∙ ap is_gt e))
 
   -- of the nodes of which P holds, the one at the first place is the first by name
-  pub first_by_name : (P : NodeData → Type 0) (place : ℕ) (n : NodeData) → node_at rows place ≡ Some n → NoneBelow rows P place → (other : NodeData) → IsThere rows other → P other → text_cmp n.meta.name other.meta.name ≢ Greater
+  pub first_by_name : (P : NodeData → Type 0) (place : ℕ) (n : NodeData) → node_at rows place ≡ Some n → NoneBelow rows P place → (other : NodeData)
+      → IsThere rows other → P other → text_cmp n.meta.name other.meta.name ≢ Greater
   first_by_name P place n at below other there holds =
       let spot = there_at other there in
       by_place spot.0 spot.1 (nat_cmp place spot.0) (ranked place spot.0 _ refl)
@@ -198,7 +229,9 @@ module _ (rows : List Object) (claims : List ClaimData) (last : Option (List ℕ
       apart false y x k = absurd (true≢false (sym x))
 
   module _ (order : AreRows rows) where
-    found_node : (past : Bool) (choice : Choice) (f : IsFoundInTurn rows claims last past choice) → ((other : NodeData) → IsThere rows other → ServesClaims rows claims other → is_past last other ≢ past → round_cmp last f.node other ≢ Greater) → IsChoiceAt IsSearching rows claims last choice
+    found_node : (past : Bool) (choice : Choice) (f : IsFoundInTurn rows claims last past choice)
+        → ((other : NodeData) → IsThere rows other → ServesClaims rows claims other → is_past last other ≢ past
+        → round_cmp last f.node other ≢ Greater) → IsChoiceAt IsSearching rows claims last choice
     found_node past choice f across =
         prepared_is f.node choice f.preparing (record { there = node_there rows order f.place f.node f.there; holds = serves_is f.node choice f.preparing; first = first })
       where
@@ -212,7 +245,8 @@ module _ (rows : List Object) (claims : List ClaimData) (last : Option (List ℕ
             bool_tells false true = inr (λ e. true≢false (sym e))
 
             by : (is_past last other ≡ past) ⊎ (is_past last other ≢ past) → round_cmp last f.node other ≢ Greater
-            by (inl same) = within f.node other past past f.turn same refl (first_by_name rows order (ServesInTurn rows claims last past) f.place f.node f.there f.first other there (record { turn = same; serves = serves }))
+            by (inl same) = within f.node other past past f.turn same refl
+                (first_by_name rows order (ServesInTurn rows claims last past) f.place f.node f.there f.first other there (record { turn = same; serves = serves }))
             by (inr differs) = across other there serves differs
 
     pub first_turn : (choice : Choice) → IsFirstInTurn rows claims last true (Some choice) → IsChoiceAt IsSearching rows claims last choice

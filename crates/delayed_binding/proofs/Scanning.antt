@@ -1,23 +1,52 @@
 -- Scans of the objects of one kind, place by place.
-use Rattle.std.proofs.Common.{ℕ, zero, suc, ◌≡◌, ◌∙◌, ◌+◌, Bool, true, false, true≢false, not, ◌&&◌, ◌||◌, List, [], ◌∷◌, ◌++◌, ◌==◌, drop, length, cond, Some, refl, sym, ap, subst, arith, if◌then◌else◌}
+use Rattle.std.proofs.Common.{
+  ℕ,
+  zero,
+  suc,
+  ◌≡◌,
+  ◌∙◌,
+  ◌+◌,
+  Bool,
+  true,
+  false,
+  true≢false,
+  not,
+  ◌&&◌,
+  ◌||◌,
+  List,
+  [],
+  ◌∷◌,
+  ◌++◌,
+  ◌==◌,
+  drop,
+  length,
+  cond,
+  Some,
+  refl,
+  sym,
+  ap,
+  subst,
+  arith,
+  if◌then◌else◌,
+}
 use Rattle.std.specs.Prelude.{slice_get}
 use Rattle.std.specs.List.{list_all, list_any}
 use Rattle.std.proofs.lemmas.List.{drop_all}
 use Rattle.std.proofs.lemmas.List.Folds.{list_any-append}
-use Rattle.kube_types.specs.declared.parts.Kind.{Kind}
-use Rattle.kube_types.specs.declared.parts.Kind.TheVariants as kinds
-use Rattle.kube_types.specs.declared.objects.Claim.{Claim as ClaimData}
-use Rattle.kube_types.specs.declared.objects.Node.{Node as NodeData}
-use Rattle.kube_types.specs.declared.objects.Object.{Object}
-use Rattle.kube_types.specs.declared.objects.Object.TheVariants.{Class, Node, Volume, Claim, Pod}
-use Rattle.kube_types.specs.Bindings.{is_empty}
-use Rattle.kube_types.specs.Keys.{is_of_kind, meta_of, rows_of}
+use Rattle.kube_parts.specs.declared.parts.Kind.{Kind}
+use Rattle.kube_parts.specs.declared.parts.Kind.TheVariants as kinds
+use Rattle.kube_objects.specs.declared.objects.Claim.{Claim as ClaimData}
+use Rattle.kube_objects.specs.declared.objects.Node.{Node as NodeData}
+use Rattle.kube_objects.specs.declared.objects.Object.{Object}
+use Rattle.kube_objects.specs.declared.objects.Object.TheVariants.{Class, Node, Volume, Claim, Pod}
+use Rattle.kube_objects.specs.Bindings.{is_empty}
+use Rattle.kube_objects.specs.Keys.{is_of_kind, meta_of, rows_of}
 use Rattle.binder_model.specs.Choice.{admits_if_carrying, carries_claim}
 use Rattle.binder_model.specs.Matching.{is_excluded}
 use Rattle.delayed_binding.specs.Choices.{places_from}
 use Rattle.delayed_binding.specs.Steps.Places.{admits_at, carries_at, is_in_namespace}
 use Rattle.delayed_binding.specs.Steps.Sharing.{AreSame}
-use Rattle.kube_types.specs.VolumeIndex.{as_volume}
+use Rattle.volume_index.specs.VolumeIndex.{as_volume}
 
 -- what the objects of other kinds cannot change
 
@@ -71,7 +100,8 @@ passed c [] (suc i) h = refl
 passed c (o ∷ os) zero h = ap (λ b. b || list_any (carries_claim c) os) (sym (sym (carries_there c o) ∙ h))
 passed c (o ∷ os) (suc i) h = passed c os i h
 
-pub carrier_passed : (c : ClaimData) (os : List Object) (i : ℕ) → carries_at c (as_volume (slice_get os i)) ≡ false → list_any (carries_claim c) (drop (i + 1) os) ≡ list_any (carries_claim c) (drop i os)
+pub carrier_passed : (c : ClaimData) (os : List Object) (i : ℕ) → carries_at c (as_volume (slice_get os i)) ≡ false
+    → list_any (carries_claim c) (drop (i + 1) os) ≡ list_any (carries_claim c) (drop i os)
 carrier_passed c os i h = subst (λ n. list_any (carries_claim c) (drop n os) ≡ list_any (carries_claim c) (drop i os)) (next i) (passed c os i h)
 
 -- only volumes that carry the claim must admit the node
@@ -97,13 +127,15 @@ admission_failed n c [] i h = absurd (true≢false h)
 admission_failed n c (o ∷ os) zero h = ap (λ b. b && list_all (admits_if_carrying n c) os) (sym (admits_there n c o) ∙ h)
 admission_failed n c (o ∷ os) (suc i) h = admission_failed n c os i h
 
-admitted : (n : NodeData) (c : ClaimData) (os : List Object) (i : ℕ) → admits_at n c (as_volume (slice_get os i)) ≡ true → list_all (admits_if_carrying n c) (drop (suc i) os) ≡ list_all (admits_if_carrying n c) (drop i os)
+admitted : (n : NodeData) (c : ClaimData) (os : List Object) (i : ℕ) → admits_at n c (as_volume (slice_get os i)) ≡ true
+    → list_all (admits_if_carrying n c) (drop (suc i) os) ≡ list_all (admits_if_carrying n c) (drop i os)
 admitted n c [] zero h = refl
 admitted n c [] (suc i) h = refl
 admitted n c (o ∷ os) zero h = ap (λ b. b && list_all (admits_if_carrying n c) os) (sym (sym (admits_there n c o) ∙ h))
 admitted n c (o ∷ os) (suc i) h = admitted n c os i h
 
-pub admission_passed : (n : NodeData) (c : ClaimData) (os : List Object) (i : ℕ) → admits_at n c (as_volume (slice_get os i)) ≡ true → list_all (admits_if_carrying n c) (drop (i + 1) os) ≡ list_all (admits_if_carrying n c) (drop i os)
+pub admission_passed : (n : NodeData) (c : ClaimData) (os : List Object) (i : ℕ) → admits_at n c (as_volume (slice_get os i)) ≡ true
+    → list_all (admits_if_carrying n c) (drop (i + 1) os) ≡ list_all (admits_if_carrying n c) (drop i os)
 admission_passed n c os i h = subst (λ k. list_all (admits_if_carrying n c) (drop k os) ≡ list_all (admits_if_carrying n c) (drop i os)) (next i) (admitted n c os i h)
 
 -- places that are set aside
@@ -140,8 +172,10 @@ or_none false = refl
 drop_whole : (os : List Object) (i : ℕ) → i ≡ length os → drop i os ≡ []
 drop_whole os i end = drop_all i os (omega (arith, end))
 
-pub aside_step : (os : List Object) (i : ℕ) (xs after : List ℕ) → AreSame after (if is_in_namespace (slice_get os i) then i ∷ xs else xs) → AreSame (after ++ places_from (i + 1) (drop (i + 1) os)) (xs ++ places_from i (drop i os))
-aside_step os i xs after more k = list_any-append (λ p. p == k) after (places_from (i + 1) (drop (i + 1) os)) ∙ (by (is_in_namespace (slice_get os i)) refl more ∙ sym (list_any-append (λ p. p == k) xs (places_from i (drop i os))))
+pub aside_step : (os : List Object) (i : ℕ) (xs after : List ℕ) → AreSame after (if is_in_namespace (slice_get os i) then i ∷ xs else xs)
+    → AreSame (after ++ places_from (i + 1) (drop (i + 1) os)) (xs ++ places_from i (drop i os))
+aside_step os i xs after more k = list_any-append (λ p. p == k) after (places_from (i + 1) (drop (i + 1) os))
+    ∙ (by (is_in_namespace (slice_get os i)) refl more ∙ sym (list_any-append (λ p. p == k) xs (places_from i (drop i os))))
   where
     turned : (a b p : Bool) → ((p || a) || b) ≡ (a || (p || b))
     turned true b true = refl
@@ -149,10 +183,13 @@ aside_step os i xs after more k = list_any-append (λ p. p == k) after (places_f
     turned false b true = refl
     turned false b false = refl
 
-    by : (b : Bool) → is_in_namespace (slice_get os i) ≡ b → AreSame after (if b then i ∷ xs else xs) → (is_excluded after k || is_excluded (places_from (i + 1) (drop (i + 1) os)) k) ≡ (is_excluded xs k || is_excluded (places_from i (drop i os)) k)
-    by true h same = ap (λ b. b || is_excluded (places_from (i + 1) (drop (i + 1) os)) k) (same k) ∙ (turned (is_excluded xs k) (is_excluded (places_from (i + 1) (drop (i + 1) os)) k) (i == k) ∙ ap (λ ys. is_excluded xs k || is_excluded ys k) (sym (place_aside os i h)))
+    by : (b : Bool) → is_in_namespace (slice_get os i) ≡ b → AreSame after (if b then i ∷ xs else xs)
+        → (is_excluded after k || is_excluded (places_from (i + 1) (drop (i + 1) os)) k) ≡ (is_excluded xs k || is_excluded (places_from i (drop i os)) k)
+    by true h same = ap (λ b. b || is_excluded (places_from (i + 1) (drop (i + 1) os)) k) (same k)
+        ∙ (turned (is_excluded xs k) (is_excluded (places_from (i + 1) (drop (i + 1) os)) k) (i == k) ∙ ap (λ ys. is_excluded xs k || is_excluded ys k) (sym (place_aside os i h)))
     by false h same = ap (λ b. b || is_excluded (places_from (i + 1) (drop (i + 1) os)) k) (same k) ∙ ap (λ ys. is_excluded xs k || is_excluded ys k) (sym (place_kept os i h))
 
 -- past the last object no place is set aside
 pub aside_end : (os : List Object) (i : ℕ) (xs ys : List ℕ) → i ≡ length os → AreSame (xs ++ places_from i (drop i os)) ys → AreSame xs ys
-aside_end os i xs ys end same k = sym (list_any-append (λ p. p == k) xs (places_from i (drop i os)) ∙ ap (λ zs. is_excluded xs k || is_excluded (places_from i zs) k) (drop_whole os i end) ∙ or_none (is_excluded xs k)) ∙ same k
+aside_end os i xs ys end same k = sym (list_any-append (λ p. p == k) xs (places_from i (drop i os)) ∙ ap
+    (λ zs. is_excluded xs k || is_excluded (places_from i zs) k) (drop_whole os i end) ∙ or_none (is_excluded xs k)) ∙ same k

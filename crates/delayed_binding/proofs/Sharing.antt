@@ -2,13 +2,13 @@
 use Rattle.std.proofs.Common.{ℕ, zero, suc, ◌≡◌, ◌∙◌, true, false, true≢false, ◌||◌, ◌==◌, List, [], ◌∷◌, ◌++◌, Some, None, inl, inr, refl, sym, ap, subst, append_assoc}
 use Rattle.std.specs.Prelude.{Bool, slice_get}
 use Rattle.std.specs.Bool.{OnTrue}
-use Rattle.kube_types.specs.declared.key.Key.{Key}
-use Rattle.kube_types.specs.declared.objects.Claim.{Claim as ClaimData}
-use Rattle.kube_types.specs.declared.objects.Node.{Node as NodeData}
-use Rattle.kube_types.specs.declared.objects.Volume.{Volume as VolumeData}
-use Rattle.kube_types.specs.declared.objects.Object.{Object}
-use Rattle.kube_types.specs.declared.objects.Object.TheVariants.{Claim}
-use Rattle.kube_types.specs.Keys.{AreRows, key_of}
+use Rattle.kube_objects.specs.declared.key.Key.{Key}
+use Rattle.kube_objects.specs.declared.objects.Claim.{Claim as ClaimData}
+use Rattle.kube_objects.specs.declared.objects.Node.{Node as NodeData}
+use Rattle.kube_objects.specs.declared.objects.Volume.{Volume as VolumeData}
+use Rattle.kube_objects.specs.declared.objects.Object.{Object}
+use Rattle.kube_objects.specs.declared.objects.Object.TheVariants.{Claim}
+use Rattle.kube_objects.specs.Keys.{AreRows, key_of}
 use Rattle.binder_model.specs.Choice.{AreShares, IsProvisioned, Share, TakesVolume, can_provision}
 use Rattle.binder_model.specs.Matching.{IsBest, IsCandidate, is_excluded}
 use Rattle.volume_match.specs.Volumes.{volume_at}
@@ -20,7 +20,8 @@ use Rattle.delayed_binding.proofs.Bests.{AreSetAside, aside_more, best_same, one
 -- one share more
 
 module _ (rows : List Object) (n : NodeData) where
-  takes_more : (cs : List ClaimData) (shares : List Share) (taken : List ℕ) (c : ClaimData) (place : ℕ) → AreShares rows n taken cs shares → IsBest rows c (Some n) false (taken_by taken shares) (Some place) → AreShares rows n taken (cs ++ c ∷ []) (shares ++ TakesVolume place ∷ [])
+  takes_more : (cs : List ClaimData) (shares : List Share) (taken : List ℕ) (c : ClaimData) (place : ℕ) → AreShares rows n taken cs shares
+      → IsBest rows c (Some n) false (taken_by taken shares) (Some place) → AreShares rows n taken (cs ++ c ∷ []) (shares ++ TakesVolume place ∷ [])
   takes_more [] [] taken c place are best = (best, tt)
   takes_more [] (TakesVolume p ∷ shares) taken c place are best = absurd are
   takes_more [] (IsProvisioned ∷ shares) taken c place are best = absurd are
@@ -28,7 +29,8 @@ module _ (rows : List Object) (n : NodeData) where
   takes_more (d ∷ ds) (TakesVolume p ∷ shares) taken c place are best = (are.0, takes_more ds shares (p ∷ taken) c place are.1 best)
   takes_more (d ∷ ds) (IsProvisioned ∷ shares) taken c place are best = (are.0, are.1, takes_more ds shares taken c place are.2 best)
 
-  provisions_more : (cs : List ClaimData) (shares : List Share) (taken : List ℕ) (c : ClaimData) → AreShares rows n taken cs shares → IsBest rows c (Some n) false (taken_by taken shares) None → can_provision rows c ≡ true → AreShares rows n taken (cs ++ c ∷ []) (shares ++ IsProvisioned ∷ [])
+  provisions_more : (cs : List ClaimData) (shares : List Share) (taken : List ℕ) (c : ClaimData) → AreShares rows n taken cs shares
+      → IsBest rows c (Some n) false (taken_by taken shares) None → can_provision rows c ≡ true → AreShares rows n taken (cs ++ c ∷ []) (shares ++ IsProvisioned ∷ [])
   provisions_more [] [] taken c are none can = (none, can, tt)
   provisions_more [] (TakesVolume p ∷ shares) taken c are none can = absurd are
   provisions_more [] (IsProvisioned ∷ shares) taken c are none can = absurd are
@@ -36,7 +38,8 @@ module _ (rows : List Object) (n : NodeData) where
   provisions_more (d ∷ ds) (TakesVolume p ∷ shares) taken c are none can = (are.0, provisions_more ds shares (p ∷ taken) c are.1 none can)
   provisions_more (d ∷ ds) (IsProvisioned ∷ shares) taken c are none can = (are.0, are.1, provisions_more ds shares taken c are.2 none can)
 
-  binds_more : (cs : List ClaimData) (shares : List Share) (taken : List ℕ) (c : ClaimData) (place : ℕ) → AreShares rows n taken cs shares → binds_of rows (cs ++ c ∷ []) (shares ++ TakesVolume place ∷ []) ≡ binds_of rows cs shares ++ pair_of c (volume_at rows place)
+  binds_more : (cs : List ClaimData) (shares : List Share) (taken : List ℕ) (c : ClaimData) (place : ℕ) → AreShares rows n taken cs shares
+      → binds_of rows (cs ++ c ∷ []) (shares ++ TakesVolume place ∷ []) ≡ binds_of rows cs shares ++ pair_of c (volume_at rows place)
   binds_more [] [] taken c place are = append_nil (pair_of c (volume_at rows place))
     where
       append_nil : (xs : List (Key × Key)) → xs ++ [] ≡ xs
@@ -45,10 +48,13 @@ module _ (rows : List Object) (n : NodeData) where
   binds_more [] (TakesVolume p ∷ shares) taken c place are = absurd are
   binds_more [] (IsProvisioned ∷ shares) taken c place are = absurd are
   binds_more (d ∷ ds) [] taken c place are = absurd are
-  binds_more (d ∷ ds) (TakesVolume p ∷ shares) taken c place are = ap (λ bs. pair_of d (volume_at rows p) ++ bs) (binds_more ds shares (p ∷ taken) c place are.1) ∙ sym (append_assoc (pair_of d (volume_at rows p)) (binds_of rows ds shares) (pair_of c (volume_at rows place)))
+  binds_more (d ∷ ds) (TakesVolume p ∷ shares) taken c place are =
+      ap (λ bs. pair_of d (volume_at rows p) ++ bs) (binds_more ds shares (p ∷ taken) c place are.1)
+      ∙ sym (append_assoc (pair_of d (volume_at rows p)) (binds_of rows ds shares) (pair_of c (volume_at rows place)))
   binds_more (d ∷ ds) (IsProvisioned ∷ shares) taken c place are = binds_more ds shares taken c place are.2
 
-  binds_kept : (cs : List ClaimData) (shares : List Share) (taken : List ℕ) (c : ClaimData) → AreShares rows n taken cs shares → binds_of rows (cs ++ c ∷ []) (shares ++ IsProvisioned ∷ []) ≡ binds_of rows cs shares
+  binds_kept : (cs : List ClaimData) (shares : List Share) (taken : List ℕ) (c : ClaimData) → AreShares rows n taken cs shares
+      → binds_of rows (cs ++ c ∷ []) (shares ++ IsProvisioned ∷ []) ≡ binds_of rows cs shares
   binds_kept [] [] taken c are = refl
   binds_kept [] (TakesVolume p ∷ shares) taken c are = absurd are
   binds_kept [] (IsProvisioned ∷ shares) taken c are = absurd are
@@ -56,7 +62,8 @@ module _ (rows : List Object) (n : NodeData) where
   binds_kept (d ∷ ds) (TakesVolume p ∷ shares) taken c are = ap (λ bs. pair_of d (volume_at rows p) ++ bs) (binds_kept ds shares (p ∷ taken) c are.1)
   binds_kept (d ∷ ds) (IsProvisioned ∷ shares) taken c are = binds_kept ds shares taken c are.2
 
-  keys_kept : (cs : List ClaimData) (shares : List Share) (taken : List ℕ) (c : ClaimData) (place : ℕ) → AreShares rows n taken cs shares → provisions_of (cs ++ c ∷ []) (shares ++ TakesVolume place ∷ []) ≡ provisions_of cs shares
+  keys_kept : (cs : List ClaimData) (shares : List Share) (taken : List ℕ) (c : ClaimData) (place : ℕ) → AreShares rows n taken cs shares
+      → provisions_of (cs ++ c ∷ []) (shares ++ TakesVolume place ∷ []) ≡ provisions_of cs shares
   keys_kept [] [] taken c place are = refl
   keys_kept [] (TakesVolume p ∷ shares) taken c place are = absurd are
   keys_kept [] (IsProvisioned ∷ shares) taken c place are = absurd are
@@ -64,7 +71,8 @@ module _ (rows : List Object) (n : NodeData) where
   keys_kept (d ∷ ds) (TakesVolume p ∷ shares) taken c place are = keys_kept ds shares (p ∷ taken) c place are.1
   keys_kept (d ∷ ds) (IsProvisioned ∷ shares) taken c place are = ap (λ ks. key_of (Claim d) ∷ ks) (keys_kept ds shares taken c place are.2)
 
-  keys_more : (cs : List ClaimData) (shares : List Share) (taken : List ℕ) (c : ClaimData) → AreShares rows n taken cs shares → provisions_of (cs ++ c ∷ []) (shares ++ IsProvisioned ∷ []) ≡ provisions_of cs shares ++ key_of (Claim c) ∷ []
+  keys_more : (cs : List ClaimData) (shares : List Share) (taken : List ℕ) (c : ClaimData) → AreShares rows n taken cs shares
+      → provisions_of (cs ++ c ∷ []) (shares ++ IsProvisioned ∷ []) ≡ provisions_of cs shares ++ key_of (Claim c) ∷ []
   keys_more [] [] taken c are = refl
   keys_more [] (TakesVolume p ∷ shares) taken c are = absurd are
   keys_more [] (IsProvisioned ∷ shares) taken c are = absurd are
@@ -95,7 +103,8 @@ module _ (rows : List Object) (n : NodeData) where
     shared_taken t = record {
       shares = done.shares ++ TakesVolume t.place ∷ [];
       are = takes_more cs done.shares (set_aside rows) c t.place done.are (best_same rows c (Some n) false held.taken (taken_by (set_aside rows) done.shares) done.taken_are (Some t.place) t.best);
-      taken_are = λ place. same_more after.taken held.taken (taken_by (set_aside rows) done.shares) t.place t.taken_are done.taken_are place ∙ sym (ap (λ ys. is_excluded ys place) (taken_more done.shares (set_aside rows) t.place));
+      taken_are = λ place. same_more after.taken held.taken (taken_by (set_aside rows) done.shares) t.place t.taken_are done.taken_are place
+          ∙ sym (ap (λ ys. is_excluded ys place) (taken_more done.shares (set_aside rows) t.place));
       binds_are = t.binds_are ∙ (ap (λ bs. bs ++ pair_of c (volume_at rows t.place)) done.binds_are ∙ sym (binds_more cs done.shares (set_aside rows) c t.place done.are));
       provisions_are = t.provisions_are ∙ (done.provisions_are ∙ sym (keys_kept cs done.shares (set_aside rows) c t.place done.are));
     }
@@ -133,7 +142,8 @@ module _ (rows : List Object) (n : NodeData) where
 
   module _ (order : AreRows rows) where
     -- two ways to share begin alike
-    blocked : (cs : List ClaimData) (done : List Share) (taken : List ℕ) (c : ClaimData) (rest : List ClaimData) → AreSetAside rows taken → AreShares rows n taken cs done → IsBest rows c (Some n) false (taken_by taken done) None → can_provision rows c ≡ false → (all : List Share) → AreShares rows n taken (cs ++ c ∷ rest) all → ⊥
+    blocked : (cs : List ClaimData) (done : List Share) (taken : List ℕ) (c : ClaimData) (rest : List ClaimData) → AreSetAside rows taken
+        → AreShares rows n taken cs done → IsBest rows c (Some n) false (taken_by taken done) None → can_provision rows c ≡ false → (all : List Share) → AreShares rows n taken (cs ++ c ∷ rest) all → ⊥
     blocked [] [] taken c rest aside are none cannot [] other = other
     blocked [] [] taken c rest aside are none cannot (TakesVolume q ∷ all) other = none q other.0.volume other.0.candidate
     blocked [] [] taken c rest aside are none cannot (IsProvisioned ∷ all) other = true≢false (sym other.1 ∙ cannot)
@@ -152,7 +162,8 @@ module _ (rows : List Object) (n : NodeData) where
     -- where nothing serves the next one, the claims can have no shares
     pub not_shared : (cs : List ClaimData) (held : Held) → IsSharedOut rows n cs held → (c : ClaimData) (rest : List ClaimData) → IsUnserved rows n c held → HaveNoShares rows n (cs ++ c ∷ rest)
     not_shared cs held done c rest u all other =
-        blocked cs done.shares (set_aside rows) c rest (set_aside_is rows) done.are (best_same rows c (Some n) false held.taken (taken_by (set_aside rows) done.shares) done.taken_are None u.none) u.cannot all other
+        blocked cs done.shares (set_aside rows) c rest (set_aside_is rows) done.are
+        (best_same rows c (Some n) false held.taken (taken_by (set_aside rows) done.shares) done.taken_are None u.none) u.cannot all other
 
     -- there is one way to share
     pub one_sharing : (cs : List ClaimData) (taken : List ℕ) (a b : List Share) → AreSetAside rows taken → AreShares rows n taken cs a → AreShares rows n taken cs b → a ≡ b

@@ -6,19 +6,37 @@ use Rattle.std.specs.declared.cmp.Ordering.TheVariants.{Less, Equal, Greater}
 use Rattle.std.specs.Ordering.{is_eq, ordering_reverse, ordering_then}
 use Rattle.std.proofs.lemmas.Cmp.{nat_cmp_total, nat_list_cmp_total, on_total, then_total}
 use Rattle.std.proofs.lemmas.Map.Lookups.{exact_bytes}
-use Rattle.kube_types.specs.declared.key.Key.{Key}
-use Rattle.kube_types.specs.declared.objects.Claim.{Claim as ClaimData}
-use Rattle.kube_types.specs.declared.objects.Node.{Node as NodeData}
-use Rattle.kube_types.specs.declared.objects.Object.{Object}
-use Rattle.kube_types.specs.declared.objects.Object.TheVariants.{Node}
-use Rattle.kube_types.specs.Keys.{AreRows, row_at}
+use Rattle.kube_objects.specs.declared.key.Key.{Key}
+use Rattle.kube_objects.specs.declared.objects.Claim.{Claim as ClaimData}
+use Rattle.kube_objects.specs.declared.objects.Node.{Node as NodeData}
+use Rattle.kube_objects.specs.declared.objects.Object.{Object}
+use Rattle.kube_objects.specs.declared.objects.Object.TheVariants.{Node}
+use Rattle.kube_objects.specs.Keys.{AreRows, row_at}
 use Rattle.binder_model.specs.Choice.{AreShares, claims_of, node_in}
 use Rattle.binder_model.specs.ObjectKeys.{node_key}
 use Rattle.model_laws.proofs.Lists.{one}
 use Rattle.delayed_binding.specs.declared.choice.Choice.{Choice}
 use Rattle.delayed_binding.specs.declared.choice.Choice.TheVariants.{Assign, Prepare, Wait, NoNode}
 use Rattle.delayed_binding.specs.ChoiceLaw.{ChoicesAreUnique}
-use Rattle.delayed_binding.specs.Choices.{IsChoiceAt, IsCompleted, IsFirstNode, IsPrepared, IsSearching, IsServedElsewhere, IsThere, IsUnderWay, LacksClaim, Stage, binds_of, others_in, provisions_of, round_cmp, set_aside, stage_of, turn_of}
+use Rattle.delayed_binding.specs.Choices.{
+  IsChoiceAt,
+  IsCompleted,
+  IsFirstNode,
+  IsPrepared,
+  IsSearching,
+  IsServedElsewhere,
+  IsThere,
+  IsUnderWay,
+  LacksClaim,
+  Stage,
+  binds_of,
+  others_in,
+  provisions_of,
+  round_cmp,
+  set_aside,
+  stage_of,
+  turn_of,
+}
 use Rattle.delayed_binding.proofs.Bests.{set_aside_is}
 use Rattle.delayed_binding.proofs.Sharing.{one_sharing}
 
@@ -32,7 +50,8 @@ node_of_name rows n m a b same = one n m (ap node_in (one (Node n) (Node m) (sym
 -- there is one first node
 pub one_first : (rows : List Object) (last : Option (List ℕ)) (P : NodeData → Type 0) (n m : NodeData) → IsFirstNode rows last P n → IsFirstNode rows last P m → n ≡ m
 one_first rows last P n m a b =
-    node_of_name rows n m a.there b.there (exact_bytes n.meta.name m.meta.name (tail _ _ (both (round_cmp last n m) (a.first m b.there b.holds) (subst (λ o. o ≢ Greater) ((round_total last).antisymm m n) (b.first n a.there a.holds)))))
+    node_of_name rows n m a.there b.there (exact_bytes n.meta.name m.meta.name
+    (tail _ _ (both (round_cmp last n m) (a.first m b.there b.holds) (subst (λ o. o ≢ Greater) ((round_total last).antisymm m n) (b.first n a.there a.holds)))))
   where
     both : (o : Ordering) → o ≢ Greater → ordering_reverse o ≢ Greater → o ≡ Equal
     both Less h k = absurd (k refl)

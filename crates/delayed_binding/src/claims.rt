@@ -3,7 +3,7 @@
 ghost use Rattle.std.specs.Prelude.{◌≡◌, IfOk};
 ghost use Rattle.std.specs.List.{list_all, list_any};
 ghost use Rattle.std.specs.Option.{option_copied};
-ghost use Rattle.kube_types.specs.Bindings.{is_completed};
+ghost use Rattle.kube_objects.specs.Bindings.{is_completed};
 ghost use Rattle.binder_model.specs.Choice.{claim_named, claims_of, is_missing, is_served_elsewhere, is_under_way, lacks_claim};
 
 use crate::volumes::has_carrier;

@@ -3,8 +3,8 @@
 ghost use Rattle.std.specs.Prelude.{◌≡◌, ◌<◌};
 ghost use Rattle.std.specs.Bool.{OnTrue};
 ghost use Rattle.std.specs.List.{list_all};
-ghost use Rattle.kube_types.specs.declared.parts.Kind.TheVariants as kinds;
-ghost use Rattle.kube_types.specs.Keys.{rows_of};
+ghost use Rattle.kube_parts.specs.declared.parts.Kind.TheVariants as kinds;
+ghost use Rattle.kube_objects.specs.Keys.{rows_of};
 ghost use Rattle.volume_match.specs.Volumes.{volume_at};
 ghost use Rattle.delayed_binding.specs.Steps.Counts.{asks_like, count_given, gives_at, is_open_for, may_give, one_less};
 

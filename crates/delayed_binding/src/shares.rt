@@ -3,9 +3,9 @@
 ghost use Rattle.std.specs.Prelude.{◌≡◌, [], ◌∷◌, ◌++◌, false, Some, IfOk, OnOk, IfSome, IfNone};
 ghost use Rattle.std.specs.Bool.{OnTrue};
 ghost use Rattle.std.specs.Option.{option_copied};
-ghost use Rattle.kube_types.specs.Bindings.{class_of_claim};
-ghost use Rattle.kube_types.specs.Keys.{AreRows, key_of, row_at};
-ghost use Rattle.kube_types.specs.declared.objects.Object.TheVariants.{Claim as ClaimObject};
+ghost use Rattle.kube_objects.specs.Bindings.{class_of_claim};
+ghost use Rattle.kube_objects.specs.Keys.{AreRows, key_of, row_at};
+ghost use Rattle.kube_objects.specs.declared.objects.Object.TheVariants.{Claim as ClaimObject};
 ghost use Rattle.binder_model.specs.Choice.{can_provision, claim_cmp, class_provisions, insert_claim, is_other};
 ghost use Rattle.binder_model.specs.Matching.{IsBest};
 ghost use Rattle.binder_model.specs.ObjectKeys.{class_key};
@@ -29,10 +29,10 @@ use kube_types::objects::{Claim, Meta, Node, Object, Volume};
 use kube_types::parts::Kind;
 use kube_types::shared::Shared;
 use kube_types::text::Text;
-use kube_types::volume_index::VolumeIndex;
 use plain_data::items::Items;
 use std::alloc::Global;
 use std::cmp::Ordering;
+use volume_index::index::VolumeIndex;
 use volume_match::{Found, best, best_outside, best_passing, row_named};
 
 /// The claims that are neither completed nor carried by a volume, by rising size and name.

@@ -4,8 +4,8 @@ ghost use Rattle.std.specs.Prelude.{◌≡◌, ◌∷◌, if◌then◌else◌, I
 ghost use Rattle.std.specs.Bool.{OnTrue};
 ghost use Rattle.std.specs.List.{list_all, list_any};
 ghost use Rattle.std.specs.Option.{option_copied};
-ghost use Rattle.kube_types.specs.Bindings.{carries};
-ghost use Rattle.kube_types.specs.Keys.{AreRows};
+ghost use Rattle.kube_objects.specs.Bindings.{carries};
+ghost use Rattle.kube_objects.specs.Keys.{AreRows};
 ghost use Rattle.binder_model.specs.Choice.{admits_if_carrying, fixed_admit, has_carrier, volume_admits};
 ghost use Rattle.volume_match.specs.Volumes.{volume_at};
 ghost use Rattle.delayed_binding.specs.Choices.{set_aside};

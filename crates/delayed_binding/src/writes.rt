@@ -2,9 +2,9 @@
 
 ghost use Rattle.std.specs.Prelude.{◌≡◌, IfOk};
 ghost use Rattle.std.specs.Option.{option_copied};
-ghost use Rattle.kube_types.specs.Keys.{row_at};
+ghost use Rattle.kube_objects.specs.Keys.{row_at};
 ghost use Rattle.binder_model.specs.Choice.{claim_in};
-ghost use Rattle.kube_types.specs.VolumeIndex.{as_volume};
+ghost use Rattle.volume_index.specs.VolumeIndex.{as_volume};
 ghost use Rattle.delayed_binding.specs.declared.choice.Choice.TheVariants.{Prepare};
 ghost use Rattle.delayed_binding.specs.Writes.{bind_write, node_write, placed_on, prepare_write};
 ghost use Rattle.delayed_binding.specs.Steps.Nth.{node_write_at};

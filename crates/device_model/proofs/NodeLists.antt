@@ -1,5 +1,36 @@
 -- Rows node by node, and the one list of all rows.
-use Rattle.std.proofs.Common.{◌≡◌, ℕ, zero, suc, ◌+◌, Bool, true, false, true≢false, not, ◌&&◌, List, [], ◌∷◌, ◌++◌, filter, cond, map, get_or, set, refl, sym, ◌∙◌, ap, subst, bytes_eq, if◌then◌else◌, ◌≤◌, length, arith}
+use Rattle.std.proofs.Common.{
+  ◌≡◌,
+  ℕ,
+  zero,
+  suc,
+  ◌+◌,
+  Bool,
+  true,
+  false,
+  true≢false,
+  not,
+  ◌&&◌,
+  List,
+  [],
+  ◌∷◌,
+  ◌++◌,
+  filter,
+  cond,
+  map,
+  get_or,
+  set,
+  refl,
+  sym,
+  ◌∙◌,
+  ap,
+  subst,
+  bytes_eq,
+  if◌then◌else◌,
+  ◌≤◌,
+  length,
+  arith,
+}
 use Rattle.std.specs.Bool.{⊤}
 use Rattle.std.specs.List.{insert}
 use Rattle.std.specs.declared.cmp.Ordering.{Ordering}
@@ -13,7 +44,7 @@ use Rattle.std.proofs.lemmas.Map.Lookups.{exact_bytes}
 use Rattle.std.proofs.lemmas.Slice.Eq.{bytes_eq-Decides}
 use Rattle.plain_data.specs.Pairs.{text_cmp}
 use Rattle.plain_data.specs.Rows.{IsAfter}
-use Rattle.kube_types.specs.declared.uid.Uid.{Uid}
+use Rattle.kube_parts.specs.declared.uid.Uid.{Uid}
 use Rattle.call_types.specs.declared.reply.MountRow.{MountRow}
 use Rattle.binder_model.specs.Same.{same_uid}
 use Rattle.binder_model.specs.Devices.{MountAt, rows_on, is_up_to, put_mount, without_mount}
@@ -110,7 +141,8 @@ rows_gap k (n ∷ ns) (suc i) rising gap =
 
 module _ (k : List ℕ) (r : MountRow) where
   -- a node before the name
-  put_before : (n : NodeRows) (ns : List NodeRows) → text_cmp n.node k ≡ Less → put_mount (mount_at k r) (mounts_of (n ∷ ns)) ≡ map (mount_at n.node) n.rows.items ++ put_mount (mount_at k r) (mounts_of ns)
+  put_before : (n : NodeRows) (ns : List NodeRows) → text_cmp n.node k ≡ Less
+      → put_mount (mount_at k r) (mounts_of (n ∷ ns)) ≡ map (mount_at n.node) n.rows.items ++ put_mount (mount_at k r) (mounts_of ns)
   put_before n ns less =
       let up : (m : MountRow) → is_up_to k (mount_at n.node m) ≡ true = λ m. rw less refl in
       let down : (m : MountRow) → not (is_up_to k (mount_at n.node m)) ≡ false = λ m. rw less refl in
@@ -129,7 +161,8 @@ module _ (k : List ℕ) (r : MountRow) where
   all_down ns a = all_above (λ m. not (is_up_to k m)) k (λ node e m. rw e refl) ns a
 
   -- the node itself
-  put_own : (n x : NodeRows) (ns : List NodeRows) → text_cmp n.node k ≡ Equal → IsAbove k ns → x.node ≡ n.node → x.rows.items ≡ n.rows.items ++ r ∷ [] → mounts_of (x ∷ ns) ≡ put_mount (mount_at k r) (mounts_of (n ∷ ns))
+  put_own : (n x : NodeRows) (ns : List NodeRows) → text_cmp n.node k ≡ Equal → IsAbove k ns → x.node ≡ n.node
+      → x.rows.items ≡ n.rows.items ++ r ∷ [] → mounts_of (x ∷ ns) ≡ put_mount (mount_at k r) (mounts_of (n ∷ ns))
   put_own n x ns level above node rows =
       let name : n.node ≡ k = equal_names n.node k level in
       let up : (m : MountRow) → is_up_to k (mount_at n.node m) ≡ true = λ m. rw level refl in
@@ -147,13 +180,15 @@ module _ (k : List ℕ) (r : MountRow) where
         map-append (mount_at n.node) n.rows.items (r ∷ []),
       ) (append_assoc (map (mount_at n.node) n.rows.items) (mount_at n.node r ∷ []) (mounts_of ns) ∙ ap (λ z. map (mount_at n.node) n.rows.items ++ mount_at z r ∷ mounts_of ns) name)
 
-  pub put_at_node : (ns : List NodeRows) (i : ℕ) (d x : NodeRows) → AreNodes ns → IsNodeAt ns k i → x.node ≡ (get_or ns i d).node → x.rows.items ≡ (get_or ns i d).rows.items ++ r ∷ [] → mounts_of (set ns i x) ≡ put_mount (mount_at k r) (mounts_of ns)
+  pub put_at_node : (ns : List NodeRows) (i : ℕ) (d x : NodeRows) → AreNodes ns → IsNodeAt ns k i → x.node ≡ (get_or ns i d).node
+      → x.rows.items ≡ (get_or ns i d).rows.items ++ r ∷ [] → mounts_of (set ns i x) ≡ put_mount (mount_at k r) (mounts_of ns)
   put_at_node [] i d x rising at node rows = absurd at
   put_at_node (n ∷ ns) zero d x rising at node rows = put_own n x ns at (above_of k n ns (ap is_lt at) rising.0) node rows
   put_at_node (n ∷ ns) (suc i) d x rising at node rows =
       ap (λ ms. map (mount_at n.node) n.rows.items ++ ms) (put_at_node ns i d x rising.1 at.1 node rows) ∙ sym (put_before n ns at.0)
 
-  pub put_new_node : (ns : List NodeRows) (i : ℕ) (x : NodeRows) → AreNodes ns → IsNodeGap ns k i → x.node ≡ k → x.rows.items ≡ r ∷ [] → mounts_of (insert ns i x) ≡ put_mount (mount_at k r) (mounts_of ns)
+  pub put_new_node : (ns : List NodeRows) (i : ℕ) (x : NodeRows) → AreNodes ns → IsNodeGap ns k i → x.node ≡ k → x.rows.items ≡ r ∷ []
+      → mounts_of (insert ns i x) ≡ put_mount (mount_at k r) (mounts_of ns)
   put_new_node [] zero x rising gap node rows = rw (node, rows) refl
   put_new_node [] (suc i) x rising gap node rows = absurd gap
   put_new_node (n ∷ ns) zero x rising gap node rows =
@@ -173,7 +208,8 @@ module _ (k : List ℕ) (pod : Uid) where
   without_own node own (r ∷ rs) = rw own (by (same_uid r.pod pod) (without_own node own rs))
     where
       by : (b : Bool) → without_mount k pod (map (mount_at node) rs) ≡ map (mount_at node) (filter (λ r. not (same_uid r.pod pod)) rs)
-          → cond (not b) (mount_at node r ∷ without_mount k pod (map (mount_at node) rs)) (without_mount k pod (map (mount_at node) rs)) ≡ map (mount_at node) (cond (not b) (r ∷ filter (λ r. not (same_uid r.pod pod)) rs) (filter (λ r. not (same_uid r.pod pod)) rs))
+          → cond (not b) (mount_at node r ∷ without_mount k pod (map (mount_at node) rs)) (without_mount k pod (map (mount_at node) rs)) ≡ map
+          (mount_at node) (cond (not b) (r ∷ filter (λ r. not (same_uid r.pod pod)) rs) (filter (λ r. not (same_uid r.pod pod)) rs))
       by true rest = rest
       by false rest = ap (λ ms. mount_at node r ∷ ms) rest
 
@@ -185,7 +221,8 @@ module _ (k : List ℕ) (pod : Uid) where
       filter-append (λ m. not (bytes_eq m.node k && same_uid m.row.pod pod)) (map (mount_at n.node) n.rows.items) (mounts_of ns)
       ∙ rw (all_on (λ m. not (bytes_eq m.node k && same_uid m.row.pod pod)) n.node (stays_elsewhere n.node (not_equal n.node k Less less refl)) n.rows.items) refl
 
-  pub without_at_node : (ns : List NodeRows) (i : ℕ) (d x : NodeRows) → AreNodes ns → IsNodeAt ns k i → x.node ≡ (get_or ns i d).node → x.rows.items ≡ filter (λ r. not (same_uid r.pod pod)) (get_or ns i d).rows.items → mounts_of (set ns i x) ≡ without_mount k pod (mounts_of ns)
+  pub without_at_node : (ns : List NodeRows) (i : ℕ) (d x : NodeRows) → AreNodes ns → IsNodeAt ns k i → x.node ≡ (get_or ns i d).node
+      → x.rows.items ≡ filter (λ r. not (same_uid r.pod pod)) (get_or ns i d).rows.items → mounts_of (set ns i x) ≡ without_mount k pod (mounts_of ns)
   without_at_node [] i d x rising at node rows = absurd at
   without_at_node (n ∷ ns) zero d x rising at node rows =
       sym (filter-append (λ m. not (bytes_eq m.node k && same_uid m.row.pod pod)) (map (mount_at n.node) n.rows.items) (mounts_of ns)
@@ -204,12 +241,14 @@ module _ (k : List ℕ) (pod : Uid) where
   rows_on_without (m ∷ ms) = by (bytes_eq m.node k) refl (rows_on_without ms)
     where
       row : (b : Bool) → same_uid m.row.pod pod ≡ b → bytes_eq m.node k ≡ true → rows_on k (without_mount k pod ms) ≡ filter (λ r. not (same_uid r.pod pod)) (rows_on k ms)
-          → rows_on k (cond (not b) (m ∷ without_mount k pod ms) (without_mount k pod ms)) ≡ cond (not b) (m.row ∷ filter (λ r. not (same_uid r.pod pod)) (rows_on k ms)) (filter (λ r. not (same_uid r.pod pod)) (rows_on k ms))
+          → rows_on k (cond (not b) (m ∷ without_mount k pod ms) (without_mount k pod ms)) ≡ cond (not b)
+          (m.row ∷ filter (λ r. not (same_uid r.pod pod)) (rows_on k ms)) (filter (λ r. not (same_uid r.pod pod)) (rows_on k ms))
       row true e own rest = rest
       row false e own rest = rw own (ap (λ rs. m.row ∷ rs) rest)
 
       by : (own : Bool) → bytes_eq m.node k ≡ own → rows_on k (without_mount k pod ms) ≡ filter (λ r. not (same_uid r.pod pod)) (rows_on k ms)
-          → rows_on k (cond (not (own && same_uid m.row.pod pod)) (m ∷ without_mount k pod ms) (without_mount k pod ms)) ≡ filter (λ r. not (same_uid r.pod pod)) (if own then m.row ∷ rows_on k ms else rows_on k ms)
+          → rows_on k (cond (not (own && same_uid m.row.pod pod)) (m ∷ without_mount k pod ms) (without_mount k pod ms)) ≡ filter
+          (λ r. not (same_uid r.pod pod)) (if own then m.row ∷ rows_on k ms else rows_on k ms)
       by true own rest = row (same_uid m.row.pod pod) refl own rest
       by false other rest = rw other rest
 

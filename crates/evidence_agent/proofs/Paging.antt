@@ -1,7 +1,7 @@
 -- Pages of pods that get one telling more.
 use Rattle.std.proofs.Common.{◌≡◌, ℕ, zero, suc, ◌<◌, List, [], ◌∷◌, ◌++◌, length, get_or, set, arith, sym, inr, subst}
 use Rattle.std.specs.List.{insert}
-use Rattle.kube_types.specs.declared.objects.Object.TheVariants.{Pod}
+use Rattle.kube_objects.specs.declared.objects.Object.TheVariants.{Pod}
 use Rattle.call_types.specs.declared.entry.Entry.{Entry}
 use Rattle.evidence_agent.specs.Places.Places.{TellsAt}
 use Rattle.evidence_agent.specs.declared.pods.ToldPod.{ToldPod}
@@ -25,7 +25,8 @@ page_at mine [] i d h all = absurd (omega (arith, h))
 page_at mine (p ∷ ps) zero d h all = all.0
 page_at mine (p ∷ ps) (suc i) d h all = page_at mine ps i d (omega (arith, h)) all.1
 
-pub pods_set : (mine : List Entry) (t : ToldPod) → TellsAt mine t.place (Pod t.pod) → (ps : List PodPage) (i : ℕ) (was is : PodPage) → i < length ps → was ≡ get_or ps i was → is.told ≡ was.told ++ t ∷ [] → ArePods ps mine → ArePods (set ps i is) mine
+pub pods_set : (mine : List Entry) (t : ToldPod) → TellsAt mine t.place (Pod t.pod) → (ps : List PodPage) (i : ℕ) (was is : PodPage) → i < length ps
+    → was ≡ get_or ps i was → is.told ≡ was.told ++ t ∷ [] → ArePods ps mine → ArePods (set ps i is) mine
 pods_set mine t h [] i was is lt at e all = absurd (omega (arith, lt))
 pods_set mine t h (p ∷ ps) zero was is lt at e all = (subst (λ ts. AreTold ts mine) (sym e) (told_last mine t h was.told (subst (λ (x : PodPage). AreTold x.told mine) (sym at) all.0)), all.1)
 pods_set mine t h (p ∷ ps) (suc i) was is lt at e all = (all.0, pods_set mine t h ps i was is (omega (arith, lt)) at e all.1)

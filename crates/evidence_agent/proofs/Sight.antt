@@ -1,13 +1,13 @@
 -- What a look-up in an agent's index shows.
 use Rattle.std.proofs.Common.{◌≡◌, inl, inr, None, ℕ, zero, suc, ◌<◌, ◌≤◌, List, [], ◌∷◌, length, drop, get_or, reverse, true, Option, Some, refl, sym, ◌∙◌, ap, arith, subst}
 use Rattle.std.specs.Prelude.{is_some}
-use Rattle.kube_types.specs.declared.uid.Uid.{Uid}
-use Rattle.kube_types.specs.declared.key.Key.{Key}
-use Rattle.kube_types.specs.declared.parts.Kind.TheVariants as kinds
-use Rattle.kube_types.specs.declared.objects.Claim.{Claim as ClaimData}
-use Rattle.kube_types.specs.declared.objects.Object.{Object}
-use Rattle.kube_types.specs.declared.objects.Pod.{Pod as PodData}
-use Rattle.kube_types.specs.declared.objects.Object.TheVariants.{Claim, Pod}
+use Rattle.kube_parts.specs.declared.uid.Uid.{Uid}
+use Rattle.kube_objects.specs.declared.key.Key.{Key}
+use Rattle.kube_parts.specs.declared.parts.Kind.TheVariants as kinds
+use Rattle.kube_objects.specs.declared.objects.Claim.{Claim as ClaimData}
+use Rattle.kube_objects.specs.declared.objects.Object.{Object}
+use Rattle.kube_objects.specs.declared.objects.Pod.{Pod as PodData}
+use Rattle.kube_objects.specs.declared.objects.Object.TheVariants.{Claim, Pod}
 use Rattle.evidence_agent.specs.declared.pods.ToldPod.{ToldPod}
 use Rattle.evidence_agent.specs.Pods.{AreTold}
 use Rattle.call_types.specs.declared.entry.Entry.{Entry}
@@ -30,17 +30,23 @@ use Rattle.evidence_pages.proofs.Growing.{told_grows}
 use Rattle.evidence_pages.proofs.Telling.{done_tells}
 use Rattle.evidence_agent.specs.Steps.Seen.{AreReadBehind, IsRead, IsShown, IsTakenAt, IsToMount, IsUnmounted, IsVolumeRead, TellsNaming}
 
-pub taken_by : (entries : List Entry) (node : List ℕ) (epoch : ℕ) (t : Topic) (answer : Option ℕ) (place : ℕ) (d : Entry) → t ≡ about_name matters.Taken node → answer ≡ last_of t (reverse entries) → answer ≡ Some place → place < length entries → epoch_in node (get_or entries place d) ≡ Some epoch → IsTakenAt (reverse entries) node epoch place
+pub taken_by : (entries : List Entry) (node : List ℕ) (epoch : ℕ) (t : Topic) (answer : Option ℕ) (place : ℕ) (d : Entry)
+    → t ≡ about_name matters.Taken node → answer ≡ last_of t (reverse entries) → answer ≡ Some place → place < length entries
+    → epoch_in node (get_or entries place d) ≡ Some epoch → IsTakenAt (reverse entries) node epoch place
 taken_by entries node epoch t answer place d about looked found within is = record {
   entry = get_or entries place d;
-  since = last_since (about_name matters.Taken node) (takes node) (takes_heard node) (reverse entries) place (get_or entries place d) (subst (λ (u : Topic). last_of u (reverse entries) ≡ Some place) about (sym looked ∙ found)) (read_stands entries place d within);
+  since = last_since (about_name matters.Taken node) (takes node) (takes_heard node) (reverse entries) place (get_or entries place d)
+      (subst (λ (u : Topic). last_of u (reverse entries) ≡ Some place) about (sym looked ∙ found)) (read_stands entries place d within);
   is = is;
 }
 
-pub read_by : (entries : List Entry) (key : Key) (behind : ℕ) (t : Topic) (answer : Option ℕ) (place : ℕ) (d : Entry) → t ≡ about_key matters.Read key → answer ≡ last_of t (reverse entries) → answer ≡ Some place → place < length entries → behind < place → gets key (get_or entries place d) ≡ true → IsRead (reverse entries) key behind place (get_or entries place d).reply
+pub read_by : (entries : List Entry) (key : Key) (behind : ℕ) (t : Topic) (answer : Option ℕ) (place : ℕ) (d : Entry)
+    → t ≡ about_key matters.Read key → answer ≡ last_of t (reverse entries) → answer ≡ Some place → place < length entries → behind < place
+    → gets key (get_or entries place d) ≡ true → IsRead (reverse entries) key behind place (get_or entries place d).reply
 read_by entries key behind t answer place d about looked found within later got = record {
   entry = get_or entries place d;
-  since = last_since (about_key matters.Read key) (gets key) (gets_heard key) (reverse entries) place (get_or entries place d) (subst (λ (u : Topic). last_of u (reverse entries) ≡ Some place) about (sym looked ∙ found)) (read_stands entries place d within);
+  since = last_since (about_key matters.Read key) (gets key) (gets_heard key) (reverse entries) place (get_or entries place d)
+      (subst (λ (u : Topic). last_of u (reverse entries) ≡ Some place) about (sym looked ∙ found)) (read_stands entries place d within);
   later = later;
   got = got;
   answer = refl;
@@ -53,11 +59,15 @@ current_by mine node epoch place taken = epoch_since node epoch mine place taken
 pub taken_is : (mine : List Entry) (node : List ℕ) (epoch place : ℕ) → IsTakenAt mine node epoch place → is_some (last_epoch node mine) ≡ true
 taken_is mine node epoch place taken = ap is_some (current_by mine node epoch place taken)
 
-pub ready_by : (mine : List Entry) (behind place : ℕ) (namespace name : List ℕ) (uid : Uid) (claim : ClaimData) → IsRead mine (claim_key namespace name) behind place (Found (Claim claim)) → IsToMount claim uid → IsVolumeRead mine claim place → AreReadBehind mine behind (λ recent. IsReadReady recent namespace name uid)
+pub ready_by : (mine : List Entry) (behind place : ℕ) (namespace name : List ℕ) (uid : Uid) (claim : ClaimData)
+    → IsRead mine (claim_key namespace name) behind place (Found (Claim claim)) → IsToMount claim uid → IsVolumeRead mine claim place
+    → AreReadBehind mine behind (λ recent. IsReadReady recent namespace name uid)
 ready_by mine behind place namespace name uid claim read fit volume recent above =
-    read_ready behind mine recent namespace name uid claim volume.volume place volume.place read.entry volume.read.entry above read.since read.later read.got read.answer volume.read.since volume.read.later volume.read.got volume.read.answer fit.same fit.staying fit.guarded fit.completed fit.bound volume.carries
+    read_ready behind mine recent namespace name uid claim volume.volume place volume.place read.entry volume.read.entry above read.since read.later
+    read.got read.answer volume.read.since volume.read.later volume.read.got volume.read.answer fit.same fit.staying fit.guarded fit.completed fit.bound volume.carries
 
-pub ready_from : (mine : List Entry) (behind place : ℕ) (a b namespace name : List ℕ) (uid : Uid) (claim : ClaimData) → a ≡ namespace → b ≡ name → IsRead mine (claim_key a b) behind place (Found (Claim claim)) → IsToMount claim uid → IsVolumeRead mine claim place → AreReadBehind mine behind (λ recent. IsReadReady recent namespace name uid)
+pub ready_from : (mine : List Entry) (behind place : ℕ) (a b namespace name : List ℕ) (uid : Uid) (claim : ClaimData) → a ≡ namespace → b ≡ name
+    → IsRead mine (claim_key a b) behind place (Found (Claim claim)) → IsToMount claim uid → IsVolumeRead mine claim place → AreReadBehind mine behind (λ recent. IsReadReady recent namespace name uid)
 ready_from mine behind place a b namespace name uid claim same_namespace same_name read fit volume =
     let first = subst (λ x. IsRead mine (claim_key x b) behind place (Found (Claim claim))) same_namespace read in
     ready_by mine behind place namespace name uid claim (subst (λ x. IsRead mine (claim_key namespace x) behind place (Found (Claim claim))) same_name first) fit volume
@@ -70,13 +80,17 @@ told_dropped (suc k) (t ∷ ts) mine all = told_dropped k ts mine all.1
 
 -- claims in order
 
-pub ready_step : (recent : List Entry) (namespace : List ℕ) (names : List (List ℕ)) (uids : List Uid) (i : ℕ) (n : List ℕ) (u : Uid) → i < length names → i < length uids → n ≡ get_or names i n → u ≡ get_or uids i u → IsReadReady recent namespace n u → AreReadReady recent namespace (drop (suc i) names) (drop (suc i) uids) → AreReadReady recent namespace (drop i names) (drop i uids)
+pub ready_step : (recent : List Entry) (namespace : List ℕ) (names : List (List ℕ)) (uids : List Uid) (i : ℕ) (n : List ℕ) (u : Uid)
+    → i < length names → i < length uids → n ≡ get_or names i n → u ≡ get_or uids i u → IsReadReady recent namespace n u
+    → AreReadReady recent namespace (drop (suc i) names) (drop (suc i) uids) → AreReadReady recent namespace (drop i names) (drop i uids)
 ready_step recent namespace [] uids i n u lt below name uid ready rest = absurd (omega (arith, lt))
 ready_step recent namespace (x ∷ xs) [] i n u lt below name uid ready rest = absurd (omega (arith, below))
-ready_step recent namespace (x ∷ xs) (y ∷ ys) zero n u lt below name uid ready rest = (subst (λ v. IsReadReady recent namespace x v) uid (subst (λ m. IsReadReady recent namespace m u) name ready), rest)
+ready_step recent namespace (x ∷ xs) (y ∷ ys) zero n u lt below name uid ready rest =
+    (subst (λ v. IsReadReady recent namespace x v) uid (subst (λ m. IsReadReady recent namespace m u) name ready), rest)
 ready_step recent namespace (x ∷ xs) (y ∷ ys) (suc i) n u lt below name uid ready rest = ready_step recent namespace xs ys i n u (omega (arith, lt)) (omega (arith, below)) name uid ready rest
 
-pub ready_end : (recent : List Entry) (namespace : List ℕ) (names : List (List ℕ)) (uids : List Uid) (i : ℕ) → length names ≡ length uids → length names ≤ i → AreReadReady recent namespace (drop i names) (drop i uids)
+pub ready_end : (recent : List Entry) (namespace : List ℕ) (names : List (List ℕ)) (uids : List Uid) (i : ℕ) → length names ≡ length uids
+    → length names ≤ i → AreReadReady recent namespace (drop i names) (drop i uids)
 ready_end recent namespace [] [] zero same end = tt
 ready_end recent namespace [] [] (suc i) same end = tt
 ready_end recent namespace [] (y ∷ ys) i same end = absurd (omega (arith, same))
@@ -95,10 +109,12 @@ told_at_all [] place pod P p h = absurd h
 told_at_all (e ∷ mine) place pod P p (inl h) = inl (told_ready P pod e p h.1)
 told_at_all (e ∷ mine) place pod P p (inr h) = inr (told_at_all mine place pod P p h)
 
-pub shown_by : (mine : List Entry) (taken : ℕ) (node : List ℕ) (epoch : ℕ) (uid : Uid) (claims : List Uid) (told : ToldPod) → IsTakenAt mine node epoch taken → TellsAt mine told.place (Pod told.pod) → IsShown mine taken node uid claims told → WasShownReady mine node uid claims [] (since_epoch node mine)
+pub shown_by : (mine : List Entry) (taken : ℕ) (node : List ℕ) (epoch : ℕ) (uid : Uid) (claims : List Uid) (told : ToldPod)
+    → IsTakenAt mine node epoch taken → TellsAt mine told.place (Pod told.pod) → IsShown mine taken node uid claims told → WasShownReady mine node uid claims [] (since_epoch node mine)
 shown_by mine taken node epoch uid claims told at tells shown =
     let above = above_told mine told.place (Pod told.pod) tells in
-    shown_since mine node uid claims told.pod [] mine above.0 taken shown.listed.place told.place at.entry shown.listed.list at.since above.1 tells shown.listed.stands shown.listed.after shown.listed.upto shown.listed.is
+    shown_since mine node uid claims told.pod [] mine above.0 taken shown.listed.place told.place at.entry shown.listed.list at.since above.1 tells
+    shown.listed.stands shown.listed.after shown.listed.upto shown.listed.is
     (record {
       on_node = shown.on_node;
       latest = shown.staying.is.latest;
@@ -109,17 +125,22 @@ shown_by mine taken node epoch uid claims told at tells shown =
     })
 
 pub never_by : (mine : List Entry) (uid : Uid) (t : Topic) (answer : Option ℕ) → t ≡ about_pod matters.Finished uid → answer ≡ last_of t mine → answer ≡ None → never_finished uid mine ≡ true
-never_by mine uid t answer about looked none = never_is uid mine (last_never (about_pod matters.Finished uid) (finishes uid) (finishes_heard uid) mine (subst (λ (u : Topic). last_of u mine ≡ None) about (sym looked ∙ none)))
+never_by mine uid t answer about looked none =
+    never_is uid mine (last_never (about_pod matters.Finished uid) (finishes uid) (finishes_heard uid) mine (subst (λ (u : Topic). last_of u mine ≡ None) about (sym looked ∙ none)))
 
-pub mount_by : (mine : List Entry) (node : List ℕ) (epoch taken : ℕ) (uid : Uid) (claims : List Uid) → IsTakenAt mine node epoch taken → WasShownReady mine node uid claims [] (since_epoch node mine) → never_finished uid mine ≡ true → MayMount mine node epoch uid claims
+pub mount_by : (mine : List Entry) (node : List ℕ) (epoch taken : ℕ) (uid : Uid) (claims : List Uid) → IsTakenAt mine node epoch taken
+    → WasShownReady mine node uid claims [] (since_epoch node mine) → never_finished uid mine ≡ true → MayMount mine node epoch uid claims
 mount_by mine node epoch taken uid claims at shown never = record { current = current_by mine node epoch taken at; shown = shown; unfinished = never }
 
 -- finishing
 
-pub quiet_by : (mine : List Entry) (uid : Uid) (place : ℕ) (t : Topic) (answer : Option ℕ) → t ≡ about_pod matters.Mounted uid → answer ≡ last_of t mine → IsUpto place answer → IsQuietBehind (mounts uid) place mine
-quiet_by mine uid place t answer about looked upto = last_behind (about_pod matters.Mounted uid) (mounts uid) (mounts_heard uid) place mine (subst (λ (u : Topic). IsUpto place (last_of u mine)) about (subst (IsUpto place) looked upto))
+pub quiet_by : (mine : List Entry) (uid : Uid) (place : ℕ) (t : Topic) (answer : Option ℕ) → t ≡ about_pod matters.Mounted uid
+    → answer ≡ last_of t mine → IsUpto place answer → IsQuietBehind (mounts uid) place mine
+quiet_by mine uid place t answer about looked upto =
+    last_behind (about_pod matters.Mounted uid) (mounts uid) (mounts_heard uid) place mine (subst (λ (u : Topic). IsUpto place (last_of u mine)) about (subst (IsUpto place) looked upto))
 
-pub unmounted_by : (entries : List Entry) (taken : ℕ) (node : List ℕ) (epoch : ℕ) (uid : Uid) (place : ℕ) (d : Entry) → place < length entries → taken < place → tells_unmounted node epoch uid (get_or entries place d) ≡ true → IsQuietBehind (mounts uid) place (reverse entries) → IsUnmounted (reverse entries) taken node epoch uid
+pub unmounted_by : (entries : List Entry) (taken : ℕ) (node : List ℕ) (epoch : ℕ) (uid : Uid) (place : ℕ) (d : Entry) → place < length entries
+    → taken < place → tells_unmounted node epoch uid (get_or entries place d) ≡ true → IsQuietBehind (mounts uid) place (reverse entries) → IsUnmounted (reverse entries) taken node epoch uid
 unmounted_by entries taken node epoch uid place d within after told quiet = record {
   place = place;
   rows = get_or entries place d;
@@ -129,7 +150,8 @@ unmounted_by entries taken node epoch uid place d within after told quiet = reco
   quiet = quiet;
 }
 
-pub finish_by : (mine : List Entry) (key : Key) (uid : Uid) (node : List ℕ) (epoch taken : ℕ) → key.kind ≡ kinds.Pod → WasTold (IsEndingPod uid node) mine → IsTakenAt mine node epoch taken → IsUnmounted mine taken node epoch uid → MayFinish mine key uid node epoch
+pub finish_by : (mine : List Entry) (key : Key) (uid : Uid) (node : List ℕ) (epoch taken : ℕ) → key.kind ≡ kinds.Pod
+    → WasTold (IsEndingPod uid node) mine → IsTakenAt mine node epoch taken → IsUnmounted mine taken node epoch uid → MayFinish mine key uid node epoch
 finish_by mine key uid node epoch taken kind told at behind = record {
   current = current_by mine node epoch taken at;
   kind = kind;
@@ -143,7 +165,8 @@ pub naming_by : (entries : List Entry) (key : Key) (place : ℕ) (d : Entry) →
 naming_by entries key place d within told = stands_some (TellsNaming key) (reverse entries) place (get_or entries place d) (read_stands entries place d within) told
 
 -- what an entry of a page tells alone
-pub told_there : (page : List Entry) (i : ℕ) (d e : Entry) (o : Object) → i < length page → e ≡ get_or page i d → e.told ≡ true → e.reply ≡ Done o → (mine : List Entry) → IsPart (reverse page) mine → ToldObject (λ x. x ≡ o) mine
+pub told_there : (page : List Entry) (i : ℕ) (d e : Entry) (o : Object) → i < length page → e ≡ get_or page i d → e.told ≡ true → e.reply ≡ Done o
+    → (mine : List Entry) → IsPart (reverse page) mine → ToldObject (λ x. x ≡ o) mine
 told_there page i d e o within at told is mine part = told_grows (λ x. x ≡ o) (reverse page) mine part
     (stands_some (TellsObject (λ x. x ≡ o)) (reverse page) i e (subst (StandsAt (reverse page) i) (sym at) (read_stands page i d within)) (told, done_tells e.reply o is))
 

@@ -1,7 +1,7 @@
 -- Pods that were told, each at its place.
 -- A choice of this project.
 use Rattle.std.specs.Prelude.{List, [], ◌∷◌, ⊤}
-use Rattle.kube_types.specs.declared.objects.Object.TheVariants.{Pod}
+use Rattle.kube_objects.specs.declared.objects.Object.TheVariants.{Pod}
 use Rattle.call_types.specs.declared.entry.Entry.{Entry}
 use Rattle.evidence_agent.specs.Places.Places.{TellsAt}
 use Rattle.evidence_agent.specs.declared.pods.ToldPod.{ToldPod}

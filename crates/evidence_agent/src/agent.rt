@@ -1,7 +1,7 @@
 //! Where the index shows that an agent may make a call.
 
 ghost use Rattle.std.specs.Prelude.{◌≡◌, ◌≤◌, [], ℕ, List, IfSome, IsTrue, Some, is_some, length, reverse, true};
-ghost use Rattle.kube_types.specs.declared.objects.Object.TheVariants as objects;
+ghost use Rattle.kube_objects.specs.declared.objects.Object.TheVariants as objects;
 ghost use Rattle.call_types.specs.declared.entry.Entry.{Entry};
 ghost use Rattle.call_types.specs.declared.reply.Reply.TheVariants as replies;
 ghost use Rattle.binder_model.specs.AgentLicence.{AreReadReady, IsEndingPod, IsPodOn, IsReadReady, MayMount, MayReadMounts, MayUnmount, WasShownReady, epoch_in, last_epoch, never_finished, since_epoch};

@@ -2,8 +2,8 @@
 
 ghost use Rattle.std.specs.Prelude.{◌≡◌, [], ◌∷◌, ◌++◌, List, IfOk, OnOk, length};
 ghost use Rattle.std.specs.List.Sorted.{IsSearchInRange};
-ghost use Rattle.kube_types.specs.declared.objects.Object.{Object};
-ghost use Rattle.kube_types.specs.declared.objects.Object.TheVariants as objects;
+ghost use Rattle.kube_objects.specs.declared.objects.Object.{Object};
+ghost use Rattle.kube_objects.specs.declared.objects.Object.TheVariants as objects;
 ghost use Rattle.call_types.specs.declared.entry.Entry.{Entry};
 ghost use Rattle.binder_model.specs.Told.{SomeOf, objects_in, objects_of_event, objects_of_events};
 ghost use Rattle.evidence_agent.specs.Places.Places.{TellsAt};

@@ -1,10 +1,10 @@
 -- What caches show of a node that was told absent.
 use Rattle.std.proofs.Common.{◌≡◌, ℕ, List, [], ◌∷◌, Bool, true, false, Option, Some, None, refl, sym, ◌∙◌, if◌then◌else◌}
 use Rattle.std.specs.Prelude.{nat_lt}
-use Rattle.kube_types.specs.declared.parts.Kind.TheVariants as kinds
-use Rattle.kube_types.specs.declared.objects.Object.{Object}
-use Rattle.kube_types.specs.declared.key.Key.{Key}
-use Rattle.kube_types.specs.Keys.{row_at, same_kind}
+use Rattle.kube_parts.specs.declared.parts.Kind.TheVariants as kinds
+use Rattle.kube_objects.specs.declared.objects.Object.{Object}
+use Rattle.kube_objects.specs.declared.key.Key.{Key}
+use Rattle.kube_objects.specs.Keys.{row_at, same_kind}
 use Rattle.call_types.specs.declared.entry.Entry.{Entry}
 use Rattle.call_types.specs.declared.request.Request.{Request}
 use Rattle.call_types.specs.declared.request.Request.TheVariants as requests
@@ -32,7 +32,8 @@ later_none (Some a) (Some b) h = by (nat_lt a.version b.version) h
     by false e = none_some (sym e)
 
 -- where the nodes may be watched after an answer, it told of each of them, or they might have been watched before
-step : (name : List ℕ) (request : Request) (reply : Reply) (f : Following) (from : ℕ) → ((n : ℕ) → IsFrom n f → ⊥) → IsFrom from (follow_on request reply kinds.Node f) → tells_of request reply (node_key name) ≡ None → ⊥
+step : (name : List ℕ) (request : Request) (reply : Reply) (f : Following) (from : ℕ) → ((n : ℕ) → IsFrom n f → ⊥)
+    → IsFrom from (follow_on request reply kinds.Node f) → tells_of request reply (node_key name) ≡ None → ⊥
 step name (requests.List kinds.Node None) (replies.Listed items version) f from rest h none = none_some (sym none)
 step name (requests.List kinds.Pod None) (replies.Listed items version) f from rest h none = rest from h
 step name (requests.List kinds.StorageClass None) (replies.Listed items version) f from rest h none = rest from h
@@ -57,7 +58,8 @@ told_of_each name (e ∷ mine) from h none =
     let both = later_none _ _ none in
     by e.told h both.0 (λ n x. told_of_each name mine n x both.1)
   where
-    by : (b : Bool) → IsFrom from (if b then follow_on e.request e.reply kinds.Node (following_of mine kinds.Node) else following_of mine kinds.Node) → (if b then tells_of e.request e.reply (node_key name) else None) ≡ None → ((n : ℕ) → IsFrom n (following_of mine kinds.Node) → ⊥) → ⊥
+    by : (b : Bool) → IsFrom from (if b then follow_on e.request e.reply kinds.Node (following_of mine kinds.Node) else following_of mine kinds.Node)
+        → (if b then tells_of e.request e.reply (node_key name) else None) ≡ None → ((n : ℕ) → IsFrom n (following_of mine kinds.Node) → ⊥) → ⊥
     by false x none rest = rest from x
     by true x none rest = step name e.request e.reply (following_of mine kinds.Node) from rest x none
 
@@ -65,7 +67,8 @@ absence : (t : Option Telling) → (t ≡ None → ⊥) → object_of t ≡ None
 absence None some none = absurd (some refl)
 absence (Some t) some none = none
 
-pub absent_by : (c : AllKnown) (mine : List Entry) (name : List ℕ) (found : Option Object) (ask : Ask) (from : ℕ) → found ≡ row_at (node_key name) (all_objects c) → found ≡ None → ask ≡ ask_of (cache_of kinds.Node c) → ask ≡ asks.Watch from → AllStandFor c mine → IsNewestAbsent mine (node_key name)
+pub absent_by : (c : AllKnown) (mine : List Entry) (name : List ℕ) (found : Option Object) (ask : Ask) (from : ℕ)
+    → found ≡ row_at (node_key name) (all_objects c) → found ≡ None → ask ≡ ask_of (cache_of kinds.Node c) → ask ≡ asks.Watch from → AllStandFor c mine → IsNewestAbsent mine (node_key name)
 absent_by c mine name found ask from is none asked watch all =
     absence (newest mine (node_key name)) (told_of_each name mine from (from_by c mine kinds.Node ask from asked watch all)) (sym (all.rows (node_key name)) ∙ sym is ∙ none)
 

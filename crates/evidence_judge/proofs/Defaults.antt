@@ -1,10 +1,10 @@
 -- The default class among the caches is that of the newest told.
 use Rattle.std.proofs.Common.{◌≡◌, ℕ, List, [], Some, sym, ◌∙◌, ap, subst}
-use Rattle.kube_types.specs.declared.key.Key.{Key}
-use Rattle.kube_types.specs.declared.objects.Class.{Class as ClassData}
-use Rattle.kube_types.specs.declared.objects.Object.TheVariants.{Class}
+use Rattle.kube_objects.specs.declared.key.Key.{Key}
+use Rattle.kube_objects.specs.declared.objects.Class.{Class as ClassData}
+use Rattle.kube_objects.specs.declared.objects.Object.TheVariants.{Class}
 use Rattle.kube_types.specs.Defaults.{IsDefaultAt, StandsIn}
-use Rattle.kube_types.specs.Keys.{key_of, row_at}
+use Rattle.kube_objects.specs.Keys.{key_of, row_at}
 use Rattle.kube_types.specs.Steps.Scan.{as_class, class_at}
 use Rattle.call_types.specs.declared.entry.Entry.{Entry}
 use Rattle.binder_model.specs.BinderLicence.{IsToldClass}
@@ -24,7 +24,8 @@ module _ (c : AllKnown) (mine : List Entry) (all : AllStandFor c mine) where
   stands_told class unplaced stands =
       sym (all.rows (class_key class.meta.name)) ∙ subst (λ n. row_at (record (class_key class.meta.name) { namespace = n }) (all_objects c) ≡ Some (Class class)) unplaced stands
 
-  pub default_by : (place : ℕ) (class : ClassData) (name : List ℕ) → IsDefaultAt (all_objects c) place → Some class ≡ class_at (all_objects c) place → class.meta.namespace ≡ [] → class.meta.name ≡ name → IsDefaultNamed mine name
+  pub default_by : (place : ℕ) (class : ClassData) (name : List ℕ) → IsDefaultAt (all_objects c) place → Some class ≡ class_at (all_objects c) place
+      → class.meta.namespace ≡ [] → class.meta.name ≡ name → IsDefaultNamed mine name
   default_by place class name d at unplaced named =
       let same : class ≡ d.class = one class d.class (at ∙ ap as_class d.at) in record {
         class = d.class;

@@ -1,6 +1,6 @@
 -- The version of the list with which a seat follows a kind, as one more entry comes.
 use Rattle.std.proofs.Common.{◌≡◌, ℕ, List, Bool, true, false, if◌then◌else◌, Some, inl, refl, sym, ◌∙◌}
-use Rattle.kube_types.specs.declared.parts.Kind.{Kind}
+use Rattle.kube_parts.specs.declared.parts.Kind.{Kind}
 use Rattle.call_types.specs.declared.entry.Entry.{Entry}
 use Rattle.binder_model.specs.Reading.{Following, Unlisted, ListedAt, IsFrom, following_of, reached_on}
 use Rattle.evidence_judge.specs.declared.lists.Lists.{Lists}

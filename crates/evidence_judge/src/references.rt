@@ -60,7 +60,7 @@ impl Drop for Referred {
 }
 
 impl<'a> Ranked<Parts<'a>> for Referred {
-    ghost use Rattle.kube_types.specs.Keys.{key_cmp};
+    ghost use Rattle.kube_objects.specs.Keys.{key_cmp};
     ghost use Rattle.evidence_pages.specs.Keyed.{key_by};
 
     ghost rank = { λ r k. key_cmp r.key (key_by k) };

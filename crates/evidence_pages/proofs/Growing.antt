@@ -1,6 +1,6 @@
 -- What a part of the entries tells, they tell.
 use Rattle.std.proofs.Common.{◌≡◌, List, inl, inr, sym, subst}
-use Rattle.kube_types.specs.declared.objects.Object.{Object}
+use Rattle.kube_objects.specs.declared.objects.Object.{Object}
 use Rattle.call_types.specs.declared.entry.Entry.{Entry}
 use Rattle.call_types.specs.declared.reply.Reply.{Reply}
 use Rattle.call_types.specs.declared.reply.Reply.TheVariants.{Done}

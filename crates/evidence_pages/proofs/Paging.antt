@@ -3,7 +3,7 @@ use Rattle.std.proofs.Common.{◌≡◌, ℕ, zero, suc, ◌<◌, List, [], ◌�
 use Rattle.std.proofs.lemmas.List.{reverse-append, take-append-drop}
 use Rattle.std.proofs.Math.Seq.{drop-append_seam, take-append_seam}
 use Rattle.std.specs.List.{insert}
-use Rattle.kube_types.specs.declared.objects.Object.{Object}
+use Rattle.kube_objects.specs.declared.objects.Object.{Object}
 use Rattle.call_types.specs.declared.entry.Entry.{Entry}
 use Rattle.call_types.specs.declared.reply.Reply.TheVariants.{Done}
 use Rattle.binder_model.specs.Told.{ToldObject}
@@ -33,15 +33,19 @@ grown : (mine after : List Entry) (entry : Entry) → MayStandBehind entry mine 
 grown mine after entry behind was is e part = subst (λ xs. IsPart xs after) (sym (ap reverse e ∙ reverse-append was (entry ∷ []))) (behind (reverse was) part).1
 
 -- a page with the entry behind it, in its place
-pub pages_set : (mine after : List Entry) (entry : Entry) → MayStandBehind entry mine after → (ps : List Page) (i : ℕ) (was is : Page) → i < length ps → was ≡ get_or ps i was → is.entries ≡ was.entries ++ entry ∷ [] → ArePages ps mine → ArePages (set ps i is) after
+pub pages_set : (mine after : List Entry) (entry : Entry) → MayStandBehind entry mine after → (ps : List Page) (i : ℕ) (was is : Page)
+    → i < length ps → was ≡ get_or ps i was → is.entries ≡ was.entries ++ entry ∷ [] → ArePages ps mine → ArePages (set ps i is) after
 pages_set mine after entry behind [] i was is h at e all = absurd (omega (arith, h))
-pages_set mine after entry behind (p ∷ ps) zero was is h at e all =
-    (grown mine after entry behind was.entries is.entries e (subst (λ (x : Page). IsPart (reverse x.entries) mine) (sym at) all.0), pages_grow mine after (λ small part. (behind small part).0) ps all.1)
+pages_set mine after entry behind (p ∷ ps) zero was is h at e all = (
+  grown mine after entry behind was.entries is.entries e (subst (λ (x : Page). IsPart (reverse x.entries) mine) (sym at) all.0),
+  pages_grow mine after (λ small part. (behind small part).0) ps all.1,
+)
 pages_set mine after entry behind (p ∷ ps) (suc i) was is h at e all =
     ((behind _ all.0).0, pages_set mine after entry behind ps i was is (omega (arith, h)) at e all.1)
 
 -- a new page with the entry alone
-pub pages_insert : (mine after : List Entry) (entry : Entry) → MayStandBehind entry mine after → (ps : List Page) (i : ℕ) (is : Page) → is.entries ≡ entry ∷ [] → ArePages ps mine → ArePages (insert ps i is) after
+pub pages_insert : (mine after : List Entry) (entry : Entry) → MayStandBehind entry mine after → (ps : List Page) (i : ℕ) (is : Page)
+    → is.entries ≡ entry ∷ [] → ArePages ps mine → ArePages (insert ps i is) after
 pages_insert mine after entry behind [] zero is e all = (grown mine after entry behind [] is.entries e Begins, tt)
 pages_insert mine after entry behind [] (suc i) is e all = (grown mine after entry behind [] is.entries e Begins, tt)
 pages_insert mine after entry behind (p ∷ ps) zero is e all = (grown mine after entry behind [] is.entries e Begins, pages_grow mine after (λ small part. (behind small part).0) (p ∷ ps) all)

@@ -1,16 +1,16 @@
 -- What caches that stand for the entries show of the reads of a controller.
 use Rattle.std.proofs.Common.{◌≡◌, ℕ, List, Bool, true, false, true≢false, Option, Some, None, inl, inr, sym, ◌∙◌, ap, subst}
-use Rattle.kube_types.specs.declared.uid.Uid.{Uid}
-use Rattle.kube_types.specs.declared.key.Key.{Key}
-use Rattle.kube_types.specs.declared.parts.Kind.{Kind}
-use Rattle.kube_types.specs.declared.parts.Kind.TheVariants as kinds
-use Rattle.kube_types.specs.declared.objects.Ref.{Ref}
-use Rattle.kube_types.specs.declared.objects.Claim.{Claim as ClaimData}
-use Rattle.kube_types.specs.declared.objects.Volume.{Volume as VolumeData}
-use Rattle.kube_types.specs.declared.objects.Object.{Object}
-use Rattle.kube_types.specs.declared.objects.Object.TheVariants.{Volume, Claim}
-use Rattle.kube_types.specs.Bindings.{is_completed}
-use Rattle.kube_types.specs.Keys.{row_at}
+use Rattle.kube_parts.specs.declared.uid.Uid.{Uid}
+use Rattle.kube_objects.specs.declared.key.Key.{Key}
+use Rattle.kube_parts.specs.declared.parts.Kind.{Kind}
+use Rattle.kube_parts.specs.declared.parts.Kind.TheVariants as kinds
+use Rattle.kube_objects.specs.declared.objects.Ref.{Ref}
+use Rattle.kube_objects.specs.declared.objects.Claim.{Claim as ClaimData}
+use Rattle.kube_objects.specs.declared.objects.Volume.{Volume as VolumeData}
+use Rattle.kube_objects.specs.declared.objects.Object.{Object}
+use Rattle.kube_objects.specs.declared.objects.Object.TheVariants.{Volume, Claim}
+use Rattle.kube_objects.specs.Bindings.{is_completed}
+use Rattle.kube_objects.specs.Keys.{row_at}
 use Rattle.call_types.specs.declared.entry.Entry.{Entry}
 use Rattle.call_types.specs.declared.request.SeatKind.TheVariants as seats
 use Rattle.call_types.specs.declared.request.Request.TheVariants as requests
@@ -52,10 +52,13 @@ asks_all c mine kind all = ap ask_from ((all.each kind).from ∙ ap (λ k. watch
 pub unlisted_by : (c : AllKnown) (mine : List Entry) (kind : Kind) (ask : Ask) → ask ≡ ask_of (cache_of kind c) → ask ≡ asks.List → AllStandFor c mine → IsUnlisted (following_of mine kind)
 unlisted_by c mine kind ask is list all = unlisted (following_of mine kind) (sym (asks_all c mine kind all) ∙ sym is ∙ list)
 
-pub from_by : (c : AllKnown) (mine : List Entry) (kind : Kind) (ask : Ask) (from : ℕ) → ask ≡ ask_of (cache_of kind c) → ask ≡ asks.Watch from → AllStandFor c mine → IsFrom from (following_of mine kind)
+pub from_by : (c : AllKnown) (mine : List Entry) (kind : Kind) (ask : Ask) (from : ℕ) → ask ≡ ask_of (cache_of kind c) → ask ≡ asks.Watch from
+    → AllStandFor c mine → IsFrom from (following_of mine kind)
 from_by c mine kind ask from is watch all = from_is (following_of mine kind) from (sym (asks_all c mine kind all) ∙ sym is ∙ watch)
 
-pub asks_claim_by : (c : AllKnown) (mine : List Entry) (key : Key) (found : Option Object) (v : VolumeData) (r : Ref) (uid : Uid) → found ≡ row_at key (all_objects c) → v.claim_ref ≡ Some r → r.uid ≡ Some uid → key ≡ claim_key r.namespace r.name → LacksUid found uid → row_at (volume_key v.meta.name) (all_objects c) ≡ Some (Volume v) → AllStandFor c mine → AsksForClaim mine key
+pub asks_claim_by : (c : AllKnown) (mine : List Entry) (key : Key) (found : Option Object) (v : VolumeData) (r : Ref) (uid : Uid)
+    → found ≡ row_at key (all_objects c) → v.claim_ref ≡ Some r → r.uid ≡ Some uid → key ≡ claim_key r.namespace r.name → LacksUid found uid
+    → row_at (volume_key v.meta.name) (all_objects c) ≡ Some (Volume v) → AllStandFor c mine → AsksForClaim mine key
 asks_claim_by c mine key found v r uid is refers known named lacking newest_is all = record {
   volume = v;
   newest_volume = sym (all.rows (volume_key v.meta.name)) ∙ newest_is;
@@ -67,7 +70,8 @@ asks_claim_by c mine key found v r uid is refers known named lacking newest_is a
   lacking = subst (λ (o : Option Object). LacksUid o uid) (is ∙ all.rows key) lacking;
 }
 
-pub asks_volume_by : (c : AllKnown) (mine : List Entry) (key : Key) (claim : ClaimData) → is_completed claim ≡ true → key ≡ volume_key claim.volume_name → row_at (claim_key claim.meta.namespace claim.meta.name) (all_objects c) ≡ Some (Claim claim) → AllStandFor c mine → AsksForVolume mine key
+pub asks_volume_by : (c : AllKnown) (mine : List Entry) (key : Key) (claim : ClaimData) → is_completed claim ≡ true
+    → key ≡ volume_key claim.volume_name → row_at (claim_key claim.meta.namespace claim.meta.name) (all_objects c) ≡ Some (Claim claim) → AllStandFor c mine → AsksForVolume mine key
 asks_volume_by c mine key claim completed named newest_is all = record {
   claim = claim;
   newest_claim = sym (all.rows (claim_key claim.meta.namespace claim.meta.name)) ∙ newest_is;
@@ -78,5 +82,6 @@ asks_volume_by c mine key claim completed named newest_is all = record {
 pub asks_ended_by : (c : AllKnown) (mine : List Entry) (key : Key) (v : VolumeData) → Some (Volume v) ≡ row_at key (all_objects c) → IsToErase v → AllStandFor c mine → AsksForEnded mine key
 asks_ended_by c mine key v is ended all = record { volume = v; newest_volume = sym (all.rows key) ∙ sym is; ended = ended }
 
-pub lists_by : (small mine : List Entry) (namespace : List ℕ) → IsPart small mine → Licensed seats.ClaimProtect small (requests.List kinds.Pod (Some namespace)) → MayRead seats.ClaimProtect mine (requests.List kinds.Pod (Some namespace))
+pub lists_by : (small mine : List Entry) (namespace : List ℕ) → IsPart small mine
+    → Licensed seats.ClaimProtect small (requests.List kinds.Pod (Some namespace)) → MayRead seats.ClaimProtect mine (requests.List kinds.Pod (Some namespace))
 lists_by small mine namespace part may = told_grows (IsClaimWith (IsDeletingIn namespace)) small mine part may.1

@@ -1,6 +1,6 @@
 -- What an event tells is among what its answer tells.
 use Rattle.std.proofs.Common.{◌≡◌, ℕ, zero, suc, ◌<◌, List, [], ◌∷◌, length, get_or, refl, sym, subst, inl, arith}
-use Rattle.kube_types.specs.declared.objects.Object.{Object}
+use Rattle.kube_objects.specs.declared.objects.Object.{Object}
 use Rattle.call_types.specs.declared.reply.Change.{Change}
 use Rattle.call_types.specs.declared.reply.Change.TheVariants as changes
 use Rattle.call_types.specs.declared.reply.Event.{Event}
@@ -15,7 +15,8 @@ added_tells change o is = subst (λ (c : Change). SomeOf (λ x. x ≡ o) (object
 pub modified_tells : (change : Change) (o : Object) → change ≡ changes.Modified → SomeOf (λ x. x ≡ o) (objects_of_event change o)
 modified_tells change o is = subst (λ (c : Change). SomeOf (λ x. x ≡ o) (objects_of_event c o)) (sym is) (inl refl)
 
-pub event_at : (o : Object) (es : List Event) (i : ℕ) (e : Event) → i < length es → e ≡ get_or es i e → SomeOf (λ x. x ≡ o) (objects_of_event e.change e.object) → SomeOf (λ x. x ≡ o) (objects_of_events es)
+pub event_at : (o : Object) (es : List Event) (i : ℕ) (e : Event) → i < length es → e ≡ get_or es i e
+    → SomeOf (λ x. x ≡ o) (objects_of_event e.change e.object) → SomeOf (λ x. x ≡ o) (objects_of_events es)
 event_at o [] i e h is p = absurd (omega (arith, h))
 event_at o (x ∷ es) zero e h is p = some_left (λ y. y ≡ o) _ _ (subst (λ (z : Event). SomeOf (λ y. y ≡ o) (objects_of_event z.change z.object)) is p)
 event_at o (x ∷ es) (suc i) e h is p = some_right (λ y. y ≡ o) _ _ (event_at o es i e (omega (arith, h)) is p)

@@ -1,6 +1,6 @@
 -- Keys by their parts.
 -- A choice of this project.
-use Rattle.kube_types.specs.declared.key.Key.{Key}
+use Rattle.kube_objects.specs.declared.key.Key.{Key}
 use Rattle.evidence_pages.specs.declared.parts.Parts.{Parts}
 
 abbrev pub key_by : Parts → Key

@@ -1,7 +1,7 @@
 -- Parts of what a seat was told, by which a row of the licence may be judged.
 -- A choice of this project.
 use Rattle.std.specs.Prelude.{◌≡◌, List, [], ◌∷◌, reverse, ⊤}
-use Rattle.kube_types.specs.declared.objects.Object.{Object}
+use Rattle.kube_objects.specs.declared.objects.Object.{Object}
 use Rattle.call_types.specs.declared.entry.Entry.{Entry}
 use Rattle.call_types.specs.declared.reply.Reply.TheVariants.{Done}
 use Rattle.binder_model.specs.Told.{ToldObject}

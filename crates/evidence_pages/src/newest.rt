@@ -3,7 +3,7 @@
 ghost use Rattle.std.specs.Prelude.{◌≡◌, ◌↔◌, IfErr, IfOk, IsTrue, Some, length};
 ghost use Rattle.std.specs.List.Sorted.{IsSearchInRange};
 ghost use Rattle.std.specs.Option.{option_copied};
-ghost use Rattle.kube_types.specs.Keys.{AreRows, IsRowAt, IsRowGap, row_at};
+ghost use Rattle.kube_objects.specs.Keys.{AreRows, IsRowAt, IsRowGap, row_at};
 ghost use Rattle.informer_cache.specs.All.{all_objects};
 ghost use Rattle.evidence_pages.specs.Keyed.{key_by};
 
@@ -16,7 +16,7 @@ use kube_types::rows::{Ranked, place_of};
 use std::cmp::Ordering;
 
 impl<'a> Ranked<Parts<'a>> for Object {
-    ghost use Rattle.kube_types.specs.Keys.{key_cmp, key_of};
+    ghost use Rattle.kube_objects.specs.Keys.{key_cmp, key_of};
     ghost use Rattle.evidence_pages.specs.Keyed.{key_by};
 
     ghost rank = { λ o k. key_cmp (key_of o) (key_by k) };

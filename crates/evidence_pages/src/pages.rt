@@ -44,7 +44,7 @@ impl Drop for Page {
 }
 
 impl<'a> Ranked<Parts<'a>> for Page {
-    ghost use Rattle.kube_types.specs.Keys.{key_cmp};
+    ghost use Rattle.kube_objects.specs.Keys.{key_cmp};
     ghost use Rattle.evidence_pages.specs.Keyed.{key_by};
 
     ghost rank = { λ p k. key_cmp p.key (key_by k) };

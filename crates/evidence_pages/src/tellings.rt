@@ -1,7 +1,7 @@
 //! What an entry tells, put on the pages of the keys of which it speaks.
 
 ghost use Rattle.std.specs.Prelude.{◌≡◌, ◌∷◌, List, IfOk, OnOk};
-ghost use Rattle.kube_types.specs.declared.objects.Object.{Object};
+ghost use Rattle.kube_objects.specs.declared.objects.Object.{Object};
 ghost use Rattle.call_types.specs.declared.entry.Entry.{Entry};
 ghost use Rattle.call_types.specs.declared.reply.Reply.TheVariants.{Done};
 ghost use Rattle.binder_model.specs.Told.{SomeOf, ToldObject, objects_in, objects_of_event, objects_of_events};

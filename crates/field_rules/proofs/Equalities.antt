@@ -6,21 +6,39 @@ use Rattle.std.proofs.lemmas.Bool.Decides.{Decides-eqb, Decides-and, Decides-lik
 use Rattle.std.proofs.lemmas.Slice.Eq.{bytes_eq-Decides}
 use lib.Pointwise.{pointwise_decides}
 use Rattle.plain_data.specs.Pairs.{Pair}
-use Rattle.kube_types.specs.declared.uid.Uid.{Uid}
-use Rattle.kube_types.specs.declared.parts.Modes.{Modes}
-use Rattle.kube_types.specs.declared.parts.Policy.{Policy}
-use Rattle.kube_types.specs.declared.parts.Policy.TheVariants.{Retain, Delete, Recycle}
-use Rattle.kube_types.specs.declared.parts.Op.{Op}
-use Rattle.kube_types.specs.declared.parts.Op.TheVariants.{In, NotIn, Exists, DoesNotExist}
-use Rattle.kube_types.specs.declared.parts.SourceKind.{SourceKind}
-use Rattle.kube_types.specs.declared.parts.SourceKind.TheVariants.{Csi, Nfs, Local, HostPath}
-use Rattle.kube_types.specs.declared.objects.Amount.{Amount}
-use Rattle.kube_types.specs.declared.objects.Ref.{Ref}
-use Rattle.kube_types.specs.declared.objects.Source.{Source}
-use Rattle.kube_types.specs.declared.objects.Expr.{Expr}
-use Rattle.kube_types.specs.declared.objects.Selector.{Selector}
-use Rattle.kube_types.specs.declared.objects.NodeTerms.{NodeTerms}
-use Rattle.binder_model.specs.Same.{same_option, same_names, same_pair, same_pairs, same_uid, same_modes, same_amount, policy_index, same_policy, op_index, same_expr, same_exprs, same_selector, same_terms, source_index, same_source, same_ref}
+use Rattle.kube_parts.specs.declared.uid.Uid.{Uid}
+use Rattle.kube_parts.specs.declared.parts.Modes.{Modes}
+use Rattle.kube_parts.specs.declared.parts.Policy.{Policy}
+use Rattle.kube_parts.specs.declared.parts.Policy.TheVariants.{Retain, Delete, Recycle}
+use Rattle.kube_parts.specs.declared.parts.Op.{Op}
+use Rattle.kube_parts.specs.declared.parts.Op.TheVariants.{In, NotIn, Exists, DoesNotExist}
+use Rattle.kube_parts.specs.declared.parts.SourceKind.{SourceKind}
+use Rattle.kube_parts.specs.declared.parts.SourceKind.TheVariants.{Csi, Nfs, Local, HostPath}
+use Rattle.kube_objects.specs.declared.objects.Amount.{Amount}
+use Rattle.kube_objects.specs.declared.objects.Ref.{Ref}
+use Rattle.kube_objects.specs.declared.objects.Source.{Source}
+use Rattle.kube_objects.specs.declared.objects.Expr.{Expr}
+use Rattle.kube_objects.specs.declared.objects.Selector.{Selector}
+use Rattle.kube_objects.specs.declared.objects.NodeTerms.{NodeTerms}
+use Rattle.binder_model.specs.Same.{
+  same_option,
+  same_names,
+  same_pair,
+  same_pairs,
+  same_uid,
+  same_modes,
+  same_amount,
+  policy_index,
+  same_policy,
+  op_index,
+  same_expr,
+  same_exprs,
+  same_selector,
+  same_terms,
+  source_index,
+  same_source,
+  same_ref,
+}
 
 -- a test decides the equality of values that come back from what it compares
 module _ {X : Type 0} (index : X → ℕ) (at : ℕ → X) (back : (x : X) → at (index x) ≡ x) where

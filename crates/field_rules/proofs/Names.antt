@@ -1,5 +1,33 @@
 -- Names of objects, byte by byte.
-use Rattle.std.proofs.Common.{◌≡◌, ◌==◌, ◌+◌, ◌<◌, ℕ, suc, arith, Bool, true, false, ◌&&◌, List, [], ◌∷◌, Option, Some, None, refl, sym, ◌∙◌, ap, if◌then◌else◌, length, drop, get_or, add-one, drop-cons}
+use Rattle.std.proofs.Common.{
+  ◌≡◌,
+  ◌==◌,
+  ◌+◌,
+  ◌<◌,
+  ℕ,
+  suc,
+  arith,
+  Bool,
+  true,
+  false,
+  ◌&&◌,
+  List,
+  [],
+  ◌∷◌,
+  Option,
+  Some,
+  None,
+  refl,
+  sym,
+  ◌∙◌,
+  ap,
+  if◌then◌else◌,
+  length,
+  drop,
+  get_or,
+  add-one,
+  drop-cons,
+}
 use Rattle.std.specs.List.{list_all, onto_first, slice_split}
 use Rattle.std.specs.Prelude.{◌||◌, ◌-◌, slice_get}
 use Rattle.std.proofs.lemmas.Bool.Decides.{Decides-eqb}
@@ -73,16 +101,19 @@ some_part (c ∷ cs) e = by (c == 46) (slice_split is_dot cs) e
 pub goes_well-cons : (last : Option ℕ) (c : ℕ) (cs : List ℕ) → goes_well last (c ∷ cs) ≡ (byte_fits last c && goes_well (after_byte c) cs)
 goes_well-cons None c cs = by (c == 46) refl
   where
-    by : (b : Bool) → (c == 46) ≡ b → list_all is_label (if b then [] ∷ slice_split is_dot cs else onto_first c (slice_split is_dot cs)) ≡ (is_lower_or_digit c && goes_well (if b then None else Some c) cs)
+    by : (b : Bool) → (c == 46) ≡ b → list_all is_label (if b then [] ∷ slice_split is_dot cs else onto_first c (slice_split is_dot cs)) ≡
+        (is_lower_or_digit c && goes_well (if b then None else Some c) cs)
     by true e = let is : c ≡ 46 = (Decides-eqb c 46).0 e in rw is refl
     by false e = onto_none c (slice_split is_dot cs) (some_part cs)
 goes_well-cons (Some last) c cs = by (c == 46)
   where
-    by : (b : Bool) → goes_on last (if b then [] ∷ slice_split is_dot cs else onto_first c (slice_split is_dot cs)) ≡ ((if b then is_lower_or_digit last else is_name_byte last) && goes_well (if b then None else Some c) cs)
+    by : (b : Bool) → goes_on last (if b then [] ∷ slice_split is_dot cs else onto_first c (slice_split is_dot cs)) ≡
+        ((if b then is_lower_or_digit last else is_name_byte last) && goes_well (if b then None else Some c) cs)
     by true = refl
     by false = onto_some last c (slice_split is_dot cs) (some_part cs)
 
-pub goes_well-drop : (last : Option ℕ) (bytes : List ℕ) (i : ℕ) → i < length bytes → goes_well last (drop i bytes) ≡ (byte_fits last (get_or bytes i 0) && goes_well (after_byte (get_or bytes i 0)) (drop (i + 1) bytes))
+pub goes_well-drop : (last : Option ℕ) (bytes : List ℕ) (i : ℕ) → i < length bytes
+    → goes_well last (drop i bytes) ≡ (byte_fits last (get_or bytes i 0) && goes_well (after_byte (get_or bytes i 0)) (drop (i + 1) bytes))
 goes_well-drop last bytes i lt = rw (drop-cons bytes i 0 lt, add-one) (goes_well-cons last (get_or bytes i 0) (drop (suc i) bytes))
 
 pub ends_well-drop : (last : ℕ) (bytes : List ℕ) (i : ℕ) → i < length bytes → ends_well last (drop i bytes) ≡ (is_name_byte last && ends_well (get_or bytes i 0) (drop (i + 1) bytes))

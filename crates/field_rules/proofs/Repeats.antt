@@ -3,7 +3,7 @@ use Rattle.std.proofs.Common.{◌≡◌, ℕ, Bool, true, false, List, [], ◌�
 use Rattle.std.specs.Prelude.{◌||◌, bytes_eq}
 use Rattle.std.specs.List.{list_any}
 use Rattle.std.proofs.lemmas.List.Folds.{list_any-append}
-use Rattle.kube_types.specs.Bindings.{has_name}
+use Rattle.kube_objects.specs.Bindings.{has_name}
 use Rattle.binder_model.specs.Fields.{has_twice}
 
 -- some name stands twice among these, or is one of those that were seen before

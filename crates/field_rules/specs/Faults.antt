@@ -3,8 +3,8 @@
 use Rattle.std.specs.Prelude.{ℕ, ◌==◌, ◌&&◌, Bool, false, List, [], ◌∷◌, Option, Some, None, if◌then◌else◌}
 use Rattle.std.specs.declared.result.Result.{Result}
 use Rattle.std.specs.declared.result.Result.TheVariants.{Ok, Err}
-use Rattle.kube_types.specs.declared.objects.Object.{Object}
-use Rattle.kube_types.specs.declared.objects.Object.TheVariants.{Class, Node, Volume, Claim, Pod}
+use Rattle.kube_objects.specs.declared.objects.Object.{Object}
+use Rattle.kube_objects.specs.declared.objects.Object.TheVariants.{Class, Node, Volume, Claim, Pod}
 use Rattle.binder_model.specs.Fields.{is_lower_or_digit, is_name_byte}
 
 -- the fault that the first test found, else that of the next

@@ -2,8 +2,8 @@
 
 ghost use Rattle.std.specs.Prelude.{◌≡◌, IfOk, OnOk, OnErr};
 ghost use Rattle.std.specs.Option.{option_copied};
-ghost use Rattle.kube_types.specs.declared.objects.Object.TheVariants as objects;
-ghost use Rattle.kube_types.specs.Bindings.{has_key};
+ghost use Rattle.kube_objects.specs.declared.objects.Object.TheVariants as objects;
+ghost use Rattle.kube_objects.specs.Bindings.{has_key};
 ghost use Rattle.binder_model.specs.Store.{admitted_object, admitted_class, with_finalizer};
 
 use kube_types::bindings::{BETA_CLASS, PV_PROTECTION, PVC_PROTECTION};

@@ -3,10 +3,10 @@
 ghost use Rattle.std.specs.Prelude.{◌≡◌, ◌==◌, ◌&&◌, ◌||◌, Option, false, not, IfOk, IfSome};
 ghost use Rattle.std.specs.List.{list_all, slice_split};
 ghost use Rattle.std.specs.Result.{result_err};
-ghost use Rattle.kube_types.specs.declared.names.Field.{Field};
-ghost use Rattle.kube_types.specs.declared.objects.Object.TheVariants as objects;
-ghost use Rattle.kube_types.specs.Bindings.{is_deleting};
-ghost use Rattle.kube_types.specs.Keys.{meta_of};
+ghost use Rattle.kube_parts.specs.declared.names.Field.{Field};
+ghost use Rattle.kube_objects.specs.declared.objects.Object.TheVariants as objects;
+ghost use Rattle.kube_objects.specs.Bindings.{is_deleting};
+ghost use Rattle.kube_objects.specs.Keys.{meta_of};
 ghost use Rattle.binder_model.specs.Fields.{adds_finalizer, is_lower_or_digit, is_name_byte, is_label, is_subdomain, is_namespace, has_no_mode, has_twice, is_nameless, keeps_class, volume_fault, claim_fault, class_fault, pod_fault, kind_fault, create_fault, changed_field, update_fault};
 ghost use Rattle.field_rules.specs.Faults.{after_byte, byte_fits, ends_well, fault_or, names_in, reads_as_label};
 

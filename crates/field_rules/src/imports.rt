@@ -3,8 +3,8 @@
 ghost use Rattle.std.specs.Prelude.{◌≡◌, ◌||◌, nat_lt};
 ghost use Rattle.std.specs.List.{list_any};
 ghost use Rattle.std.specs.Result.{result_err};
-ghost use Rattle.kube_types.specs.Bindings.{ref_uid};
-ghost use Rattle.kube_types.specs.Keys.{key_of, meta_of, same_key};
+ghost use Rattle.kube_objects.specs.Bindings.{ref_uid};
+ghost use Rattle.kube_objects.specs.Keys.{key_of, meta_of, same_key};
 ghost use Rattle.binder_model.specs.Imports.{holds_of_pair, import_fault, is_claim_named, is_ended_for, most_imported, names_another, reference_of, refers_to_another, serial_of, serial_or_zero, shares_uid};
 
 use crate::faults::check_create;

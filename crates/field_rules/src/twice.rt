@@ -7,7 +7,7 @@ ghost use Rattle.std.specs.List.{list_any};
 ghost use Rattle.std.specs.Cmp.{partial_equiv_from_equiv};
 ghost use Rattle.std.proofs.lemmas.Cmp.{nat_list_eq_equiv};
 ghost use Rattle.std.proofs.lemmas.Slice.Eq.{bytes_eq-Decides};
-ghost use Rattle.kube_types.specs.Bindings.{has_name};
+ghost use Rattle.kube_objects.specs.Bindings.{has_name};
 ghost use Rattle.binder_model.specs.Fields.{has_twice};
 
 use indexmap::IndexSet;

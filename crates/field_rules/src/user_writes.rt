@@ -5,8 +5,8 @@ ghost use Rattle.std.specs.Bool.{xor};
 ghost use Rattle.std.specs.Option.{option_copied};
 ghost use Rattle.std.specs.Result.{result_err};
 ghost use Rattle.plain_data.specs.Pairs.{value_at};
-ghost use Rattle.kube_types.specs.Keys.{meta_of};
-ghost use Rattle.kube_types.specs.Bindings.{has_name, is_delete};
+ghost use Rattle.kube_objects.specs.Keys.{meta_of};
+ghost use Rattle.kube_objects.specs.Bindings.{has_name, is_delete};
 ghost use Rattle.binder_model.specs.Same.{same_option, same_ref};
 ghost use Rattle.binder_model.specs.Guard.{annotations_before, finalizers_before, clears_released, changes_annotation, drops_with_reference, breaks_annotation, is_admitted, changes_finalizer, breaks_finalizer, reference_before, has_uid, breaks_reference, breaks_policy, guard};
 

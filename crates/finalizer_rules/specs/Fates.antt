@@ -1,9 +1,9 @@
 -- What a delete, and a new list of finalizers, come to.
 -- Source: Kubernetes documentation, "Finalizers"; that a pod leaves by its own verbs alone is a choice of this project.
 use Rattle.std.specs.Prelude.{ℕ, Bool, ◌&&◌, ◌||◌, List, if◌then◌else◌}
-use Rattle.kube_types.specs.declared.objects.Object.{Object}
-use Rattle.kube_types.specs.Keys.{meta_of}
-use Rattle.kube_types.specs.Bindings.{is_deleting}
+use Rattle.kube_objects.specs.declared.objects.Object.{Object}
+use Rattle.kube_objects.specs.Keys.{meta_of}
+use Rattle.kube_objects.specs.Bindings.{is_deleting}
 use Rattle.binder_model.specs.Store.{with_meta, marked_object, leaves, leaves_at_once}
 use Rattle.binder_model.specs.Fields.{adds_finalizer}
 use Rattle.finalizer_rules.specs.declared.Fate.{Fate}

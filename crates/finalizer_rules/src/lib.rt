@@ -5,7 +5,7 @@
 #![tactic(auto)]
 
 ghost use Rattle.std.specs.Prelude.{◌≡◌, ◌&&◌, ℕ, List};
-ghost use Rattle.kube_types.specs.Bindings.{is_deleting};
+ghost use Rattle.kube_objects.specs.Bindings.{is_deleting};
 ghost use Rattle.binder_model.specs.Store.{leaves, leaves_at_once};
 ghost use Rattle.binder_model.specs.Fields.{adds_finalizer};
 ghost use Rattle.finalizer_rules.specs.Fates.{fate_on_delete, fate_on_update, leave_if};

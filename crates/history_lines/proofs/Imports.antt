@@ -3,8 +3,8 @@ use Rattle.std.proofs.Common.{◌≡◌, ℕ, List, [], ◌∷◌, ◌++◌, Boo
 use Rattle.std.specs.Prelude.{◌↔◌, IfOk, IsTrue, is_none, codes}
 use Rattle.serde_json.specs.Data.{Data}
 use Rattle.plain_data.specs.declared.copies.OutOfMemory.{OutOfMemory}
-use Rattle.kube_types.specs.declared.names.ImportFault.{ImportFault}
-use Rattle.kube_types.specs.declared.objects.Object.{Object}
+use Rattle.kube_parts.specs.declared.names.ImportFault.{ImportFault}
+use Rattle.kube_objects.specs.declared.objects.Object.{Object}
 use Rattle.call_types.specs.declared.setup.Pool.{Pool}
 use Rattle.call_types.specs.declared.setup.Setup.{Setup}
 use Rattle.binder_model.specs.Imports.{import_fault, PassAfter, ImportsPass}
@@ -56,7 +56,8 @@ with_passing pools faults imports s h = by (rise faults) (pass_after [] imports)
 
 parts_passing : (m : Look) (s : Setup) → parts_at m ≡ Some s → ImportsPass s.imports
 parts_passing m s h =
-    let a = step (list_at number_in (codes "faults") m) (λ faults. some_list_at object_in (codes "imports") m >>= λ imports. list_at pool_in (codes "pools") m >>= λ pools. parts_with pools faults imports) s h in
+    let a = step (list_at number_in (codes "faults") m)
+    (λ faults. some_list_at object_in (codes "imports") m >>= λ imports. list_at pool_in (codes "pools") m >>= λ pools. parts_with pools faults imports) s h in
     let b = step (some_list_at object_in (codes "imports") m) (λ imports. list_at pool_in (codes "pools") m >>= λ pools. parts_with pools a.0 imports) s a.1 in
     let c = step (list_at pool_in (codes "pools") m) (λ pools. parts_with pools a.0 b.0) s b.1 in
     with_passing c.0 a.0 b.0 s c.1

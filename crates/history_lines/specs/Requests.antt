@@ -1,8 +1,8 @@
 -- The request that the member `ask` of an entry gives, by its word `do`. A choice of this project: the history format.
 use Rattle.std.specs.Prelude.{ℕ, List, Option, Some, None, codes}
 use Rattle.serde_json.specs.Data.{Data}
-use Rattle.kube_types.specs.Named.{policy_named, volume_phase_named, claim_phase_named}
-use Rattle.kube_types.specs.declared.parts.Policy.{Policy}
+use Rattle.kube_parts.specs.Named.{policy_named, volume_phase_named, claim_phase_named}
+use Rattle.kube_parts.specs.declared.parts.Policy.{Policy}
 use Rattle.call_types.specs.declared.edit.Edit.{Edit}
 use Rattle.call_types.specs.declared.edit.Edit.TheVariants as edits
 use Rattle.call_types.specs.declared.request.NewStatus.{NewStatus}
@@ -15,7 +15,26 @@ use Rattle.history_lines.specs.declared.words.EditWord.{EditWord}
 use Rattle.history_lines.specs.declared.words.EditWord.TheVariants as words
 use Rattle.history_lines.specs.Answers.{◌>>=◌}
 use Rattle.history_lines.specs.Words.{ask_named, edited_word, all_edits}
-use Rattle.history_lines.specs.Members.{Look, look_in, standing, text_at, some_text_at, number_at, some_number_at, uid_in, uid_at, some_uid_at, some_amount_at, object_at, list_at, modes_at, some_labels_at, kind_at, key_at, data_id_at}
+use Rattle.history_lines.specs.Members.{
+  Look,
+  look_in,
+  standing,
+  text_at,
+  some_text_at,
+  number_at,
+  some_number_at,
+  uid_in,
+  uid_at,
+  some_uid_at,
+  some_amount_at,
+  object_at,
+  list_at,
+  modes_at,
+  some_labels_at,
+  kind_at,
+  key_at,
+  data_id_at,
+}
 
 -- ---- edits
 

@@ -1,11 +1,11 @@
 -- The words that tell what stands in a line, and the value that a word names. A choice of this project: the history format.
 use Rattle.std.specs.Prelude.{ℕ, List, [], ◌∷◌, Option, codes}
-use Rattle.kube_types.specs.Named.{value_named}
-use Rattle.kube_types.specs.Words.{field_word, rule_word}
-use Rattle.kube_types.specs.declared.names.Field.{Field}
-use Rattle.kube_types.specs.declared.names.Field.TheVariants as fields
-use Rattle.kube_types.specs.declared.names.Rule.{Rule}
-use Rattle.kube_types.specs.declared.names.Rule.TheVariants as rules
+use Rattle.kube_parts.specs.Named.{value_named}
+use Rattle.kube_parts.specs.Words.{field_word, rule_word}
+use Rattle.kube_parts.specs.declared.names.Field.{Field}
+use Rattle.kube_parts.specs.declared.names.Field.TheVariants as fields
+use Rattle.kube_parts.specs.declared.names.Rule.{Rule}
+use Rattle.kube_parts.specs.declared.names.Rule.TheVariants as rules
 use Rattle.call_types.specs.declared.request.SeatKind.{SeatKind}
 use Rattle.call_types.specs.declared.request.SeatKind.TheVariants as seats
 use Rattle.call_types.specs.declared.reply.Change.{Change}

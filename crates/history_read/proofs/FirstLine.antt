@@ -26,7 +26,8 @@ abbrev FoundAt : List ℕ → ℕ → Type 0
 FoundAt text place = NoneBefore (Passes (is_byte 10) text) 0 (length text) place
 
 place_is : (text : List ℕ) (place : ℕ) → FoundAt text place → Passes (is_byte 10) text place → position_or_len is_feed text ≡ place
-place_is text place h found = position_or_len_is is_feed text place 0 (let low = h.high in omega arith) (λ k less. not_true (is_feed (slice_index text k)) (h.before k (omega arith) less)) (λ below. found)
+place_is text place h found = position_or_len_is is_feed text place 0 (let low = h.high in omega arith) (λ k less. not_true
+    (is_feed (slice_index text k)) (h.before k (omega arith) less)) (λ below. found)
 
 -- the rest as a part of the text, as a slice to its end is one
 abbrev rest_from : ℕ → List ℕ → List ℕ

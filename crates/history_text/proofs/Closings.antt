@@ -1,8 +1,8 @@
 -- What stands between the brackets of requests, replies, entries and setups is their data.
 use Rattle.std.proofs.Common.{◌≡◌, ℕ, List, [], ◌∷◌, Option, Some, codes, refl}
 use Rattle.serde_json.specs.Data.{no_members}
-use Rattle.kube_types.specs.declared.objects.Object.{Object}
-use Rattle.kube_types.specs.declared.objects.DataId.{DataId}
+use Rattle.kube_objects.specs.declared.objects.Object.{Object}
+use Rattle.kube_objects.specs.declared.objects.DataId.{DataId}
 use Rattle.call_types.specs.declared.entry.Entry.{Entry}
 use Rattle.call_types.specs.declared.reply.Event.{Event}
 use Rattle.call_types.specs.declared.reply.Events.{Events}
@@ -25,10 +25,12 @@ use Rattle.history_text.specs.Entries.{entry_pairs, entry_data, pool_pairs, pool
 pub closes_label : (key value : List ℕ) (w : Writing) → closed 125 (with_all (two_texts (codes "key") key (codes "value") value) (opened 123 w)) ≡ with_value (label_data key value) w
 closes_label key value w = closes (two_texts (codes "key") key (codes "value") value) w refl
 
-pub closes_claim_name : (namespace name : List ℕ) (w : Writing) → closed 125 (with_all (two_texts (codes "name") name (codes "namespace") namespace) (opened 123 w)) ≡ with_value (claim_name_data namespace name) w
+pub closes_claim_name : (namespace name : List ℕ) (w : Writing)
+    → closed 125 (with_all (two_texts (codes "name") name (codes "namespace") namespace) (opened 123 w)) ≡ with_value (claim_name_data namespace name) w
 closes_claim_name namespace name w = closes (two_texts (codes "name") name (codes "namespace") namespace) w refl
 
-pub closes_request : (r : Request) (w : Writing) → closed 125 (with_texts (with_options with_member_text (argument_pairs r) (with_option with_member_text (codes "do") (text (ask_word r)) [])) (opened 123 w)) ≡ with_value (request_data r) w
+pub closes_request : (r : Request) (w : Writing)
+    → closed 125 (with_texts (with_options with_member_text (argument_pairs r) (with_option with_member_text (codes "do") (text (ask_word r)) [])) (opened 123 w)) ≡ with_value (request_data r) w
 unfolding request_data
 closes_request r w = closes_over ((codes "do", text (ask_word r)) ∷ argument_pairs r) no_members w
 
@@ -42,7 +44,8 @@ pub closes_event_items : (k : List ℕ) (es : List Event) (w : Writing) → clos
 unfolding with_option
 closes_event_items k es w = closes_array (items_data event_data es) (with_key k w)
 
-pub closes_mount_items : (k : List ℕ) (rows : List MountRow) (w : Writing) → closed 93 (items_after (items_data mount_data rows) (opened 91 (with_key k w))) ≡ with_some k (Some (array_data mount_data rows)) w
+pub closes_mount_items : (k : List ℕ) (rows : List MountRow) (w : Writing)
+    → closed 93 (items_after (items_data mount_data rows) (opened 91 (with_key k w))) ≡ with_some k (Some (array_data mount_data rows)) w
 unfolding with_option
 closes_mount_items k rows w = closes_array (items_data mount_data rows) (with_key k w)
 
@@ -60,7 +63,9 @@ pub closes_mount : (row : MountRow) (w : Writing) → closed 125 (with_all (moun
 unfolding mount_data
 closes_mount row w = closes (mount_pairs row) w refl
 
-pub closes_provisioned : (id : DataId) (topology : Option (List ℕ × List ℕ)) (w : Writing) → closed 125 (with_texts (with_options with_member_text (topology_pairs topology) (with_options with_member_text (data_id_pairs id) [])) (opened 123 w)) ≡ with_value (object_of (provisioned_pairs id topology)) w
+pub closes_provisioned : (id : DataId) (topology : Option (List ℕ × List ℕ)) (w : Writing)
+    → closed 125 (with_texts (with_options with_member_text (topology_pairs topology) (with_options with_member_text (data_id_pairs id) []))
+    (opened 123 w)) ≡ with_value (object_of (provisioned_pairs id topology)) w
 closes_provisioned id topology w = closes_over (provisioned_pairs id topology) no_members w
 
 pub closes_refusal : (r : Refusal) (w : Writing) → closed 125 (with_texts (with_options with_member_text (refusal_pairs r) []) (opened 123 w)) ≡ with_value (object_of (refusal_pairs r)) w
@@ -73,7 +78,9 @@ unfolding entry_data
 closes_entry e w = closes (entry_pairs e) w refl
 
 pub closes_pool : (p : Pool) (w : Writing)
-    → closed 125 (with_texts (with_options with_member_text (topology_pairs p.topology) (with_option with_member_text (codes "provisioner") (text p.provisioner) (with_option with_member_text (codes "name") (text p.name) (with_option with_member_text (codes "bytes") (whole p.bytes) [])))) (opened 123 w)) ≡ with_value (pool_data p) w
+    → closed 125 (with_texts (with_options with_member_text (topology_pairs p.topology)
+    (with_option with_member_text (codes "provisioner") (text p.provisioner)
+    (with_option with_member_text (codes "name") (text p.name) (with_option with_member_text (codes "bytes") (whole p.bytes) [])))) (opened 123 w)) ≡ with_value (pool_data p) w
 unfolding pool_data
 closes_pool p w = closes_over (pool_pairs p) no_members w
 

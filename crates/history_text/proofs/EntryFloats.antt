@@ -3,7 +3,7 @@ use Rattle.std.proofs.Common.{◌≡◌, ℕ, List, [], ◌∷◌, ◌++◌, fal
 use Rattle.serde_json.specs.Data.{string}
 use Rattle.serde_json.specs.Written.{has_float}
 use Rattle.json_text.specs.Build.{number_data}
-use Rattle.kube_types.specs.declared.key.Key.{Key}
+use Rattle.kube_objects.specs.declared.key.Key.{Key}
 use Rattle.call_types.specs.declared.edit.Edit.{Edit}
 use Rattle.call_types.specs.declared.edit.Edit.TheVariants as edits
 use Rattle.call_types.specs.declared.request.NewStatus.{NewStatus}
@@ -134,4 +134,5 @@ pool_free p = float_object_of (pool_pairs p) (refl, (refl, (refl, topology_free 
 
 pub setup_free : FloatFree setup_data
 unfolding setup_data
-setup_free s = float_within _ _ (float_object_of (setup_pairs s) (float_array number_data s.faults number_free, (float_filled_array object_data s.imports object_free, (float_array pool_data s.pools pool_free, tt))))
+setup_free s = float_within _ _ (float_object_of (setup_pairs s)
+    (float_array number_data s.faults number_free, (float_filled_array object_data s.imports object_free, (float_array pool_data s.pools pool_free, tt))))

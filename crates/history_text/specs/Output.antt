@@ -1,7 +1,7 @@
 -- The text of a history, and what is printed after it.
 -- A choice of this project: the history format. Each line ends in a line feed.
 use Rattle.std.specs.Prelude.{ℕ, List, [], ◌∷◌, ◌++◌, codes, map}
-use Rattle.kube_types.specs.declared.objects.Object.{Object}
+use Rattle.kube_objects.specs.declared.objects.Object.{Object}
 use Rattle.call_types.specs.declared.entry.Entry.{Entry}
 use Rattle.call_types.specs.declared.setup.Setup.{Setup}
 use Rattle.history_text.specs.declared.summary.Summary.{Summary}

@@ -1,5 +1,34 @@
 -- What is found of a key after an edit of the rows.
-use Rattle.std.proofs.Common.{◌≡◌, ◌⊎◌, ℕ, ◌+◌, ◌<◌, List, [], ◌∷◌, ◌++◌, length, take, get_or, arith, Bool, true, false, true≢false, Option, Some, None, inl, inr, refl, sym, ◌∙◌, ap, subst, if◌then◌else◌}
+use Rattle.std.proofs.Common.{
+  ◌≡◌,
+  ◌⊎◌,
+  ℕ,
+  ◌+◌,
+  ◌<◌,
+  List,
+  [],
+  ◌∷◌,
+  ◌++◌,
+  length,
+  take,
+  get_or,
+  arith,
+  Bool,
+  true,
+  false,
+  true≢false,
+  Option,
+  Some,
+  None,
+  inl,
+  inr,
+  refl,
+  sym,
+  ◌∙◌,
+  ap,
+  subst,
+  if◌then◌else◌,
+}
 use Rattle.std.specs.Prelude.{nat_lt, option_map, is_some, bytes_eq}
 use Rattle.std.proofs.lemmas.List.{take_more}
 use Rattle.std.proofs.lemmas.Bool.Decides.{nat_tests}
@@ -12,12 +41,12 @@ use Rattle.std.proofs.lemmas.Slice.Eq.{bytes_eq-Decides}
 use Rattle.plain_data.specs.Pairs.{text_cmp}
 use Rattle.plain_data.specs.Rows.{put, find}
 use Rattle.plain_data.proofs.RowLookups.{find-put, find-put_other}
-use Rattle.kube_types.specs.declared.parts.Kind.{Kind}
-use Rattle.kube_types.specs.declared.key.Key.{Key}
-use Rattle.kube_types.specs.declared.objects.Object.{Object}
-use Rattle.kube_types.specs.Keys.{AreRows, key_cmp, key_of, kind_of, row_at, put_row, without_row, same_key}
-use Rattle.kube_types.proofs.KeyOrder.{key_cmp_total, other_key, row_at-put_row, row_at-put_row_other, row_at-without_row, row_at-without_row_other}
-use Rattle.kube_types.proofs.SameKeys.{KeyCases, One, Two, key_cases, same_key_ordered}
+use Rattle.kube_parts.specs.declared.parts.Kind.{Kind}
+use Rattle.kube_objects.specs.declared.key.Key.{Key}
+use Rattle.kube_objects.specs.declared.objects.Object.{Object}
+use Rattle.kube_objects.specs.Keys.{AreRows, key_cmp, key_of, kind_of, row_at, put_row, without_row, same_key}
+use Rattle.kube_objects.proofs.KeyOrder.{key_cmp_total, other_key, row_at-put_row, row_at-put_row_other, row_at-without_row, row_at-without_row_other}
+use Rattle.kube_objects.proofs.SameKeys.{KeyCases, One, Two, key_cases, same_key_ordered}
 use Rattle.binder_model.specs.Told.{first_some}
 use Rattle.informer_cache.specs.declared.marks.Mark.{Mark}
 use Rattle.informer_cache.specs.declared.lists.Space.{Space}
@@ -69,15 +98,18 @@ module _ {X : Type 0} (key : X → Key) where
   find-last [] x k = ap (λ b. if b then Some x else None) (same_key_ordered (key x) k)
   find-last (y ∷ ys) x k = by (is_eq (key_cmp (key y) k)) (find-last ys x k)
     where
-      by : (b : Bool) → find key_cmp key k (ys ++ x ∷ []) ≡ first_some (find key_cmp key k ys) (if same_key (key x) k then Some x else None) → (if b then Some y else find key_cmp key k (ys ++ x ∷ [])) ≡ first_some (if b then Some y else find key_cmp key k ys) (if same_key (key x) k then Some x else None)
+      by : (b : Bool) → find key_cmp key k (ys ++ x ∷ []) ≡ first_some (find key_cmp key k ys) (if same_key (key x) k then Some x else None)
+          → (if b then Some y else find key_cmp key k (ys ++ x ∷ [])) ≡ first_some (if b then Some y else find key_cmp key k ys) (if same_key (key x) k then Some x else None)
       by true h = refl
       by false h = h
 
-  pub find-take : (xs : List X) (i : ℕ) (x : X) (k : Key) → i < length xs → x ≡ get_or xs i x → find key_cmp key k (take (i + 1) xs) ≡ first_some (find key_cmp key k (take i xs)) (if same_key (key x) k then Some x else None)
+  pub find-take : (xs : List X) (i : ℕ) (x : X) (k : Key) → i < length xs → x ≡ get_or xs i x
+      → find key_cmp key k (take (i + 1) xs) ≡ first_some (find key_cmp key k (take i xs)) (if same_key (key x) k then Some x else None)
   find-take xs i x k lt is = ap (find key_cmp key k) (take_more xs i x lt ∙ ap (λ y. take i xs ++ y ∷ []) (sym is)) ∙ find-last (take i xs) x k
 
   -- what is found then was found before, or is the row at the end
-  pub found-take : (xs : List X) (i : ℕ) (x : X) (k : Key) → i < length xs → x ≡ get_or xs i x → is_some (find key_cmp key k (take (i + 1) xs)) ≡ true → (is_some (find key_cmp key k (take i xs)) ≡ true) ⊎ (key x ≡ k)
+  pub found-take : (xs : List X) (i : ℕ) (x : X) (k : Key) → i < length xs → x ≡ get_or xs i x
+      → is_some (find key_cmp key k (take (i + 1) xs)) ≡ true → (is_some (find key_cmp key k (take i xs)) ≡ true) ⊎ (key x ≡ k)
   found-take xs i x k lt is found = by (find key_cmp key k (take i xs)) (key_cases (key x) k) (ap is_some (sym (find-take xs i x k lt is)) ∙ found)
     where
       by : (f : Option X) → KeyCases (key x) k → is_some (first_some f (if same_key (key x) k then Some x else None)) ≡ true → (is_some f ≡ true) ⊎ (key x ≡ k)
@@ -99,10 +131,15 @@ space_at-put s ss n = by (bytes_eq s.namespace n) refl
     by true e = subst (λ m. space_at m (put_space s ss) ≡ Some s) ((bytes_eq-Decides s.namespace n).0 e) (find-put nat_list_cmp_total space_name s ss)
     by false e = find-put_other nat_list_cmp_total space_name n s ss (other (text_cmp s.namespace n) refl e)
 
-pub raised_space : (ss next : List Space) (name given : List ℕ) (version r : ℕ) → given ≡ name → Some r ≡ greater (Some version) (space_version name ss) → next ≡ put_space (record { namespace = given; version = r }) ss → (n : List ℕ) → space_version n next ≡ (if bytes_eq name n then greater (Some version) (space_version n ss) else space_version n ss)
-raised_space ss next name given version r named is put n = ap (space_version n) put ∙ ap (λ m. space_version n (put_space (record { namespace = m; version = r }) ss)) named ∙ ap (option_map (λ (s : Space). s.version)) (space_at-put (record { namespace = name; version = r }) ss n) ∙ by (bytes_eq name n) refl
+pub raised_space : (ss next : List Space) (name given : List ℕ) (version r : ℕ) → given ≡ name
+    → Some r ≡ greater (Some version) (space_version name ss) → next ≡ put_space (record { namespace = given; version = r }) ss → (n : List ℕ)
+    → space_version n next ≡ (if bytes_eq name n then greater (Some version) (space_version n ss) else space_version n ss)
+raised_space ss next name given version r named is put n = ap (space_version n) put
+    ∙ ap (λ m. space_version n (put_space (record { namespace = m; version = r }) ss)) named
+    ∙ ap (option_map (λ (s : Space). s.version)) (space_at-put (record { namespace = name; version = r }) ss n) ∙ by (bytes_eq name n) refl
   where
-    by : (b : Bool) → bytes_eq name n ≡ b → option_map (λ (s : Space). s.version) (if b then Some (record { namespace = name; version = r }) else space_at n ss) ≡ (if b then greater (Some version) (space_version n ss) else space_version n ss)
+    by : (b : Bool) → bytes_eq name n ≡ b → option_map (λ (s : Space). s.version) (if b then Some (record { namespace = name; version = r }) else
+        space_at n ss) ≡ (if b then greater (Some version) (space_version n ss) else space_version n ss)
     by true e = subst (λ m. Some r ≡ greater (Some version) (space_version m ss)) ((bytes_eq-Decides name n).0 e) is
     by false e = refl
 
@@ -143,7 +180,8 @@ pub greater_inside : (a b c : Option ℕ) → greater a (greater b c) ≡ greate
 greater_inside a b c = greater_assoc a b c ∙ ap (λ x. greater x c) (greater_swap a b) ∙ sym (greater_assoc b a c)
 
 -- an object that stands is the first of its key; another is put in
-pub first_there : (os : List Object) (o x : Object) (key : Key) → key ≡ key_of o → Some x ≡ row_at key os → (k : Key) → row_at k os ≡ first_some (row_at k os) (if same_key (key_of o) k then Some o else None)
+pub first_there : (os : List Object) (o x : Object) (key : Key) → key ≡ key_of o → Some x ≡ row_at key os → (k : Key)
+    → row_at k os ≡ first_some (row_at k os) (if same_key (key_of o) k then Some o else None)
 first_there os o x key own found k = by (row_at k os) (key_cases (key_of o) k) (λ same. subst (λ j. Some x ≡ row_at j os) (own ∙ same) found)
   where
     by : (f : Option Object) → KeyCases (key_of o) k → (key_of o ≡ k → Some x ≡ f) → f ≡ first_some f (if same_key (key_of o) k then Some o else None)
@@ -151,8 +189,10 @@ first_there os o x key own found k = by (row_at k os) (key_cases (key_of o) k) (
     by None (One e same) h = absurd (true≢false (ap is_some (h same)))
     by None (Two e differs) h = rw e refl
 
-pub first_new : (os next : List Object) (o copy : Object) (key : Key) → key ≡ key_of o → copy ≡ o → None ≡ row_at key os → next ≡ put_row copy os → (k : Key) → row_at k next ≡ first_some (row_at k os) (if same_key (key_of o) k then Some o else None)
-first_new os next o copy key own same none put k = ap (row_at k) put ∙ ap (λ x. row_at k (put_row x os)) same ∙ row_at-put o os k ∙ by (row_at k os) (key_cases (key_of o) k) (λ is. subst (λ j. None ≡ row_at j os) (own ∙ is) none)
+pub first_new : (os next : List Object) (o copy : Object) (key : Key) → key ≡ key_of o → copy ≡ o → None ≡ row_at key os → next ≡ put_row copy os
+    → (k : Key) → row_at k next ≡ first_some (row_at k os) (if same_key (key_of o) k then Some o else None)
+first_new os next o copy key own same none put k = ap (row_at k) put ∙ ap (λ x. row_at k (put_row x os)) same ∙ row_at-put o os k
+    ∙ by (row_at k os) (key_cases (key_of o) k) (λ is. subst (λ j. None ≡ row_at j os) (own ∙ is) none)
   where
     by : (f : Option Object) → KeyCases (key_of o) k → (key_of o ≡ k → None ≡ f) → (if same_key (key_of o) k then Some o else f) ≡ first_some f (if same_key (key_of o) k then Some o else None)
     by (Some y) (One e is) h = absurd (true≢false (sym (ap is_some (h is))))

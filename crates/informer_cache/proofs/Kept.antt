@@ -2,11 +2,11 @@
 use Rattle.std.proofs.Common.{◌≡◌, ℕ, List, Bool, true, false, Some, None, true≢false, refl, sym, ◌∙◌, ap, if◌then◌else◌}
 use Rattle.std.specs.Prelude.{option_map, is_some}
 use Rattle.plain_data.proofs.RowFacts.{rising_put, rising_without}
-use Rattle.kube_types.specs.declared.parts.Kind.{Kind}
-use Rattle.kube_types.specs.declared.key.Key.{Key}
-use Rattle.kube_types.specs.declared.objects.Object.{Object}
-use Rattle.kube_types.specs.Keys.{key_of, kind_of, row_at, put_row, without_row, same_key}
-use Rattle.kube_types.proofs.KeyOrder.{key_cmp_total}
+use Rattle.kube_parts.specs.declared.parts.Kind.{Kind}
+use Rattle.kube_objects.specs.declared.key.Key.{Key}
+use Rattle.kube_objects.specs.declared.objects.Object.{Object}
+use Rattle.kube_objects.specs.Keys.{key_of, kind_of, row_at, put_row, without_row, same_key}
+use Rattle.kube_objects.proofs.KeyOrder.{key_cmp_total}
 use Rattle.informer_cache.specs.declared.marks.Mark.{Mark}
 use Rattle.informer_cache.specs.Marks.{mark_key, mark_at, put_mark}
 use Rattle.informer_cache.specs.Knowledge.{AreKept, row_told, told_at}
@@ -55,7 +55,8 @@ module _ (kind : Kind) (m : Mark) (ms : List Mark) (os : List Object) (kept : Ar
       ∙ ap (λ r. option_map (λ (x : Mark). told_at x.version r) (if same_key m.key k then Some m else mark_at k ms)) (put_by o key k)
       ∙ by (same_key m.key k)
     where
-      by : (b : Bool) → option_map (λ (x : Mark). told_at x.version (if b then Some o else row_at k os)) (if b then Some m else mark_at k ms) ≡ (if b then Some (told_at m.version (Some o)) else row_told ms os k)
+      by : (b : Bool) → option_map (λ (x : Mark). told_at x.version (if b then Some o else row_at k os))
+          (if b then Some m else mark_at k ms) ≡ (if b then Some (told_at m.version (Some o)) else row_told ms os k)
       by true = refl
       by false = refl
 
@@ -65,12 +66,14 @@ module _ (kind : Kind) (m : Mark) (ms : List Mark) (os : List Object) (kept : Ar
       ∙ ap (λ r. option_map (λ (x : Mark). told_at x.version r) (if same_key m.key k then Some m else mark_at k ms)) (row_at-without m.key os k kept.ordered)
       ∙ by (same_key m.key k)
     where
-      by : (b : Bool) → option_map (λ (x : Mark). told_at x.version (if b then None else row_at k os)) (if b then Some m else mark_at k ms) ≡ (if b then Some (told_at m.version None) else row_told ms os k)
+      by : (b : Bool) → option_map (λ (x : Mark). told_at x.version (if b then None else row_at k os))
+          (if b then Some m else mark_at k ms) ≡ (if b then Some (told_at m.version None) else row_told ms os k)
       by true = refl
       by false = refl
 
 -- the same, where the key, the version and the object are given
-module _ {kind : Kind} {key : Key} {version : ℕ} {m : Mark} {ms next_ms : List Mark} {os next_os : List Object} (kept : AreKept kind ms os) (key_is : m.key ≡ key) (version_is : m.version ≡ version) (marks : next_ms ≡ put_mark m ms) where
+module _ {kind : Kind} {key : Key} {version : ℕ} {m : Mark} {ms next_ms : List Mark} {os next_os : List Object} (kept : AreKept kind ms os)
+    (key_is : m.key ≡ key) (version_is : m.version ≡ version) (marks : next_ms ≡ put_mark m ms) where
   pub tells_present : (o : Object) → key_of o ≡ key → next_os ≡ put_row o os → (k : Key) → row_told next_ms next_os k ≡ (if same_key key k then Some (told_at version (Some o)) else row_told ms os k)
   tells_present o own objects k = rw (marks, objects, sym key_is, sym version_is) (told_present kind m ms os kept o (key_is ∙ sym own) k)
 

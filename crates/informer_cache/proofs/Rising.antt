@@ -6,9 +6,9 @@ use Rattle.std.specs.Ordering.{is_lt}
 use Rattle.std.specs.Prelude.{None, Some, slice_get}
 use Rattle.std.proofs.lemmas.Bool.{and_parts}
 use Rattle.plain_data.specs.Rows.{IsAfter}
-use Rattle.kube_types.specs.declared.objects.Object.{Object}
-use Rattle.kube_types.specs.Keys.{AreRows, key_cmp, key_of}
-use Rattle.kube_types.proofs.KeyOrder.{key_cmp_total}
+use Rattle.kube_objects.specs.declared.objects.Object.{Object}
+use Rattle.kube_objects.specs.Keys.{AreRows, key_cmp, key_of}
+use Rattle.kube_objects.proofs.KeyOrder.{key_cmp_total}
 
 -- each stands before the next one
 abbrev pub is_rising : List Object → Bool
@@ -42,11 +42,13 @@ none_some : {y : Object} → None ≡ Some y → ⊥
 none_some e = cc
 
 -- one look at a place and the next one
-step : (os : List Object) (i : ℕ) (x y : Object) → slice_get os i ≡ Some x → slice_get os (suc i) ≡ Some y → is_lt (key_cmp (key_of x) (key_of y)) ≡ true → is_rising (drop (suc i) os) ≡ is_rising (drop i os)
+step : (os : List Object) (i : ℕ) (x y : Object) → slice_get os i ≡ Some x → slice_get os (suc i) ≡ Some y
+    → is_lt (key_cmp (key_of x) (key_of y)) ≡ true → is_rising (drop (suc i) os) ≡ is_rising (drop i os)
 step [] i x y at next h = absurd (none_some at)
 step (a ∷ []) zero x y at next h = absurd (none_some next)
 step (a ∷ b ∷ os) zero x y at next h =
-    let first : is_lt (key_cmp (key_of a) (key_of b)) ≡ true = subst (λ u. is_lt (key_cmp (key_of u) (key_of b)) ≡ true) (sym (one a x at)) (subst (λ u. is_lt (key_cmp (key_of x) (key_of u)) ≡ true) (sym (one b y next)) h) in
+    let first : is_lt (key_cmp (key_of a) (key_of b)) ≡ true =
+    subst (λ u. is_lt (key_cmp (key_of u) (key_of b)) ≡ true) (sym (one a x at)) (subst (λ u. is_lt (key_cmp (key_of x) (key_of u)) ≡ true) (sym (one b y next)) h) in
     ap (λ t. t && is_rising (b ∷ os)) (sym first)
 step (a ∷ os) (suc i) x y at next h = step os i x y at next h
 
@@ -58,7 +60,8 @@ ends (a ∷ []) zero le = refl
 ends (a ∷ b ∷ os) zero le = absurd (omega (arith, le))
 ends (a ∷ os) (suc i) le = ends os i (omega (arith, le))
 
-pub rising_step : (os : List Object) (place : ℕ) (x y : Object) → 1 ≤ place → slice_get os (place - 1) ≡ Some x → slice_get os place ≡ Some y → is_lt (key_cmp (key_of x) (key_of y)) ≡ true → is_rising (drop (place + 1 - 1) os) ≡ is_rising (drop (place - 1) os)
+pub rising_step : (os : List Object) (place : ℕ) (x y : Object) → 1 ≤ place → slice_get os (place - 1) ≡ Some x → slice_get os place ≡ Some y
+    → is_lt (key_cmp (key_of x) (key_of y)) ≡ true → is_rising (drop (place + 1 - 1) os) ≡ is_rising (drop (place - 1) os)
 rising_step os place x y first at next h =
     let here : suc (place - 1) ≡ place = omega (arith, first) in
     let there : suc (place - 1) ≡ place + 1 - 1 = omega (arith, first) in

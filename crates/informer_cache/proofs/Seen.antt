@@ -2,16 +2,16 @@
 use Rattle.std.proofs.Common.{◌≡◌, ◌⊎◌, ℕ, List, Bool, true, false, true≢false, Option, Some, None, inl, inr, refl, sym, ◌∙◌, ap, subst, if◌then◌else◌, arith}
 use Rattle.std.specs.Prelude.{nat_lt, option_map, is_some, IfSome, ⊤}
 use Rattle.std.proofs.lemmas.Bool.Decides.{nat_tests}
-use Rattle.kube_types.specs.declared.key.Key.{Key}
-use Rattle.kube_types.specs.declared.objects.Object.{Object}
-use Rattle.kube_types.specs.Keys.{key_of, row_at, same_key}
-use Rattle.kube_types.proofs.KeyOrder.{row_at_key}
+use Rattle.kube_objects.specs.declared.key.Key.{Key}
+use Rattle.kube_objects.specs.declared.objects.Object.{Object}
+use Rattle.kube_objects.specs.Keys.{key_of, row_at, same_key}
+use Rattle.kube_objects.proofs.KeyOrder.{row_at_key}
 use Rattle.binder_model.specs.Told.{Telling, later, first_some, listing}
 use Rattle.informer_cache.specs.declared.marks.Mark.{Mark}
 use Rattle.informer_cache.specs.Marks.{mark_at, greater}
 use Rattle.informer_cache.specs.Knowledge.{RowState, ListState, absence, covers, lacked, row_told, telling_in, tells_key, told_at}
 use Rattle.informer_cache.specs.Steps.Sights.{Sight, Fits, AreRight, GoesOn, lacked_after, is_older, list_tells, seen}
-use Rattle.kube_types.proofs.SameKeys.{KeyCases, One, Two, key_cases}
+use Rattle.kube_objects.proofs.SameKeys.{KeyCases, One, Two, key_cases}
 
 pub later_none : (a : Option Telling) → later a None ≡ a
 later_none None = refl
@@ -28,7 +28,8 @@ later_assoc (Some a) (Some b) None = by (nat_lt a.version b.version)
     by false = refl
 later_assoc (Some a) (Some b) (Some c) = by (nat_lt b.version c.version) (nat_lt a.version b.version) (nat_lt a.version c.version) refl refl refl
   where
-    by : (bc ab ac : Bool) → nat_lt b.version c.version ≡ bc → nat_lt a.version b.version ≡ ab → nat_lt a.version c.version ≡ ac → later (Some a) (if bc then Some c else Some b) ≡ later (if ab then Some b else Some a) (Some c)
+    by : (bc ab ac : Bool) → nat_lt b.version c.version ≡ bc → nat_lt a.version b.version ≡ ab → nat_lt a.version c.version ≡ ac
+        → later (Some a) (if bc then Some c else Some b) ≡ later (if ab then Some b else Some a) (Some c)
     by true true true e f g = rw (e, g) refl
     by true true false e f g = absurd (grind (arith, nat_tests))
     by true false true e f g = refl
@@ -98,7 +99,8 @@ seen_has s key = later_has key _ _ (list_has s.namespace s.version s.items key) 
 pub seen_lacked : (s : Sight) (key : Key) → row_at key s.items ≡ None → mark_at key s.rows.marks ≡ None → absence (lacked_after s.lists s.namespace s.version key) ≡ seen s key
 seen_lacked s key none unmarked = rw (none, unmarked) (by (covers s.namespace key))
   where
-    by : (b : Bool) → absence (if b then greater (Some s.version) (lacked s.lists key) else lacked s.lists key) ≡ later (if b then Some (listing s.version None) else None) (absence (lacked s.lists key))
+    by : (b : Bool) → absence (if b then greater (Some s.version) (lacked s.lists key) else lacked s.lists key) ≡ later
+        (if b then Some (listing s.version None) else None) (absence (lacked s.lists key))
     by true = sym (later_absences (Some s.version) (lacked s.lists key))
     by false = refl
 
@@ -114,14 +116,16 @@ some_later a (Some b) h = by (nat_lt a.version b.version) h
 pub seen_none : (s : Sight) (key : Key) → seen s key ≡ None → absence (lacked_after s.lists s.namespace s.version key) ≡ None
 seen_none s key e = by (covers s.namespace key) (row_told s.rows.marks s.rows.objects key) (lacked s.lists key) e
   where
-    by : (b : Bool) (r : Option Telling) (l : Option ℕ) → later (if b then Some (listing s.version (row_at key s.items)) else None) (first_some r (absence l)) ≡ None → absence (if b then greater (Some s.version) l else l) ≡ None
+    by : (b : Bool) (r : Option Telling) (l : Option ℕ)
+        → later (if b then Some (listing s.version (row_at key s.items)) else None) (first_some r (absence l)) ≡ None → absence (if b then greater (Some s.version) l else l) ≡ None
     by false None None h = refl
     by false None (Some l) h = absurd (true≢false (ap is_some h))
     by false (Some r) l h = absurd (true≢false (ap is_some h))
     by true r l h = absurd (some_later _ (first_some r (absence l)) h)
 
 -- rows into which the key was put with what is known of it
-module _ (s : Sight) (before next : RowState) (key : Key) (t : Telling) (kind : next.kind ≡ before.kind) (is : seen s key ≡ Some t) (told : (k : Key) → row_told next.marks next.objects k ≡ (if same_key key k then Some t else row_told before.marks before.objects k)) where
+module _ (s : Sight) (before next : RowState) (key : Key) (t : Telling) (kind : next.kind ≡ before.kind) (is : seen s key ≡ Some t)
+    (told : (k : Key) → row_told next.marks next.objects k ≡ (if same_key key k then Some t else row_told before.marks before.objects k)) where
   abbrev lists_tell : Key → Option Telling
   lists_tell k = absence (lacked_after s.lists s.namespace s.version k)
 
@@ -158,7 +162,10 @@ pub goes_further : (s : Sight) (first second third : RowState) → GoesOn s firs
 goes_further s first second third a b = ((b.0.0 ∙ a.0.0, b.0.1), λ k fits. b.1 k (a.1 k fits))
 
 -- rows into which the key was put with what it was told, which is not older than what was known
-pub told_put : (lists : ListState) (before next : RowState) (key : Key) (t : Telling) → is_older t.version (option_map (λ (u : Telling). u.version) (telling_in before lists key)) ≡ false → ((k : Key) → row_told next.marks next.objects k ≡ (if same_key key k then Some t else row_told before.marks before.objects k)) → (k : Key) → telling_in next lists k ≡ later (tells_key key t k) (telling_in before lists k)
+pub told_put : (lists : ListState) (before next : RowState) (key : Key) (t : Telling)
+    → is_older t.version (option_map (λ (u : Telling). u.version) (telling_in before lists key)) ≡ false
+    → ((k : Key) → row_told next.marks next.objects k ≡ (if same_key key k then Some t else row_told before.marks before.objects k)) → (k : Key)
+    → telling_in next lists k ≡ later (tells_key key t k) (telling_in before lists k)
 told_put lists before next key t newer told k = by (key_cases key k)
   where
     newest : (known : Option Telling) → is_older t.version (option_map (λ (u : Telling). u.version) known) ≡ false → Some t ≡ later (Some t) known
@@ -169,5 +176,8 @@ told_put lists before next key t newer told k = by (key_cases key k)
     row b e = told k ∙ ap (λ x. if x then Some t else row_told before.marks before.objects k) e
 
     by : KeyCases key k → telling_in next lists k ≡ later (tells_key key t k) (telling_in before lists k)
-    by (One e same) = ap (λ r. first_some r (absence (lacked lists k))) (row true e) ∙ newest (telling_in before lists k) (subst (λ j. is_older t.version (option_map (λ (u : Telling). u.version) (telling_in before lists j)) ≡ false) same newer) ∙ ap (λ x. later (if x then Some t else None) (telling_in before lists k)) (sym e)
+    by (One e same) = ap (λ r. first_some r (absence (lacked lists k))) (row true e)
+        ∙ newest (telling_in before lists k) (subst
+        (λ j. is_older t.version (option_map (λ (u : Telling). u.version) (telling_in before lists j)) ≡ false) same newer)
+        ∙ ap (λ x. later (if x then Some t else None) (telling_in before lists k)) (sym e)
     by (Two e differs) = ap (λ r. first_some r (absence (lacked lists k))) (row false e) ∙ ap (λ x. later (if x then Some t else None) (telling_in before lists k)) (sym e)

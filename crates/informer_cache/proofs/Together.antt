@@ -8,14 +8,14 @@ use Rattle.std.proofs.lemmas.Cmp.{ranked}
 use Rattle.std.proofs.lemmas.Bool.Decides.{nat_tests}
 use Rattle.plain_data.specs.Rows.{IsAfter}
 use Rattle.plain_data.specs.Pairs.{text_cmp}
-use Rattle.kube_types.specs.declared.parts.Kind.{Kind}
-use Rattle.kube_types.specs.declared.parts.Kind.TheVariants as kinds
-use Rattle.kube_types.specs.declared.key.Key.{Key}
-use Rattle.kube_types.specs.declared.objects.Object.{Object}
-use Rattle.kube_types.specs.Keys.{AreRows, key_cmp, key_of, kind_index, kind_of, is_of_kind, row_at, rows_of, same_key}
+use Rattle.kube_parts.specs.declared.parts.Kind.{Kind}
+use Rattle.kube_parts.specs.declared.parts.Kind.TheVariants as kinds
+use Rattle.kube_objects.specs.declared.key.Key.{Key}
+use Rattle.kube_objects.specs.declared.objects.Object.{Object}
+use Rattle.kube_objects.specs.Keys.{AreRows, key_cmp, key_of, kind_index, kind_of, is_of_kind, row_at, rows_of, same_key}
 use Rattle.binder_model.specs.Told.{first_some}
 use Rattle.informer_cache.specs.Knowledge.{AreOfKind}
-use Rattle.kube_types.proofs.SameKeys.{same_key_ordered}
+use Rattle.kube_objects.proofs.SameKeys.{same_key_ordered}
 
 append_nil : (xs : List Object) → xs ++ [] ≡ xs
 append_nil [] = refl
@@ -29,7 +29,8 @@ AreLater n (o ∷ os) = (n < kind_index (kind_of o)) × AreLater n os
 key_less : (a b : Key) → kind_index a.kind < kind_index b.kind → key_cmp a b ≡ Less
 key_less a b lt = by (nat_cmp (kind_index a.kind) (kind_index b.kind)) (text_cmp a.namespace b.namespace) (text_cmp a.name b.name) (ranked (kind_index a.kind) (kind_index b.kind) _ refl)
   where
-    by : (r s t : Ordering) → MatchOrdering r (kind_index a.kind < kind_index b.kind) (kind_index a.kind ≡ kind_index b.kind) (kind_index b.kind < kind_index a.kind) → ordering_then (ordering_then r s) t ≡ Less
+    by : (r s t : Ordering) → MatchOrdering r (kind_index a.kind < kind_index b.kind) (kind_index a.kind ≡ kind_index b.kind) (kind_index b.kind <
+        kind_index a.kind) → ordering_then (ordering_then r s) t ≡ Less
     by Less s t h = refl
     by Equal s t h = absurd (omega arith)
     by Greater s t h = absurd (omega arith)
@@ -58,7 +59,8 @@ rows_append : (kind : Kind) (xs ys : List Object) → rows_of kind (xs ++ ys) �
 rows_append kind [] ys = refl
 rows_append kind (x ∷ xs) ys = by (is_of_kind kind x) (rows_append kind xs ys)
   where
-    by : (b : Bool) → rows_of kind (xs ++ ys) ≡ rows_of kind xs ++ rows_of kind ys → (if b then x ∷ rows_of kind (xs ++ ys) else rows_of kind (xs ++ ys)) ≡ (if b then x ∷ rows_of kind xs else rows_of kind xs) ++ rows_of kind ys
+    by : (b : Bool) → rows_of kind (xs ++ ys) ≡ rows_of kind xs ++ rows_of kind ys
+        → (if b then x ∷ rows_of kind (xs ++ ys) else rows_of kind (xs ++ ys)) ≡ (if b then x ∷ rows_of kind xs else rows_of kind xs) ++ rows_of kind ys
     by true h = ap (λ zs. x ∷ zs) h
     by false h = h
 
@@ -80,7 +82,8 @@ find_append : (key : Key) (xs ys : List Object) → row_at key (xs ++ ys) ≡ fi
 find_append key [] ys = refl
 find_append key (x ∷ xs) ys = by (is_eq (key_cmp (key_of x) key)) (find_append key xs ys)
   where
-    by : (b : Bool) → row_at key (xs ++ ys) ≡ first_some (row_at key xs) (row_at key ys) → (if b then Some x else row_at key (xs ++ ys)) ≡ first_some (if b then Some x else row_at key xs) (row_at key ys)
+    by : (b : Bool) → row_at key (xs ++ ys) ≡ first_some (row_at key xs) (row_at key ys)
+        → (if b then Some x else row_at key (xs ++ ys)) ≡ first_some (if b then Some x else row_at key xs) (row_at key ys)
     by true h = refl
     by false h = h
 
@@ -106,14 +109,20 @@ list_of a b c d e kinds.PersistentVolumeClaim = d
 list_of a b c d e kinds.Pod = e
 
 -- five lists, one for each kind in order
-module _ (a b c d e : List Object) (ra : AreRows a) (rb : AreRows b) (rc : AreRows c) (rd : AreRows d) (re : AreRows e) (ka : AreOfKind kinds.StorageClass a) (kb : AreOfKind kinds.Node b) (kc : AreOfKind kinds.PersistentVolume c) (kd : AreOfKind kinds.PersistentVolumeClaim d) (ke : AreOfKind kinds.Pod e) where
+module _ (a b c d e : List Object) (ra : AreRows a) (rb : AreRows b) (rc : AreRows c) (rd : AreRows d) (re : AreRows e)
+    (ka : AreOfKind kinds.StorageClass a) (kb : AreOfKind kinds.Node b) (kc : AreOfKind kinds.PersistentVolume c) (kd : AreOfKind kinds.PersistentVolumeClaim d) (ke : AreOfKind kinds.Pod e) where
   pub together : AreRows (a ++ (b ++ (c ++ (d ++ e))))
   together =
       let le : AreLater 3 e = later_kind 3 kinds.Pod e ke (omega arith) in
       let ld : AreLater 2 (d ++ e) = later_append 2 d e (later_kind 2 kinds.PersistentVolumeClaim d kd (omega arith)) (later_kind 2 kinds.Pod e ke (omega arith)) in
-      let lc : AreLater 1 (c ++ (d ++ e)) = later_append 1 c (d ++ e) (later_kind 1 kinds.PersistentVolume c kc (omega arith)) (later_append 1 d e (later_kind 1 kinds.PersistentVolumeClaim d kd (omega arith)) (later_kind 1 kinds.Pod e ke (omega arith))) in
-      let lb : AreLater 0 (b ++ (c ++ (d ++ e))) = later_append 0 b (c ++ (d ++ e)) (later_kind 0 kinds.Node b kb (omega arith)) (later_append 0 c (d ++ e) (later_kind 0 kinds.PersistentVolume c kc (omega arith)) (later_append 0 d e (later_kind 0 kinds.PersistentVolumeClaim d kd (omega arith)) (later_kind 0 kinds.Pod e ke (omega arith)))) in
-      rising_append kinds.StorageClass a _ ra ka (rising_append kinds.Node b _ rb kb (rising_append kinds.PersistentVolume c _ rc kc (rising_append kinds.PersistentVolumeClaim d e rd kd re le) ld) lc) lb
+      let lc : AreLater 1 (c ++ (d ++ e)) = later_append 1 c (d ++ e) (later_kind 1 kinds.PersistentVolume c kc (omega arith)) (later_append 1 d e
+      (later_kind 1 kinds.PersistentVolumeClaim d kd (omega arith)) (later_kind 1 kinds.Pod e ke (omega arith))) in
+      let lb : AreLater 0 (b ++ (c ++ (d ++ e))) =
+      later_append 0 b (c ++ (d ++ e)) (later_kind 0 kinds.Node b kb (omega arith))
+      (later_append 0 c (d ++ e) (later_kind 0 kinds.PersistentVolume c kc (omega arith))
+      (later_append 0 d e (later_kind 0 kinds.PersistentVolumeClaim d kd (omega arith)) (later_kind 0 kinds.Pod e ke (omega arith)))) in
+      rising_append kinds.StorageClass a _ ra ka
+      (rising_append kinds.Node b _ rb kb (rising_append kinds.PersistentVolume c _ rc kc (rising_append kinds.PersistentVolumeClaim d e rd kd re le) ld) lc) lb
 
   apart_rows : (kind : Kind) → rows_of kind (a ++ (b ++ (c ++ (d ++ e)))) ≡ rows_of kind a ++ (rows_of kind b ++ (rows_of kind c ++ (rows_of kind d ++ rows_of kind e)))
   apart_rows kind =
@@ -126,19 +135,83 @@ module _ (a b c d e : List Object) (ra : AreRows a) (rb : AreRows b) (rc : AreRo
       ∙ ap (first_some (row_at key a)) (find_append key b (c ++ (d ++ e)) ∙ ap (first_some (row_at key b)) (find_append key c (d ++ e) ∙ ap (first_some (row_at key c)) (find_append key d e)))
 
   pub own_rows : (kind : Kind) → rows_of kind (a ++ (b ++ (c ++ (d ++ e)))) ≡ list_of a b c d e kind
-  own_rows kinds.StorageClass = apart_rows kinds.StorageClass ∙ rw (rows_own kinds.StorageClass a ka, rows_other kinds.Node kinds.StorageClass b kb refl, rows_other kinds.PersistentVolume kinds.StorageClass c kc refl, rows_other kinds.PersistentVolumeClaim kinds.StorageClass d kd refl, rows_other kinds.Pod kinds.StorageClass e ke refl) (append_nil a)
-  own_rows kinds.Node = apart_rows kinds.Node ∙ rw (rows_other kinds.StorageClass kinds.Node a ka refl, rows_own kinds.Node b kb, rows_other kinds.PersistentVolume kinds.Node c kc refl, rows_other kinds.PersistentVolumeClaim kinds.Node d kd refl, rows_other kinds.Pod kinds.Node e ke refl) (append_nil b)
-  own_rows kinds.PersistentVolume = apart_rows kinds.PersistentVolume ∙ rw (rows_other kinds.StorageClass kinds.PersistentVolume a ka refl, rows_other kinds.Node kinds.PersistentVolume b kb refl, rows_own kinds.PersistentVolume c kc, rows_other kinds.PersistentVolumeClaim kinds.PersistentVolume d kd refl, rows_other kinds.Pod kinds.PersistentVolume e ke refl) (append_nil c)
-  own_rows kinds.PersistentVolumeClaim = apart_rows kinds.PersistentVolumeClaim ∙ rw (rows_other kinds.StorageClass kinds.PersistentVolumeClaim a ka refl, rows_other kinds.Node kinds.PersistentVolumeClaim b kb refl, rows_other kinds.PersistentVolume kinds.PersistentVolumeClaim c kc refl, rows_own kinds.PersistentVolumeClaim d kd, rows_other kinds.Pod kinds.PersistentVolumeClaim e ke refl) (append_nil d)
-  own_rows kinds.Pod = apart_rows kinds.Pod ∙ rw (rows_other kinds.StorageClass kinds.Pod a ka refl, rows_other kinds.Node kinds.Pod b kb refl, rows_other kinds.PersistentVolume kinds.Pod c kc refl, rows_other kinds.PersistentVolumeClaim kinds.Pod d kd refl, rows_own kinds.Pod e ke) refl
+  own_rows kinds.StorageClass = apart_rows kinds.StorageClass
+      ∙ rw (
+        rows_own kinds.StorageClass a ka,
+        rows_other kinds.Node kinds.StorageClass b kb refl,
+        rows_other kinds.PersistentVolume kinds.StorageClass c kc refl,
+        rows_other kinds.PersistentVolumeClaim kinds.StorageClass d kd refl,
+        rows_other kinds.Pod kinds.StorageClass e ke refl,
+      ) (append_nil a)
+  own_rows kinds.Node = apart_rows kinds.Node
+      ∙ rw (
+        rows_other kinds.StorageClass kinds.Node a ka refl,
+        rows_own kinds.Node b kb,
+        rows_other kinds.PersistentVolume kinds.Node c kc refl,
+        rows_other kinds.PersistentVolumeClaim kinds.Node d kd refl,
+        rows_other kinds.Pod kinds.Node e ke refl,
+      ) (append_nil b)
+  own_rows kinds.PersistentVolume = apart_rows kinds.PersistentVolume
+      ∙ rw (
+        rows_other kinds.StorageClass kinds.PersistentVolume a ka refl,
+        rows_other kinds.Node kinds.PersistentVolume b kb refl,
+        rows_own kinds.PersistentVolume c kc,
+        rows_other kinds.PersistentVolumeClaim kinds.PersistentVolume d kd refl,
+        rows_other kinds.Pod kinds.PersistentVolume e ke refl,
+      ) (append_nil c)
+  own_rows kinds.PersistentVolumeClaim = apart_rows kinds.PersistentVolumeClaim
+      ∙ rw (
+        rows_other kinds.StorageClass kinds.PersistentVolumeClaim a ka refl,
+        rows_other kinds.Node kinds.PersistentVolumeClaim b kb refl,
+        rows_other kinds.PersistentVolume kinds.PersistentVolumeClaim c kc refl,
+        rows_own kinds.PersistentVolumeClaim d kd,
+        rows_other kinds.Pod kinds.PersistentVolumeClaim e ke refl,
+      ) (append_nil d)
+  own_rows kinds.Pod = apart_rows kinds.Pod
+      ∙ rw (
+        rows_other kinds.StorageClass kinds.Pod a ka refl,
+        rows_other kinds.Node kinds.Pod b kb refl,
+        rows_other kinds.PersistentVolume kinds.Pod c kc refl,
+        rows_other kinds.PersistentVolumeClaim kinds.Pod d kd refl,
+        rows_own kinds.Pod e ke,
+      ) refl
 
   -- where the others have no row of the key
   pub own_row : (key : Key) → row_at key (a ++ (b ++ (c ++ (d ++ e)))) ≡ row_at key (list_of a b c d e key.kind)
   own_row key = apart_row key ∙ by key.kind refl
     where
       by : (k : Kind) → key.kind ≡ k → first_some (row_at key a) (first_some (row_at key b) (first_some (row_at key c) (first_some (row_at key d) (row_at key e)))) ≡ row_at key (list_of a b c d e k)
-      by kinds.StorageClass is = rw (row_other kinds.Node key b kb (rw is refl), row_other kinds.PersistentVolume key c kc (rw is refl), row_other kinds.PersistentVolumeClaim key d kd (rw is refl), row_other kinds.Pod key e ke (rw is refl)) (none_first (row_at key a))
-      by kinds.Node is = rw (row_other kinds.StorageClass key a ka (rw is refl), row_other kinds.PersistentVolume key c kc (rw is refl), row_other kinds.PersistentVolumeClaim key d kd (rw is refl), row_other kinds.Pod key e ke (rw is refl)) (none_first (row_at key b))
-      by kinds.PersistentVolume is = rw (row_other kinds.StorageClass key a ka (rw is refl), row_other kinds.Node key b kb (rw is refl), row_other kinds.PersistentVolumeClaim key d kd (rw is refl), row_other kinds.Pod key e ke (rw is refl)) (none_first (row_at key c))
-      by kinds.PersistentVolumeClaim is = rw (row_other kinds.StorageClass key a ka (rw is refl), row_other kinds.Node key b kb (rw is refl), row_other kinds.PersistentVolume key c kc (rw is refl), row_other kinds.Pod key e ke (rw is refl)) (none_first (row_at key d))
-      by kinds.Pod is = rw (row_other kinds.StorageClass key a ka (rw is refl), row_other kinds.Node key b kb (rw is refl), row_other kinds.PersistentVolume key c kc (rw is refl), row_other kinds.PersistentVolumeClaim key d kd (rw is refl)) refl
+      by kinds.StorageClass is = rw (
+        row_other kinds.Node key b kb (rw is refl),
+        row_other kinds.PersistentVolume key c kc (rw is refl),
+        row_other
+            kinds.PersistentVolumeClaim key d kd (rw is refl),
+        row_other kinds.Pod key e ke (rw is refl),
+      ) (none_first (row_at key a))
+      by kinds.Node is = rw (
+        row_other kinds.StorageClass key a ka (rw is refl),
+        row_other kinds.PersistentVolume key c kc (rw is refl),
+        row_other
+            kinds.PersistentVolumeClaim key d kd (rw is refl),
+        row_other kinds.Pod key e ke (rw is refl),
+      ) (none_first (row_at key b))
+      by kinds.PersistentVolume is = rw (
+        row_other kinds.StorageClass key a ka (rw is refl),
+        row_other kinds.Node key b kb (rw is refl),
+        row_other
+            kinds.PersistentVolumeClaim key d kd (rw is refl),
+        row_other kinds.Pod key e ke (rw is refl),
+      ) (none_first (row_at key c))
+      by kinds.PersistentVolumeClaim is = rw (
+        row_other kinds.StorageClass key a ka (rw is refl),
+        row_other kinds.Node key b kb (rw is refl),
+        row_other kinds.PersistentVolume key c kc (rw is refl),
+        row_other kinds.Pod key e ke (rw is refl),
+      ) (none_first (row_at key d))
+      by kinds.Pod is = rw (
+        row_other kinds.StorageClass key a ka (rw is refl),
+        row_other kinds.Node key b kb (rw is refl),
+        row_other
+            kinds.PersistentVolume key c kc (rw is refl),
+        row_other kinds.PersistentVolumeClaim key d kd (rw is refl),
+      ) refl

@@ -2,10 +2,10 @@
 -- one the versions of the lists are kept. A choice of this project, after the store of an informer in client-go.
 use Rattle.std.specs.Prelude.{ℕ, ◌≡◌, Bool, true, List, [], ◌∷◌, Option, Some, None, option_map, bytes_eq, ⊤, if◌then◌else◌}
 use Rattle.std.specs.Option.{option_copied}
-use Rattle.kube_types.specs.declared.parts.Kind.{Kind}
-use Rattle.kube_types.specs.declared.key.Key.{Key}
-use Rattle.kube_types.specs.declared.objects.Object.{Object}
-use Rattle.kube_types.specs.Keys.{AreRows, kind_of, key_of, row_at, same_key}
+use Rattle.kube_parts.specs.declared.parts.Kind.{Kind}
+use Rattle.kube_objects.specs.declared.key.Key.{Key}
+use Rattle.kube_objects.specs.declared.objects.Object.{Object}
+use Rattle.kube_objects.specs.Keys.{AreRows, kind_of, key_of, row_at, same_key}
 use Rattle.call_types.specs.declared.reply.Event.{Event}
 use Rattle.binder_model.specs.Told.{Telling, first_some, of_event}
 use Rattle.informer_cache.specs.declared.told.Told.{Told}

@@ -2,8 +2,8 @@
 use Rattle.std.specs.Prelude.{ℕ, nat_lt, List, Option, Some, None, option_map, if◌then◌else◌}
 use Rattle.plain_data.specs.Pairs.{text_cmp}
 use Rattle.plain_data.specs.Rows.{IsRising, IsAt, IsGap, put, find}
-use Rattle.kube_types.specs.declared.key.Key.{Key}
-use Rattle.kube_types.specs.Keys.{key_cmp}
+use Rattle.kube_objects.specs.declared.key.Key.{Key}
+use Rattle.kube_objects.specs.Keys.{key_cmp}
 use Rattle.informer_cache.specs.declared.marks.Mark.{Mark}
 use Rattle.informer_cache.specs.declared.lists.Space.{Space}
 

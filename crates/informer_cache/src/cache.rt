@@ -2,9 +2,9 @@
 
 ghost use Rattle.std.specs.Prelude.{◌≡◌, false, List, [], ◌∷◌, IfOk, IfSome, OnOk};
 ghost use Rattle.std.specs.Option.{option_copied};
-ghost use Rattle.kube_types.specs.declared.parts.Kind.{Kind};
-ghost use Rattle.kube_types.specs.Keys.{AreRows};
-ghost use Rattle.kube_types.specs.VolumeIndex.{StandsFor, volumes_in};
+ghost use Rattle.kube_parts.specs.declared.parts.Kind.{Kind};
+ghost use Rattle.kube_objects.specs.Keys.{AreRows};
+ghost use Rattle.volume_index.specs.VolumeIndex.{StandsFor, volumes_in};
 ghost use Rattle.call_types.specs.declared.entry.Entry.{Entry};
 ghost use Rattle.binder_model.specs.Told.{tells_of};
 ghost use Rattle.informer_cache.specs.Cache.{IsDone, IsLeft, IsQuiet, IsTold, Known, Learns, CacheStandsFor, ask_of, keys_in, kind_known, objects_of, tells_done, tells_left};
@@ -21,9 +21,9 @@ use kube_types::items::Items;
 use kube_types::key::{Key, meta_of};
 use kube_types::objects::{Object, Version};
 use kube_types::parts::Kind;
-use kube_types::volume_index::VolumeIndex;
 use std::alloc::Global;
 use std::marker::Model;
+use volume_index::index::VolumeIndex;
 
 /// The read that keeps a cache up to date.
 #[derive(Clone, Copy, Debug, PartialEq, Eq)]

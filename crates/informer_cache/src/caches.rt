@@ -1,10 +1,10 @@
 //! The caches of all kinds.
 
 ghost use Rattle.std.specs.Prelude.{◌≡◌, List, [], ◌∷◌, IfOk, OnOk};
-ghost use Rattle.kube_types.specs.declared.parts.Kind.{Kind};
-ghost use Rattle.kube_types.specs.declared.parts.Kind.TheVariants as kinds;
-ghost use Rattle.kube_types.specs.declared.key.Key.{Key};
-ghost use Rattle.kube_types.specs.Keys.{AreRows, row_at, rows_of};
+ghost use Rattle.kube_parts.specs.declared.parts.Kind.{Kind};
+ghost use Rattle.kube_parts.specs.declared.parts.Kind.TheVariants as kinds;
+ghost use Rattle.kube_objects.specs.declared.key.Key.{Key};
+ghost use Rattle.kube_objects.specs.Keys.{AreRows, row_at, rows_of};
 ghost use Rattle.call_types.specs.declared.entry.Entry.{Entry};
 ghost use Rattle.informer_cache.specs.Cache.{CacheStandsFor, IsDone, IsLeft, IsTold, ask_of, keys_in, kind_known, objects_of};
 ghost use Rattle.informer_cache.specs.Knowledge.{AreOfKind};
@@ -21,9 +21,9 @@ use kube_types::lookup::Lookup;
 use kube_types::objects::{Object, Version};
 use kube_types::parts::Kind;
 use kube_types::table::row;
-use kube_types::volume_index::VolumeIndex;
 use std::alloc::Global;
 use std::marker::Model;
+use volume_index::index::VolumeIndex;
 
 /// A cache of each kind. What is told goes to all of them, and each takes what is of its kind.
 ///

@@ -1,8 +1,8 @@
 //! What an answer tells, taken into what is known.
 
 ghost use Rattle.std.specs.Prelude.{◌≡◌, ℕ, Some, None, IfOk, OnOk, map, option_map, if◌then◌else◌};
-ghost use Rattle.kube_types.specs.declared.key.Key.{Key};
-ghost use Rattle.kube_types.specs.Keys.{key_of, row_at};
+ghost use Rattle.kube_objects.specs.declared.key.Key.{Key};
+ghost use Rattle.kube_objects.specs.Keys.{key_of, row_at};
 ghost use Rattle.call_types.specs.declared.request.Request.TheVariants as requests;
 ghost use Rattle.binder_model.specs.Reading.{Following, follow_on};
 ghost use Rattle.binder_model.specs.Told.{later, listing, lists_key, tells_of};

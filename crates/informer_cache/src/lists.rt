@@ -2,7 +2,7 @@
 
 ghost use Rattle.std.specs.Prelude.{◌≡◌, ℕ, List, [], Some, None, IfOk, IfErr, OnOk, OnErr, length, bytes_eq, if◌then◌else◌};
 ghost use Rattle.std.specs.List.Sorted.{IsSearchInRange};
-ghost use Rattle.kube_types.specs.declared.key.Key.{Key};
+ghost use Rattle.kube_objects.specs.declared.key.Key.{Key};
 ghost use Rattle.informer_cache.specs.Marks.{AreSpaces, IsSpaceAt, IsSpaceGap, greater, put_space, space_version};
 ghost use Rattle.informer_cache.specs.Knowledge.{covers, lacked};
 ghost use Rattle.informer_cache.specs.Steps.Sights.{lacked_after};

@@ -20,7 +20,7 @@ pub struct Mark {
 }
 
 impl Ranked<Key> for Mark {
-    ghost use Rattle.kube_types.specs.Keys.{key_cmp};
+    ghost use Rattle.kube_objects.specs.Keys.{key_cmp};
 
     ghost rank = { λ m k. key_cmp m.key k };
 

@@ -1,10 +1,10 @@
 //! A list that was told, merged into what is known.
 
 ghost use Rattle.std.specs.Prelude.{◌≡◌, Some, None, true, IfOk, IsTrue, OnOk, is_some, option_map, if◌then◌else◌};
-ghost use Rattle.kube_types.specs.declared.key.Key.{Key};
+ghost use Rattle.kube_objects.specs.declared.key.Key.{Key};
 ghost use Rattle.std.specs.Bool.{OnTrue};
 ghost use Rattle.std.specs.Ordering.{is_lt};
-ghost use Rattle.kube_types.specs.Keys.{AreRows, key_cmp, key_of, row_at, same_key};
+ghost use Rattle.kube_objects.specs.Keys.{AreRows, key_cmp, key_of, row_at, same_key};
 ghost use Rattle.binder_model.specs.Told.{first_some, later};
 ghost use Rattle.informer_cache.specs.Marks.{mark_at};
 ghost use Rattle.informer_cache.specs.Steps.Views.{sight_of};

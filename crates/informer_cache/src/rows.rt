@@ -3,25 +3,25 @@
 ghost use Rattle.std.specs.Prelude.{◌≡◌, [], Some, None, IfOk, IfErr, IfSome, OnOk, OnErr, length, option_map, if◌then◌else◌};
 ghost use Rattle.std.specs.List.Sorted.{IsSearchInRange};
 ghost use Rattle.std.specs.Option.{option_copied};
-ghost use Rattle.kube_types.specs.declared.key.Key.{Key};
-ghost use Rattle.kube_types.specs.Keys.{AreRows, IsRowAt, IsRowGap, key_of, put_row, row_at, same_key};
-ghost use Rattle.kube_types.specs.VolumeIndex.{StandsFor, volumes_in};
-ghost use Rattle.kept_index.specs.Keeping.{Keeps};
+ghost use Rattle.kube_objects.specs.declared.key.Key.{Key};
+ghost use Rattle.kube_objects.specs.Keys.{AreRows, IsRowAt, IsRowGap, key_of, put_row, row_at, same_key};
+ghost use Rattle.volume_index.specs.VolumeIndex.{StandsFor, volumes_in};
+ghost use Rattle.volume_index.specs.Keeping.{Keeps};
 ghost use Rattle.informer_cache.specs.Marks.{AreMarks};
 ghost use Rattle.informer_cache.specs.Knowledge.{AreKept, row_told, telling_of, told_at};
 
 use crate::marks::{Mark, comes_last, put_in, version_in};
 use crate::told::Told;
-use kept_index::KeptIndex;
 use kube_types::copies::{OutOfMemory, Plain};
 use kube_types::key::Key;
 use kube_types::objects::{Object, Version};
 use kube_types::parts::Kind;
 use kube_types::table::{row, row_place, take_out};
-use kube_types::volume_index::VolumeIndex;
 use std::alloc::Global;
 use std::marker::Model;
 use std::mem;
+use volume_index::index::VolumeIndex;
+use volume_index::kept::KeptIndex;
 
 /// The objects of one kind in the order of their keys, and of each key that was told of by itself
 /// the version at which that was. A key with a version and no object is absent. Where they are asked to, they keep an index
@@ -49,7 +49,7 @@ impl Drop for Rows {
 
 impl Model for Rows {
     ghost use Rattle.informer_cache.specs.Knowledge.{AreKept, RowState};
-    ghost use Rattle.kept_index.specs.Keeping.{Keeps};
+    ghost use Rattle.volume_index.specs.Keeping.{Keeps};
 
     ghost Value = { RowState };
 

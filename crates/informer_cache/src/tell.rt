@@ -2,8 +2,8 @@
 
 ghost use Rattle.std.specs.Prelude.{◌≡◌, Some, None, IfSome, OnOk, option_map, if◌then◌else◌};
 ghost use Rattle.std.specs.Option.{option_copied};
-ghost use Rattle.kube_types.specs.declared.key.Key.{Key};
-ghost use Rattle.kube_types.specs.Keys.{key_of};
+ghost use Rattle.kube_objects.specs.declared.key.Key.{Key};
+ghost use Rattle.kube_objects.specs.Keys.{key_of};
 ghost use Rattle.binder_model.specs.Told.{later, told_by_events};
 ghost use Rattle.informer_cache.specs.Knowledge.{event_tells, telling_in, telling_of, tells_key, told_at};
 ghost use Rattle.informer_cache.specs.Steps.Sights.{is_older};

@@ -1,5 +1,44 @@
 -- A canonical text that was taken apart from its front is put together from its end.
-use Rattle.std.proofs.Common.{◌≡◌, ℕ, suc, ◌<◌, ◌≤◌, ◌-◌, ◌^◌, List, [], ◌∷◌, ◌++◌, length, take, Bool, true, false, Option, Some, None, MatchOption, IfSome, decimal, ◌==◌, ℤ, pos, negsuc, FitsSigned, w64, refl, sym, ap, ◌∙◌, arith, append_assoc, append-nil, subst, ◌+◌, length-append}
+use Rattle.std.proofs.Common.{
+  ◌≡◌,
+  ℕ,
+  suc,
+  ◌<◌,
+  ◌≤◌,
+  ◌-◌,
+  ◌^◌,
+  List,
+  [],
+  ◌∷◌,
+  ◌++◌,
+  length,
+  take,
+  Bool,
+  true,
+  false,
+  Option,
+  Some,
+  None,
+  MatchOption,
+  IfSome,
+  decimal,
+  ◌==◌,
+  ℤ,
+  pos,
+  negsuc,
+  FitsSigned,
+  w64,
+  refl,
+  sym,
+  ap,
+  ◌∙◌,
+  arith,
+  append_assoc,
+  append-nil,
+  subst,
+  ◌+◌,
+  length-append,
+}
 use Rattle.std.specs.Fmt.{signed_decimal}
 use Rattle.std.proofs.Math.Seq.{take-append_seam}
 use Rattle.std.proofs.lemmas.List.{nil_from_length}
@@ -110,7 +149,8 @@ members_more n later last name own rest mid text v h = record {
   members = member name v.value h.members;
   good = record { canonical = (v.good.canonical, (h.rises refl), h.good.canonical); shallow = omega (arith, v.good.shallow, h.good.shallow) };
   rises = λ some. (v.rises some, before_less last name h.members (v.rises some) (h.rises refl));
-  parts = v.parts ∙ ap (λ s. comma_if later ++ (quoted name ++ 58 ∷ s)) (ap (λ s. s ++ mid) v.is_own ∙ ap (λ s. compact_text v.value ++ s) h.parts) ∙ regroup_member (comma_if later) (quoted name) (compact_text v.value) (members_text true h.members) rest;
+  parts = v.parts ∙ ap (λ s. comma_if later ++ (quoted name ++ 58 ∷ s)) (ap (λ s. s ++ mid) v.is_own ∙ ap (λ s. compact_text v.value ++ s) h.parts)
+      ∙ regroup_member (comma_if later) (quoted name) (compact_text v.value) (members_text true h.members) rest;
 }
 
 -- ---- members as names and texts
@@ -119,7 +159,8 @@ pub rows_end : (n : ℕ) (later : Bool) (last rest text : List ℕ) → text ≡
 unfolding members_end
 rows_end n later last rest text e = record { taken = members_end n later last rest text e; are_rows = refl }
 
-pub rows_more : (n : ℕ) (later : Bool) (last name own rest mid text : List ℕ) (rows : List Pair) → MemberThen n later last name own mid text → RowsThen n true name rows rest mid → RowsThen n later last ((name, own) ∷ rows) rest text
+pub rows_more : (n : ℕ) (later : Bool) (last name own rest mid text : List ℕ) (rows : List Pair) → MemberThen n later last name own mid text
+    → RowsThen n true name rows rest mid → RowsThen n later last ((name, own) ∷ rows) rest text
 unfolding members_more
 rows_more n later last name own rest mid text rows v h = record {
   taken = members_more n later last name own rest mid text v h.taken;

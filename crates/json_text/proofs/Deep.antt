@@ -34,7 +34,8 @@ and_more : {B : Type 0} (h : Json → B → B) (less more : Parse B) → AgreesA
     → Agrees (option_and_then (λ q. parse_map (h q.0) (less q.1)) o) (option_and_then (λ q. parse_map (h q.0) (more q.1)) r)
 and_more h less more again None r x = tt
 and_more {B = B} h less more again (Some q) r x =
-    subst (λ (z : Option (Json × List Token)). Agrees {X = B × List Token} (parse_map (h q.0) (less q.1)) (option_and_then (λ p. parse_map (h p.0) (more p.1)) z)) (sym x) (mapped (h q.0) (less q.1) (more q.1) (again q.1))
+    subst (λ (z : Option (Json × List Token)). Agrees {X = B × List Token} (parse_map (h q.0) (less q.1))
+    (option_and_then (λ p. parse_map (h p.0) (more p.1)) z)) (sym x) (mapped (h q.0) (less q.1) (more q.1) (again q.1))
 
 module _ (p q : Parse Json) (same : AgreesAt p q) where
   item_turn : (less more : Parse Items) → AgreesAt less more → (ts : List Token) (o : Option (List Token)) → Agrees (items_step p less ts o) (items_step q more ts o)
@@ -46,7 +47,8 @@ module _ (p q : Parse Json) (same : AgreesAt p q) where
   items_agree zero ts = tt
   items_agree (suc n) ts = item_turn (items p n) (items q n) (items_agree n) ts (after_end_array ts)
 
-  member_turn : (less more : Parse Members) → AgreesAt less more → (o : Option (Option (List ℕ) × List Token)) → Agrees (option_and_then (λ r. members_step p less r.0 r.1) o) (option_and_then (λ r. members_step q more r.0 r.1) o)
+  member_turn : (less more : Parse Members) → AgreesAt less more → (o : Option (Option (List ℕ) × List Token))
+      → Agrees (option_and_then (λ r. members_step p less r.0 r.1) o) (option_and_then (λ r. members_step q more r.0 r.1) o)
   member_turn less more again None = tt
   member_turn less more again (Some (None, s)) = refl
   member_turn less more again (Some (Some k, s)) = and_more (member k) less more again (p s) (q s) (same s)
@@ -56,7 +58,8 @@ module _ (p q : Parse Json) (same : AgreesAt p q) where
   members_agree zero ts = tt
   members_agree (suc n) ts = member_turn (members p n) (members q n) (members_agree n) (read_key ts)
 
-one_level : (a b : Parse Items) (o r : Parse Members) → ((ts : List Token) → Agrees (parse_map array (a ts)) (parse_map array (b ts))) → ((ts : List Token) → Agrees (parse_map object (o ts)) (parse_map object (r ts))) → AgreesAt (value_with a o) (value_with b r)
+one_level : (a b : Parse Items) (o r : Parse Members) → ((ts : List Token) → Agrees (parse_map array (a ts)) (parse_map array (b ts)))
+    → ((ts : List Token) → Agrees (parse_map object (o ts)) (parse_map object (r ts))) → AgreesAt (value_with a o) (value_with b r)
 one_level a b o r f g [] = tt
 one_level a b o r f g (Token.begin_object ∷ ts) = g ts
 one_level a b o r f g (Token.end_object ∷ ts) = tt
@@ -90,7 +93,8 @@ tree_shallow : (d : ℕ) (j : Json) (p : Json × List Token) → value d (tree.j
 tree_shallow d j p is =
     let deep : ℕ = max d (tree.depth j) in
     let all : value deep (tree.json_tokens j) ≡ Some (j, []) = ap (value deep) (sym (append-nil (tree.json_tokens j))) ∙ value-json_tokens j deep [] (omega arith) in
-    let more : value deep (tree.json_tokens j) ≡ Some p = subst (λ (o : Option (Json × List Token)). Agrees o (value deep (tree.json_tokens j))) is (values_agree d deep (omega arith) (tree.json_tokens j)) in
+    let more : value deep (tree.json_tokens j) ≡ Some p =
+    subst (λ (o : Option (Json × List Token)). Agrees o (value deep (tree.json_tokens j))) is (values_agree d deep (omega arith) (tree.json_tokens j)) in
     let same : p ≡ (j, []) = one_some p (j, []) (value deep (tree.json_tokens j)) more all in
     value-depth d (tree.json_tokens j) [] j (is ∙ ap Some same)
 

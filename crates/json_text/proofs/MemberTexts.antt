@@ -21,7 +21,8 @@ put_texts k d no_members = refl
 put_texts k d (member l e ms) = placed (slice_cmp nat_cmp k l) refl (put_texts k d ms)
   where
     placed : (o : Ordering) → slice_cmp nat_cmp k l ≡ o → with_member_text k d (member_texts ms) ≡ member_texts (put k d ms)
-        → match_ordering (slice_cmp nat_cmp l k) ((l, compact_text e) ∷ with_member_text k d (member_texts ms)) ((k, compact_text d) ∷ member_texts ms) ((k, compact_text d) ∷ (l, compact_text e) ∷ member_texts ms)
+        → match_ordering (slice_cmp nat_cmp l k) ((l, compact_text e) ∷ with_member_text k d (member_texts ms))
+        ((k, compact_text d) ∷ member_texts ms) ((k, compact_text d) ∷ (l, compact_text e) ∷ member_texts ms)
         ≡ member_texts (match_ordering o (member k d (member l e ms)) (member l d ms) (member l e (put k d ms)))
     placed Less is rest = rw (nat_list_cmp_total.antisymm l k, is) refl
     placed Equal is rest = rw (nat_list_cmp_total.antisymm l k, is) (ap (λ j. (j, compact_text d) ∷ member_texts ms) (equal_is k l is))
@@ -65,5 +66,6 @@ unfolding with_option
 filled_texts k no_members w = refl
 filled_texts k (member l d ms) w = closes_texts (member l d ms) (with_key k w)
 
-pub closes_filled : (ps : MemberList) (ms : Members) (k : List ℕ) (w : Writing) → with_filled_texts k (with_options with_member_text ps (member_texts ms)) w ≡ with_some k (filled_object (put_all ps ms)) w
+pub closes_filled : (ps : MemberList) (ms : Members) (k : List ℕ) (w : Writing)
+    → with_filled_texts k (with_options with_member_text ps (member_texts ms)) w ≡ with_some k (filled_object (put_all ps ms)) w
 closes_filled ps ms k w = ap (λ rows. with_filled_texts k rows w) (put_all_texts ps ms) ∙ filled_texts k (put_all ps ms) w

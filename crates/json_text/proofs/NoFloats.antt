@@ -12,7 +12,24 @@ use Rattle.serde_json.specs.Written.{has_float, items_have_float, members_have_f
 use Rattle.json_text.specs.Build.{put_some, put_all}
 use Rattle.json_text.specs.Trees.{members_in}
 use Rattle.plain_data.specs.Pairs.{Pair}
-use Rattle.json_text.specs.Members.{MemberList, text, filled, counted, object_of, items_data, array_data, filled_array, put_pairs, pairs_data, filled_pairs, filled_object, within, members_unless, extra_from, extra_members}
+use Rattle.json_text.specs.Members.{
+  MemberList,
+  text,
+  filled,
+  counted,
+  object_of,
+  items_data,
+  array_data,
+  filled_array,
+  put_pairs,
+  pairs_data,
+  filled_pairs,
+  filled_object,
+  within,
+  members_unless,
+  extra_from,
+  extra_members,
+}
 
 -- no float in the member, if there is one
 abbrev pub NoFloat : Option Data → Type 0
@@ -35,7 +52,8 @@ float_put k d (member l e ms) hd hm =
     let parts = or_parts (has_float e) (members_have_float ms) hm in
     placed (slice_cmp nat_cmp k l) parts.0 parts.1 (float_put k d ms hd parts.1)
   where
-    placed : (o : Ordering) → has_float e ≡ false → members_have_float ms ≡ false → members_have_float (put k d ms) ≡ false → members_have_float (match_ordering o (member k d (member l e ms)) (member l d ms) (member l e (put k d ms))) ≡ false
+    placed : (o : Ordering) → has_float e ≡ false → members_have_float ms ≡ false → members_have_float (put k d ms) ≡ false
+        → members_have_float (match_ordering o (member k d (member l e ms)) (member l d ms) (member l e (put k d ms))) ≡ false
     placed Less he hr rest = both_false hd hm
     placed Equal he hr rest = both_false hd hr
     placed Greater he hr rest = both_false he rest

@@ -1,5 +1,32 @@
 -- The members of a map whose names are not known, written as they come, are those that are put one after another.
-use Rattle.std.proofs.Common.{◌≡◌, ℕ, suc, ◌≤◌, List, [], ◌∷◌, ◌++◌, length, drop, String, Global, string_bytes, string_cmp, Less, Bool, true, false, ◌==◌, if◌then◌else◌, refl, sym, ap, ◌∙◌, arith, length-append}
+use Rattle.std.proofs.Common.{
+  ◌≡◌,
+  ℕ,
+  suc,
+  ◌≤◌,
+  List,
+  [],
+  ◌∷◌,
+  ◌++◌,
+  length,
+  drop,
+  String,
+  Global,
+  string_bytes,
+  string_cmp,
+  Less,
+  Bool,
+  true,
+  false,
+  ◌==◌,
+  if◌then◌else◌,
+  refl,
+  sym,
+  ap,
+  ◌∙◌,
+  arith,
+  length-append,
+}
 use Rattle.std.proofs.Math.ListN.{drop_of_length-le}
 use Rattle.std.proofs.lemmas.Bool.{eqb-true}
 use Rattle.std.specs.Bool.{⊤}
@@ -73,7 +100,8 @@ others_rising known es h = sym (others_unknown known (members_view es) (names_ri
 
 -- ---- items that were written, closed
 
-pub items_closed : (vs : List Value) (i : ℕ) (now before : Writing) → length vs ≤ i → items_after (items_view (drop i vs)) now ≡ items_after (items_view vs) (opened 91 before) → closed 93 now ≡ with_value (array (items_view vs)) before
+pub items_closed : (vs : List Value) (i : ℕ) (now before : Writing) → length vs ≤ i
+    → items_after (items_view (drop i vs)) now ≡ items_after (items_view vs) (opened 91 before) → closed 93 now ≡ with_value (array (items_view vs)) before
 items_closed vs i now before le e =
     let none : drop i vs ≡ [] = drop_of_length-le vs le in
     ap (closed 93) (sym (ap (λ (us : List Value). items_after (items_view us) now) none) ∙ e) ∙ closes_array (items_view vs) before

@@ -1,5 +1,35 @@
 -- What is read is canonical, where it holds no float; and so are its members that are not known.
-use Rattle.std.proofs.Common.{◌≡◌, ℕ, zero, suc, ◌^◌, ◌<◌, ◌≤◌, ◌&&◌, ◌==◌, List, drop, slice_index, Bool, true, false, true≢false, if◌then◌else◌, nat_lt, nat_le, Option, Some, None, option_map, option_and_then, refl, ap, ◌∙◌, subst, arith}
+use Rattle.std.proofs.Common.{
+  ◌≡◌,
+  ℕ,
+  zero,
+  suc,
+  ◌^◌,
+  ◌<◌,
+  ◌≤◌,
+  ◌&&◌,
+  ◌==◌,
+  List,
+  drop,
+  slice_index,
+  Bool,
+  true,
+  false,
+  true≢false,
+  if◌then◌else◌,
+  nat_lt,
+  nat_le,
+  Option,
+  Some,
+  None,
+  option_map,
+  option_and_then,
+  refl,
+  ap,
+  ◌∙◌,
+  subst,
+  arith,
+}
 use Rattle.std.specs.Bool.{⊤}
 use Rattle.std.specs.declared.cmp.Ordering.{Ordering}
 use Rattle.std.specs.declared.cmp.Ordering.TheVariants.{Less, Equal, Greater}

@@ -3,16 +3,16 @@ use Rattle.std.proofs.Common.{ℕ, ◌≡◌, ◌<◌, ◌+◌, Bool, true, fals
 use Rattle.std.specs.Cmp.{IsTotalOrder}
 use Rattle.std.proofs.lemmas.Cmp.{nat_list_cmp_total, on_total, then_total, back_total}
 use Rattle.std.proofs.lemmas.Option.{slice_get_within}
-use Rattle.kube_types.specs.declared.parts.Kind.TheVariants as kinds
-use Rattle.kube_types.specs.declared.objects.Class.{Class as ClassData}
-use Rattle.kube_types.specs.declared.objects.Object.{Object}
-use Rattle.kube_types.specs.declared.objects.Object.TheVariants.{Class, Node, Volume, Claim, Pod}
-use Rattle.kube_types.specs.Keys.{AreRows, key_of, rows_of}
+use Rattle.kube_parts.specs.declared.parts.Kind.TheVariants as kinds
+use Rattle.kube_objects.specs.declared.objects.Class.{Class as ClassData}
+use Rattle.kube_objects.specs.declared.objects.Object.{Object}
+use Rattle.kube_objects.specs.declared.objects.Object.TheVariants.{Class, Node, Volume, Claim, Pod}
+use Rattle.kube_objects.specs.Keys.{AreRows, key_of, rows_of}
 use Rattle.kube_types.specs.Defaults.{IsDefaultPlace, StandsIn, class_cmp, is_default}
 use Rattle.kube_types.specs.Steps.Scan.{IsDefaultBelow, IsMarkedAt, as_class, class_at, class_is_before, comes_first}
-use Rattle.kube_types.proofs.KeyOrder.{key_cmp_total}
-use Rattle.kube_types.proofs.RowPlaces.{place_of_row, row_at_place}
-use Rattle.kube_types.proofs.Scans as scans
+use Rattle.kube_objects.proofs.KeyOrder.{key_cmp_total}
+use Rattle.kube_objects.proofs.RowPlaces.{place_of_row, row_at_place}
+use Rattle.volume_index.proofs.Scans as scans
 
 pub class_cmp_total : IsTotalOrder class_cmp
 class_cmp_total = then_total (on_total (λ (x : ClassData). x.meta.created) (back_total nat_list_cmp_total)) (on_total (λ (x : ClassData). key_of (Class x)) key_cmp_total)

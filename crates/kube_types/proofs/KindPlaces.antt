@@ -5,11 +5,11 @@ use Rattle.std.specs.List.{filter}
 use Rattle.std.specs.List.Sorted.{IsNonDecreasingBy}
 use Rattle.std.proofs.lemmas.Bool.Decides.{nat_tests}
 use Rattle.std.proofs.lemmas.Option.{get_or_from_slice_get, slice_get_past, slice_get_within}
-use Rattle.kube_types.specs.declared.parts.Kind.{Kind}
-use Rattle.kube_types.specs.declared.objects.Object.{Object}
-use Rattle.kube_types.specs.Keys.{AreRows, IsKindStart, key_cmp, key_of, kind_index, kind_of, rows_of, same_kind}
-use Rattle.kube_types.proofs.KeyOrder.{kinds_up}
-use Rattle.kube_types.proofs.KindRows.{IsStart, levels_rise, tail_at, tail_of}
+use Rattle.kube_parts.specs.declared.parts.Kind.{Kind}
+use Rattle.kube_objects.specs.declared.objects.Object.{Object}
+use Rattle.kube_objects.specs.Keys.{AreRows, IsKindStart, key_cmp, key_of, kind_index, kind_of, rows_of, same_kind}
+use Rattle.kube_objects.proofs.KeyOrder.{kinds_up}
+use Rattle.kube_objects.proofs.KindRows.{IsStart, levels_rise, tail_at, tail_of}
 
 module _ {X : Type 0} (level : X → ℕ) (k : ℕ) where
   abbrev pub of_level : List X → List X

@@ -7,12 +7,12 @@ use Rattle.std.specs.declared.cmp.Ordering.{Ordering}
 use Rattle.std.specs.declared.cmp.Ordering.TheVariants.{Greater}
 use Rattle.std.specs.Ordering.{ordering_then}
 use Rattle.plain_data.specs.Pairs.{text_cmp, value_at}
-use Rattle.kube_types.specs.declared.parts.Kind.TheVariants as kinds
-use Rattle.kube_types.specs.declared.objects.Class.{Class as ClassData}
-use Rattle.kube_types.specs.declared.objects.Object.{Object}
-use Rattle.kube_types.specs.declared.objects.Object.TheVariants.{Class}
-use Rattle.kube_types.specs.Keys.{key_cmp, key_of, row_at, rows_of}
-use Rattle.kube_types.specs.Bindings.{is_default_class}
+use Rattle.kube_parts.specs.declared.parts.Kind.TheVariants as kinds
+use Rattle.kube_objects.specs.declared.objects.Class.{Class as ClassData}
+use Rattle.kube_objects.specs.declared.objects.Object.{Object}
+use Rattle.kube_objects.specs.declared.objects.Object.TheVariants.{Class}
+use Rattle.kube_objects.specs.Keys.{key_cmp, key_of, row_at, rows_of}
+use Rattle.kube_objects.specs.Bindings.{is_default_class}
 
 -- there is a value, and it is the text `true`
 abbrev pub is_true_text : Option (List ℕ) → Bool

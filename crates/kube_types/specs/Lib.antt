@@ -1,13 +1,3 @@
-pub mod Bindings
 pub mod Defaults
-pub mod IndexPlaces
-pub mod Keys
 pub mod Lookups
-pub mod Named
-pub mod Sources
 pub mod Steps
-pub mod Uids
-pub mod VolumeIndex
-pub mod VolumeOrders
-pub mod VolumePlaces
-pub mod Words

@@ -1,3 +1,1 @@
-pub mod IndexEdits
 pub mod Scan
-pub mod VolumePlaces

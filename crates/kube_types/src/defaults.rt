@@ -2,15 +2,15 @@
 
 ghost use Rattle.std.specs.Prelude.{◌≡◌, ◌+◌, slice_get};
 ghost use Rattle.std.specs.Option.{option_copied};
-ghost use Rattle.kube_types.specs.declared.parts.Kind.TheVariants as kinds;
+ghost use Rattle.kube_parts.specs.declared.parts.Kind.TheVariants as kinds;
 ghost use Rattle.kube_types.specs.Defaults.{IsDefaultPlace, class_cmp, is_default};
-ghost use Rattle.kube_types.specs.Keys.{rows_of};
+ghost use Rattle.kube_objects.specs.Keys.{rows_of};
 ghost use Rattle.kube_types.specs.Steps.Scan.{IsDefaultBelow, class_at, comes_first};
 
-use crate::bindings::IS_DEFAULT_CLASS;
 use crate::lookup::Lookup;
-use crate::objects::{Class, Object};
-use crate::parts::Kind;
+use kube_objects::bindings::IS_DEFAULT_CLASS;
+use kube_objects::objects::{Class, Object};
+use kube_parts::parts::Kind;
 use std::cmp::Ordering;
 
 /// Whether the class is marked as a default one.

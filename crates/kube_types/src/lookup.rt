@@ -2,18 +2,18 @@
 
 ghost use Rattle.std.specs.Prelude.{◌≡◌, List, length, slice_get, IfSome};
 ghost use Rattle.std.specs.Option.{option_copied};
-ghost use Rattle.kube_types.specs.Keys.{AreRows, row_at, rows_of};
+ghost use Rattle.kube_objects.specs.Keys.{AreRows, row_at, rows_of};
 ghost use Rattle.kube_types.specs.Lookups.{is_asked, is_present};
-ghost use Rattle.kube_types.specs.VolumeIndex.{StandsFor, volumes_in};
-ghost use Rattle.kube_types.specs.VolumePlaces.{IsNth, has_size, is_of_claim};
-ghost use Rattle.kube_types.specs.declared.objects.Object.{Object};
+ghost use Rattle.volume_index.specs.VolumeIndex.{StandsFor, volumes_in};
+ghost use Rattle.volume_index.specs.VolumePlaces.{IsNth, has_size, is_of_claim};
+ghost use Rattle.kube_objects.specs.declared.objects.Object.{Object};
 
-use crate::key::Key;
-use crate::objects::Object;
-use crate::parts::Kind;
-use crate::text::Text;
-use crate::volume_index::VolumeIndex;
-use crate::volume_places::{nth_by_size, nth_for};
+use kube_objects::key::Key;
+use kube_objects::objects::Object;
+use kube_parts::parts::Kind;
+use plain_data::text::Text;
+use volume_index::index::VolumeIndex;
+use volume_index::places::{nth_by_size, nth_for};
 
 /// Objects that can be looked up. `rows` are all of them, in the order of their keys.
 pub trait Lookup {

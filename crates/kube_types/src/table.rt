@@ -3,18 +3,18 @@
 ghost use Rattle.std.specs.Prelude.{◌≡◌, ◌≤◌, ◌+◌, [], IfOk, IfErr, IfNone, OnOk, OnErr, length, slice_get};
 ghost use Rattle.std.specs.Option.{option_copied};
 ghost use Rattle.std.specs.List.Sorted.{IsSearchInRange};
-ghost use Rattle.kube_types.specs.Keys.{AreRows, IsRowAt, IsRowGap, key_of, kind_index, row_at, put_row, without_row, rows_of, IsKindStart};
+ghost use Rattle.kube_objects.specs.Keys.{AreRows, IsRowAt, IsRowGap, key_of, kind_index, row_at, put_row, without_row, rows_of, IsKindStart};
 
-use crate::key::{Key, key_of, kind_index, kind_of, same_kind};
 use crate::lookup::Lookup;
-use crate::objects::Object;
-use crate::parts::Kind;
-use crate::volume_index::VolumeIndex;
+use kube_objects::key::{Key, key_of, kind_index, kind_of, same_kind};
+use kube_objects::objects::Object;
+use kube_parts::parts::Kind;
 use plain_data::copies::OutOfMemory;
 use plain_data::rows::{Ranked, place_of, put_at};
 use std::alloc::Global;
 use std::cmp::Ordering;
 use std::marker::Model;
+use volume_index::index::VolumeIndex;
 
 /// Where the row of the key is, or where it would stand.
 pub fn row_place(rows: &[Object], key: &Key) -> Result<usize, usize>
@@ -78,7 +78,7 @@ struct KindsFrom {
 impl Ranked<KindsFrom> for Object {
     ghost use Rattle.std.specs.Prelude.{nat_lt, if◌then◌else◌};
     ghost use Rattle.std.specs.declared.cmp.Ordering.TheVariants.{Less, Greater};
-    ghost use Rattle.kube_types.specs.Keys.{kind_index, kind_of};
+    ghost use Rattle.kube_objects.specs.Keys.{kind_index, kind_of};
 
     ghost rank = { λ o k. if nat_lt (kind_index (kind_of o)) k.index then Less else Greater };
 
@@ -160,8 +160,8 @@ pub struct Table {
 
 impl Model for Table {
     ghost use Rattle.std.specs.Prelude.{List};
-    ghost use Rattle.kube_types.specs.declared.objects.Object.{Object};
-    ghost use Rattle.kube_types.specs.Keys.{AreRows};
+    ghost use Rattle.kube_objects.specs.declared.objects.Object.{Object};
+    ghost use Rattle.kube_objects.specs.Keys.{AreRows};
 
     ghost Value = { List Object };
 

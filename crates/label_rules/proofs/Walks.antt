@@ -46,7 +46,8 @@ ended labels wanted (w ∷ ws) i le a = let some : (length (w ∷ ws) == 0) ≡ 
     rest_none : false ≡ list_all (has_pair (drop i labels)) (w ∷ ws)
     rest_none = rw (drop_all i labels le) refl
 
-module _ (labels wanted left : List Pair) (i : ℕ) (x w : Pair) (some_label : i < length labels) (x_is : x ≡ get_or labels i x) (some_pair : 1 ≤ length left) (w_is : w ≡ get_or left 0 w) (a : AreLeft labels wanted (drop i labels) left) where
+module _ (labels wanted left : List Pair) (i : ℕ) (x w : Pair) (some_label : i < length labels) (x_is : x ≡ get_or labels i x)
+    (some_pair : 1 ≤ length left) (w_is : w ≡ get_or left 0 w) (a : AreLeft labels wanted (drop i labels) left) where
   pair_first : left ≡ w ∷ drop 1 left
   pair_first = front left w some_pair w_is
 

@@ -1,9 +1,9 @@
 -- The pods because of which a node agent reads a claim.
 use Rattle.std.proofs.Common.{◌≡◌, ◌↔◌, IsTrue, Bool, true, List, subst}
 use Rattle.std.specs.Prelude.{is_some}
-use Rattle.kube_types.specs.declared.key.Key.{Key}
-use Rattle.kube_types.specs.declared.objects.Object.{Object}
-use Rattle.kube_types.specs.declared.objects.Object.TheVariants.{Class, Node, Volume, Claim, Pod}
+use Rattle.kube_objects.specs.declared.key.Key.{Key}
+use Rattle.kube_objects.specs.declared.objects.Object.{Object}
+use Rattle.kube_objects.specs.declared.objects.Object.TheVariants.{Class, Node, Volume, Claim, Pod}
 use Rattle.call_types.specs.declared.entry.Entry.{Entry}
 use Rattle.binder_model.specs.AgentLicence.{last_epoch}
 use Rattle.binder_model.specs.Reading.{NamesClaim}
@@ -23,7 +23,8 @@ taken_alike mine (Node p) x same taken = absurd same
 taken_alike mine (Volume p) x same taken = absurd same
 taken_alike mine (Claim p) x same taken = absurd same
 
-pub names_claim : (mine : List Entry) (key : Key) (b : Bool) → (IsTrue b ↔ ToldObject (λ o. IsPodWith (IsNaming key) o × IsPodWith (IsOnTaken mine) o) mine) → (IsTrue b ↔ ToldPod (NamesClaim mine key) mine)
+pub names_claim : (mine : List Entry) (key : Key) (b : Bool)
+    → (IsTrue b ↔ ToldObject (λ o. IsPodWith (IsNaming key) o × IsPodWith (IsOnTaken mine) o) mine) → (IsTrue b ↔ ToldPod (NamesClaim mine key) mine)
 names_claim mine key b is = (
   (λ t. told_map {P = λ o. IsPodWith (IsNaming key) o × IsPodWith (IsOnTaken mine) o} {Q = IsPodWith (NamesClaim mine key)} there mine (is.0 t)),
   (λ h. is.1 (told_map {P = IsPodWith (NamesClaim mine key)} {Q = λ o. IsPodWith (IsNaming key) o × IsPodWith (IsOnTaken mine) o} back mine h)),

@@ -1,7 +1,7 @@
 //! Which claims and volumes a node agent may read.
 
 ghost use Rattle.std.specs.Prelude.{◌≡◌, ◌↔◌, IsTrue, reverse, true};
-ghost use Rattle.kube_types.specs.declared.objects.Object.TheVariants as objects;
+ghost use Rattle.kube_objects.specs.declared.objects.Object.TheVariants as objects;
 ghost use Rattle.binder_model.specs.Told.{IsPodWith, ToldPod};
 ghost use Rattle.licence_agent.specs.Naming.{AreOnOneNode, IsNaming, IsOnTaken};
 ghost use Rattle.binder_model.specs.Reading.{AsksForMount, FoundNaming, NamesClaim};

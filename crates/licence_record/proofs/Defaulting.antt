@@ -1,11 +1,11 @@
 -- The default class of what was told, found in the list.
 use Rattle.std.proofs.Common.{◌≡◌, ◌↔◌, IsTrue, ℕ, Bool, true, false, not, List, refl, sym, ap, subst, true≢false}
-use Rattle.kube_types.specs.declared.key.Key.{Key}
-use Rattle.kube_types.specs.declared.objects.Class.{Class as ClassData}
-use Rattle.kube_types.specs.declared.objects.Object.{Object}
-use Rattle.kube_types.specs.declared.objects.Object.TheVariants.{Class, Node, Volume, Claim, Pod}
+use Rattle.kube_objects.specs.declared.key.Key.{Key}
+use Rattle.kube_objects.specs.declared.objects.Class.{Class as ClassData}
+use Rattle.kube_objects.specs.declared.objects.Object.{Object}
+use Rattle.kube_objects.specs.declared.objects.Object.TheVariants.{Class, Node, Volume, Claim, Pod}
 use Rattle.kube_types.specs.Defaults.{is_default}
-use Rattle.kube_types.specs.Keys.{key_of}
+use Rattle.kube_objects.specs.Keys.{key_of}
 use Rattle.call_types.specs.declared.entry.Entry.{Entry}
 use Rattle.binder_model.specs.BinderLicence.{IsToldClass}
 use Rattle.binder_model.specs.ObjectKeys.{class_key}
@@ -22,7 +22,8 @@ SomeBefore mine class = SomeNewest (λ o. IsClassWith IsMarked o × IsClassWith 
 before_told : (mine : List Entry) (class : ClassData) → SomeBefore mine class → (other : ClassData) × (IsToldClass mine other × ((is_default other ≡ true) × IsBefore class other))
 before_told mine class s = by s.0 s.1.0 s.1.1.0 s.1.1.1
   where
-    by : (o : Object) → IsNewest mine (key_of o) o → IsClassWith IsMarked o → IsClassWith (IsBefore class) o → (other : ClassData) × (IsToldClass mine other × ((is_default other ≡ true) × IsBefore class other))
+    by : (o : Object) → IsNewest mine (key_of o) o → IsClassWith IsMarked o → IsClassWith (IsBefore class) o → (other : ClassData)
+        × (IsToldClass mine other × ((is_default other ≡ true) × IsBefore class other))
     by (Class x) new marked before = (x, (subst (λ n. IsNewest mine (record (class_key x.meta.name) { namespace = n }) (Class x)) marked.0 new, (marked.1, before)))
     by (Node x) new marked before = absurd marked
     by (Volume x) new marked before = absurd marked
@@ -49,7 +50,8 @@ first_is mine class false marked is = (
 own_name : (mine : List Entry) (name : List ℕ) (class : ClassData) → IsNewest mine (class_key name) (Class class) → class.meta.name ≡ name
 own_name mine name class new = ap (λ (k : Key). k.name) (newest_keyed mine (class_key name) (Class class) new)
 
-pub named_row : (mine : List Entry) (name : List ℕ) (class : ClassData) (b : Bool) → IsNewest mine (class_key name) (Class class) → (IsTrue b ↔ IsFirstMarked mine class) → (IsTrue b ↔ IsDefaultNamed mine name)
+pub named_row : (mine : List Entry) (name : List ℕ) (class : ClassData) (b : Bool) → IsNewest mine (class_key name) (Class class)
+    → (IsTrue b ↔ IsFirstMarked mine class) → (IsTrue b ↔ IsDefaultNamed mine name)
 named_row mine name class b new is = ((λ t. there (is.0 t)), (λ d. is.1 (back d)))
   where
     there : IsFirstMarked mine class → IsDefaultNamed mine name

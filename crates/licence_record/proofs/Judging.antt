@@ -1,7 +1,7 @@
 -- Answers that say yes for sure, and no only where all is known.
 use Rattle.std.proofs.Common.{◌≡◌, ◌↔◌, IsTrue, Bool, true, false, List, refl, sym, ◌∙◌, subst, true≢false}
-use Rattle.kube_types.specs.declared.key.Key.{Key}
-use Rattle.kube_types.specs.declared.objects.Object.{Object}
+use Rattle.kube_objects.specs.declared.key.Key.{Key}
+use Rattle.kube_objects.specs.declared.objects.Object.{Object}
 use Rattle.call_types.specs.declared.entry.Entry.{Entry}
 use Rattle.binder_model.specs.Told.{IsNewest}
 use Rattle.licence_rows.specs.Asking.{IsNewestWith}
@@ -26,7 +26,8 @@ pub paged : (w : Type 0) (P : List Entry → Type 0) (small mine : List Entry) (
 paged w P small mine b grows all j = ((λ t. grows (j.0 t)), (λ x p. j.1 x (subst P (sym (all x)) p)))
 
 -- the newest is one object
-pub newest_with : (P Q : Object → Type 0) (mine : List Entry) (key : Key) (o : Object) → IsNewest mine key o → (c : Bool) → (IsTrue c ↔ (P o × Q o)) → (IsTrue c ↔ IsNewestWith (λ x. P x × Q x) mine key)
+pub newest_with : (P Q : Object → Type 0) (mine : List Entry) (key : Key) (o : Object) → IsNewest mine key o → (c : Bool) → (IsTrue c ↔ (P o × Q o))
+    → (IsTrue c ↔ IsNewestWith (λ x. P x × Q x) mine key)
 newest_with P Q mine key o new c is = (
   (λ t. (o, (new, is.0 t))),
   (λ s. is.1 (subst (λ x. P x × Q x) (one s.0 o (sym s.1.0 ∙ new)) s.1.1)),

@@ -1,13 +1,13 @@
 //! The newest told of each kind, by its name, and whether some newest told object meets a condition.
 
 ghost use Rattle.std.specs.Prelude.{◌≡◌, IfNone, IfSome, IsTrue, reverse};
-ghost use Rattle.kube_types.specs.declared.objects.Claim.{Claim as ClaimData};
-ghost use Rattle.kube_types.specs.declared.objects.Class.{Class as ClassData};
-ghost use Rattle.kube_types.specs.declared.objects.Node.{Node as NodeData};
-ghost use Rattle.kube_types.specs.declared.objects.Pod.{Pod as PodData};
-ghost use Rattle.kube_types.specs.declared.objects.Volume.{Volume as VolumeData};
-ghost use Rattle.kube_types.specs.declared.objects.Object.TheVariants as objects;
-ghost use Rattle.kube_types.specs.Keys.{key_of};
+ghost use Rattle.kube_objects.specs.declared.objects.Claim.{Claim as ClaimData};
+ghost use Rattle.kube_objects.specs.declared.objects.Class.{Class as ClassData};
+ghost use Rattle.kube_objects.specs.declared.objects.Node.{Node as NodeData};
+ghost use Rattle.kube_objects.specs.declared.objects.Pod.{Pod as PodData};
+ghost use Rattle.kube_objects.specs.declared.objects.Volume.{Volume as VolumeData};
+ghost use Rattle.kube_objects.specs.declared.objects.Object.TheVariants as objects;
+ghost use Rattle.kube_objects.specs.Keys.{key_of};
 ghost use Rattle.binder_model.specs.ObjectKeys.{claim_key, class_key, node_key, volume_key};
 ghost use Rattle.binder_model.specs.Told.{IsNewest};
 ghost use Rattle.licence_rows.specs.Asking.{IsNewestWith, SomeNewest};

@@ -1,7 +1,7 @@
 //! The look-ups of what one seat was told.
 
 ghost use Rattle.std.specs.Prelude.{◌≡◌, List, None, Some, IfNone, IfSome, IsTrue, reverse};
-ghost use Rattle.kube_types.specs.declared.objects.Object.{Object};
+ghost use Rattle.kube_objects.specs.declared.objects.Object.{Object};
 ghost use Rattle.call_types.specs.declared.entry.Entry.{Entry};
 ghost use Rattle.binder_model.specs.AgentLicence.{MayFinish, MayMount, MayReadMounts, MayUnmount};
 ghost use Rattle.binder_model.specs.Licence.{AreOfKind};

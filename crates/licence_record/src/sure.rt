@@ -1,9 +1,9 @@
 //! Conditions that are asked of a record, which may know too little to say no, and told objects that meet one.
 
 ghost use Rattle.std.specs.Prelude.{◌≡◌, ◌↔◌, IsTrue, reverse};
-ghost use Rattle.kube_types.specs.declared.objects.Claim.{Claim as ClaimData};
-ghost use Rattle.kube_types.specs.declared.objects.Object.{Object};
-ghost use Rattle.kube_types.specs.Keys.{meta_of};
+ghost use Rattle.kube_objects.specs.declared.objects.Claim.{Claim as ClaimData};
+ghost use Rattle.kube_objects.specs.declared.objects.Object.{Object};
+ghost use Rattle.kube_objects.specs.Keys.{meta_of};
 ghost use Rattle.binder_model.specs.At.{IsWrittenAt};
 ghost use Rattle.binder_model.specs.Told.{IsClaimWith, SomeOf, TellsObject, ToldClaim, ToldObject, objects_in, objects_of_event, objects_of_events};
 ghost use Rattle.licence_scans.specs.Found.{IsFirstAlike};

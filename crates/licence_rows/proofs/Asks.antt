@@ -1,13 +1,13 @@
 -- The newest told object of some key is found among what was told; the reads of single objects go by it.
 use Rattle.std.proofs.Common.{◌≡◌, ℕ, ◌↔◌, IsTrue, Bool, List, [], ◌∷◌, Option, true, sym, ◌∙◌, ap, subst, inl, inr}
-use Rattle.kube_types.specs.declared.parts.Kind.{Kind}
-use Rattle.kube_types.specs.declared.key.Key.{Key}
-use Rattle.kube_types.specs.declared.objects.Claim.{Claim as ClaimData}
-use Rattle.kube_types.specs.declared.objects.Volume.{Volume as VolumeData}
-use Rattle.kube_types.specs.declared.objects.Object.{Object}
-use Rattle.kube_types.specs.declared.objects.Object.TheVariants.{Class, Node, Volume, Claim, Pod}
-use Rattle.kube_types.specs.Bindings.{is_completed}
-use Rattle.kube_types.specs.Keys.{key_of}
+use Rattle.kube_parts.specs.declared.parts.Kind.{Kind}
+use Rattle.kube_objects.specs.declared.key.Key.{Key}
+use Rattle.kube_objects.specs.declared.objects.Claim.{Claim as ClaimData}
+use Rattle.kube_objects.specs.declared.objects.Volume.{Volume as VolumeData}
+use Rattle.kube_objects.specs.declared.objects.Object.{Object}
+use Rattle.kube_objects.specs.declared.objects.Object.TheVariants.{Class, Node, Volume, Claim, Pod}
+use Rattle.kube_objects.specs.Bindings.{is_completed}
+use Rattle.kube_objects.specs.Keys.{key_of}
 use Rattle.call_types.specs.declared.entry.Entry.{Entry}
 use Rattle.binder_model.specs.ObjectKeys.{claim_key, volume_key}
 use Rattle.binder_model.specs.Reading.{AsksForClaim, AsksForVolume, LacksUid}
@@ -52,10 +52,12 @@ pub claim_told : (P : ClaimData → Type 0) (mine : List Entry) → ToldClaim P 
 claim_told P mine h = let o = told_gives (IsClaimWith P) mine h in claim_of P o.0 o.1
 
 -- the newest told of a key is itself told, and stands under it
-pub newest_some : (P Q : Object → Type 0) (mine : List Entry) (told : Bool) → (IsTrue told ↔ ToldObject (λ o. P o × IsNewestWith (λ x. P x × Q x) mine (key_of o)) mine) → (IsTrue told ↔ SomeNewest (λ o. P o × Q o) mine)
+pub newest_some : (P Q : Object → Type 0) (mine : List Entry) (told : Bool)
+    → (IsTrue told ↔ ToldObject (λ o. P o × IsNewestWith (λ x. P x × Q x) mine (key_of o)) mine) → (IsTrue told ↔ SomeNewest (λ o. P o × Q o) mine)
 newest_some P Q mine told is = (
   (λ t. let o = told_gives (λ o. P o × IsNewestWith (λ x. P x × Q x) mine (key_of o)) mine (is.0 t) in there o.0 o.1),
-  (λ s. is.1 (told_map {P = λ o. o ≡ s.0} {Q = λ o. P o × IsNewestWith (λ x. P x × Q x) mine (key_of o)} (λ o e. subst (λ x. P x × IsNewestWith (λ y. P y × Q y) mine (key_of x)) (sym e) (s.1.1.0, (s.0, s.1))) mine (newest_told mine (key_of s.0) s.0 s.1.0))),
+  (λ s. is.1 (told_map {P = λ o. o ≡ s.0} {Q = λ o. P o × IsNewestWith (λ x. P x × Q x) mine (key_of o)}
+      (λ o e. subst (λ x. P x × IsNewestWith (λ y. P y × Q y) mine (key_of x)) (sym e) (s.1.1.0, (s.0, s.1))) mine (newest_told mine (key_of s.0) s.0 s.1.0))),
 )
   where
     there : (o : Object) → P o × IsNewestWith (λ x. P x × Q x) mine (key_of o) → SomeNewest (λ x. P x × Q x) mine
@@ -65,7 +67,8 @@ newest_some P Q mine told is = (
         (x, (subst (λ k. IsNewest mine k x) (sym keyed) p.1.1.0, p.1.1.1))
 
 -- a claim that is newest, of which both hold
-pub newest_claim : (P Q : ClaimData → Type 0) (mine : List Entry) → SomeNewest (λ o. IsClaimWith P o × IsClaimWith Q o) mine → (c : ClaimData) × (IsNewest mine (claim_key c.meta.namespace c.meta.name) (Claim c) × (P c × Q c))
+pub newest_claim : (P Q : ClaimData → Type 0) (mine : List Entry) → SomeNewest (λ o. IsClaimWith P o × IsClaimWith Q o) mine → (c : ClaimData)
+    × (IsNewest mine (claim_key c.meta.namespace c.meta.name) (Claim c) × (P c × Q c))
 newest_claim P Q mine s = by s.0 s.1.0 s.1.1
   where
     by : (o : Object) → IsNewest mine (key_of o) o → IsClaimWith P o × IsClaimWith Q o → (c : ClaimData) × (IsNewest mine (claim_key c.meta.namespace c.meta.name) (Claim c) × (P c × Q c))
@@ -75,7 +78,8 @@ newest_claim P Q mine s = by s.0 s.1.0 s.1.1
     by (Volume x) new p = absurd p.0
     by (Pod x) new p = absurd p.0
 
-pub claim_newest : (P Q : ClaimData → Type 0) (mine : List Entry) (c : ClaimData) → IsNewest mine (claim_key c.meta.namespace c.meta.name) (Claim c) → P c → Q c → SomeNewest (λ o. IsClaimWith P o × IsClaimWith Q o) mine
+pub claim_newest : (P Q : ClaimData → Type 0) (mine : List Entry) (c : ClaimData) → IsNewest mine (claim_key c.meta.namespace c.meta.name) (Claim c)
+    → P c → Q c → SomeNewest (λ o. IsClaimWith P o × IsClaimWith Q o) mine
 claim_newest P Q mine c new p q = (Claim c, (new, (p, q)))
 
 -- the binder's reads
@@ -107,7 +111,8 @@ module _ (mine : List Entry) (key : Key) (found : Option Object) (is : found ≡
   pub asks_claim : (told : Bool) → (IsTrue told ↔ SomeNewest (λ o. IsVolumeWith (IsNamingClaim key) o × IsVolumeWith (IsLacking found) o) mine) → (IsTrue told ↔ AsksForClaim mine key)
   asks_claim told asks = ((λ t. let s = asks.0 t in asking s.0 s.1.0 s.1.1.0 s.1.1.1), (λ a. asks.1 (asked a)))
 
-pub asks_volume : (mine : List Entry) (key : Key) (told : Bool) → (IsTrue told ↔ SomeNewest (λ o. IsClaimWith (λ c. key ≡ volume_key c.volume_name) o × IsClaimWith (λ c. is_completed c ≡ true) o) mine) → (IsTrue told ↔ AsksForVolume mine key)
+pub asks_volume : (mine : List Entry) (key : Key) (told : Bool)
+    → (IsTrue told ↔ SomeNewest (λ o. IsClaimWith (λ c. key ≡ volume_key c.volume_name) o × IsClaimWith (λ c. is_completed c ≡ true) o) mine) → (IsTrue told ↔ AsksForVolume mine key)
 asks_volume mine key told is = (
   (λ t. let s = newest_claim (λ c. key ≡ volume_key c.volume_name) (λ c. is_completed c ≡ true) mine (is.0 t) in record { claim = s.0; newest_claim = s.1.0; completed = s.1.1.1; named = s.1.1.0 }),
   (λ a. is.1 (claim_newest (λ c. key ≡ volume_key c.volume_name) (λ c. is_completed c ≡ true) mine a.claim a.newest_claim a.named a.completed)),

@@ -1,11 +1,11 @@
 -- What was told newest of a key stands under it.
 use Rattle.std.proofs.Common.{refl, ◌∙◌, subst}
 use Rattle.std.specs.Prelude.{ℕ, ◌≡◌, Bool, true, false, List, [], ◌∷◌, Option, Some, None, nat_lt, if◌then◌else◌}
-use Rattle.kube_types.specs.declared.key.Key.{Key}
-use Rattle.kube_types.specs.declared.objects.Object.{Object}
-use Rattle.kube_types.specs.Keys.{key_of, meta_of, row_at, same_key}
-use Rattle.kube_types.proofs.KeyOrder.{row_at_key}
-use Rattle.kube_types.proofs.SameKeys.{same_key-Decides}
+use Rattle.kube_objects.specs.declared.key.Key.{Key}
+use Rattle.kube_objects.specs.declared.objects.Object.{Object}
+use Rattle.kube_objects.specs.Keys.{key_of, meta_of, row_at, same_key}
+use Rattle.kube_objects.proofs.KeyOrder.{row_at_key}
+use Rattle.kube_objects.proofs.SameKeys.{same_key-Decides}
 use Rattle.call_types.specs.declared.entry.Entry.{Entry}
 use Rattle.call_types.specs.declared.request.Request.{Request}
 use Rattle.call_types.specs.declared.reply.Change.{Change}

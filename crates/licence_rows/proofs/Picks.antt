@@ -4,16 +4,16 @@ use Rattle.std.specs.Prelude.{is_some}
 use Rattle.std.proofs.lemmas.Cmp.{nat_list_cmp_total}
 use Rattle.plain_data.specs.Pairs.{Pair, pair_key, put_pair, value_at}
 use Rattle.plain_data.proofs.RowLookups.{find-put}
-use Rattle.kube_types.specs.declared.uid.Uid.{Uid}
-use Rattle.kube_types.specs.declared.key.Key.{Key}
-use Rattle.kube_types.specs.declared.objects.Meta.{Meta}
-use Rattle.kube_types.specs.declared.objects.Claim.{Claim as ClaimData}
-use Rattle.kube_types.specs.declared.objects.Class.{Class as ClassData}
-use Rattle.kube_types.specs.declared.objects.Node.{Node as NodeData}
-use Rattle.kube_types.specs.declared.objects.Pod.{Pod as PodData}
-use Rattle.kube_types.specs.declared.objects.Object.{Object}
-use Rattle.kube_types.specs.declared.objects.Object.TheVariants.{Class, Node, Claim, Pod}
-use Rattle.kube_types.specs.Bindings.{selected_node}
+use Rattle.kube_parts.specs.declared.uid.Uid.{Uid}
+use Rattle.kube_objects.specs.declared.key.Key.{Key}
+use Rattle.kube_objects.specs.declared.objects.Meta.{Meta}
+use Rattle.kube_objects.specs.declared.objects.Claim.{Claim as ClaimData}
+use Rattle.kube_objects.specs.declared.objects.Class.{Class as ClassData}
+use Rattle.kube_objects.specs.declared.objects.Node.{Node as NodeData}
+use Rattle.kube_objects.specs.declared.objects.Pod.{Pod as PodData}
+use Rattle.kube_objects.specs.declared.objects.Object.{Object}
+use Rattle.kube_objects.specs.declared.objects.Object.TheVariants.{Class, Node, Claim, Pod}
+use Rattle.kube_objects.specs.Bindings.{selected_node}
 use Rattle.call_types.specs.declared.entry.Entry.{Entry}
 use Rattle.binder_model.specs.ObjectKeys.{node_key}
 use Rattle.binder_model.specs.SchedulerLicence.{MayAssign, MaySelectNode}
@@ -41,7 +41,8 @@ some_name a b e = ap (λ o. name_or a o) e
     name_or a (Some b) = b
     name_or a None = a
 
-pub select_row : (mine : List Entry) (o new : ClaimData) (name : List ℕ) (b : Bool) → value_at selected_node new.meta.annotations ≡ Some name → (IsTrue b ↔ SelectsNode mine o new name) → (IsTrue b ↔ MaySelectNode mine o new)
+pub select_row : (mine : List Entry) (o new : ClaimData) (name : List ℕ) (b : Bool) → value_at selected_node new.meta.annotations ≡ Some name
+    → (IsTrue b ↔ SelectsNode mine o new name) → (IsTrue b ↔ MaySelectNode mine o new)
 select_row mine o new name b found is = ((λ t. there (is.0 t)), (λ row. is.1 (back row)))
   where
     there : SelectsNode mine o new name → MaySelectNode mine o new

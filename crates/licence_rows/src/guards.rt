@@ -2,7 +2,7 @@
 
 ghost use Rattle.std.specs.Prelude.{◌≡◌, ◌↔◌, IsTrue, Some, reverse};
 ghost use Rattle.binder_model.specs.GuardLicence.{IsDeletingVersion, IsPodList, MayGuard, MayUnguardClaim, MayUnguardVolume, TellsUnused};
-ghost use Rattle.kube_types.specs.declared.parts.Kind.TheVariants as kinds;
+ghost use Rattle.kube_parts.specs.declared.parts.Kind.TheVariants as kinds;
 ghost use Rattle.call_types.specs.declared.request.Request.TheVariants as requests;
 ghost use Rattle.binder_model.specs.Told.{After, ToldClaim};
 ghost use Rattle.binder_model.specs.Licence.{GuardsClaim, GuardsVolume};

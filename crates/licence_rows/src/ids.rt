@@ -1,8 +1,8 @@
 //! Names of data, compared without memory.
 
 ghost use Rattle.std.specs.Prelude.{◌≡◌, ◌↔◌, ◌∷◌, ◌++◌, IsTrue, codes, drop};
-ghost use Rattle.kube_types.specs.Sources.{data_id_of, driver_by, handle_by};
-ghost use Rattle.kube_types.specs.Uids.{uid_text};
+ghost use Rattle.kube_objects.specs.Sources.{data_id_of, driver_by, handle_by};
+ghost use Rattle.kube_parts.specs.Uids.{uid_text};
 ghost use Rattle.binder_model.specs.Provisioning.{data_name};
 
 use kube_types::objects::{DataId, Source};
@@ -49,7 +49,7 @@ fn goes_on(text: &[u8], place: usize, mark: u8, back: &[u8]) -> bool
 }
 
 /// Whether the text is the name of the data of the claim with this UID.
-#[tactic(auto, unfolding(kube_types::specs::Uids::uid_text))]
+#[tactic(auto, unfolding(kube_parts::specs::Uids::uid_text))]
 pub fn is_data_name(text: &Text, uid: Uid) -> bool
     ensures { IsTrue result ↔ (text.now ≡ data_name uid) }
 {

@@ -1,11 +1,11 @@
 //! The newest told class or pod of a name, in the list; whether a newest told object meets a condition.
 
 ghost use Rattle.std.specs.Prelude.{◌≡◌, ◌↔◌, IfNone, IfSome, IsTrue, reverse};
-ghost use Rattle.kube_types.specs.declared.objects.Class.{Class as ClassData};
-ghost use Rattle.kube_types.specs.declared.objects.Pod.{Pod as PodData};
-ghost use Rattle.kube_types.specs.declared.objects.Object.TheVariants as objects;
+ghost use Rattle.kube_objects.specs.declared.objects.Class.{Class as ClassData};
+ghost use Rattle.kube_objects.specs.declared.objects.Pod.{Pod as PodData};
+ghost use Rattle.kube_objects.specs.declared.objects.Object.TheVariants as objects;
 ghost use Rattle.binder_model.specs.ObjectKeys.{class_key, pod_key};
-ghost use Rattle.kube_types.specs.Keys.{key_of};
+ghost use Rattle.kube_objects.specs.Keys.{key_of};
 ghost use Rattle.binder_model.specs.Told.{IsNewest};
 ghost use Rattle.licence_rows.specs.Asking.{IsNewestWith, SomeNewest};
 

@@ -1,7 +1,7 @@
 //! Words that several rows share.
 
 ghost use Rattle.std.specs.Prelude.{◌≡◌, ◌↔◌, IsTrue};
-ghost use Rattle.kube_types.specs.Bindings.{is_bound, is_delete, ref_uid};
+ghost use Rattle.kube_objects.specs.Bindings.{is_bound, is_delete, ref_uid};
 ghost use Rattle.binder_model.specs.At.{IsElsewhere, IsSameObject};
 ghost use Rattle.binder_model.specs.BinderDue.{is_reclaimed};
 

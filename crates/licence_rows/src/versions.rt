@@ -1,9 +1,9 @@
 //! A told volume or claim of a version.
 
 ghost use Rattle.std.specs.Prelude.{◌≡◌, MatchOption, Some, reverse};
-ghost use Rattle.kube_types.specs.declared.objects.Claim.{Claim as ClaimData};
-ghost use Rattle.kube_types.specs.declared.objects.Object.TheVariants as objects;
-ghost use Rattle.kube_types.specs.declared.objects.Volume.{Volume as VolumeData};
+ghost use Rattle.kube_objects.specs.declared.objects.Claim.{Claim as ClaimData};
+ghost use Rattle.kube_objects.specs.declared.objects.Object.TheVariants as objects;
+ghost use Rattle.kube_objects.specs.declared.objects.Volume.{Volume as VolumeData};
 ghost use Rattle.binder_model.specs.Told.{ToldClaim, ToldVolume};
 
 use call_types::entry::Entry;

@@ -6,7 +6,8 @@ use Rattle.call_types.specs.declared.request.SeatKind.{SeatKind}
 use Rattle.call_types.specs.declared.request.SeatKind.TheVariants as seats
 use Rattle.binder_model.specs.Licence.{AreOfKind, Licensed, RowAllows}
 
-pub licensed_row : (kind : SeatKind) (mine : List Entry) (request : Request) (b : Bool) → (kind ≡ seats.User → ⊥) → (IsTrue b ↔ (AreOfKind kind mine × RowAllows kind mine request)) → (IsTrue b ↔ Licensed kind mine request)
+pub licensed_row : (kind : SeatKind) (mine : List Entry) (request : Request) (b : Bool) → (kind ≡ seats.User → ⊥)
+    → (IsTrue b ↔ (AreOfKind kind mine × RowAllows kind mine request)) → (IsTrue b ↔ Licensed kind mine request)
 licensed_row seats.User mine request b controller is = absurd (controller refl)
 licensed_row seats.Binder mine request b controller is = is
 licensed_row seats.Ops mine request b controller is = is

@@ -1,7 +1,7 @@
 //! Which single objects the binder and ops may read, by what they were told newest.
 
 ghost use Rattle.std.specs.Prelude.{◌≡◌, IsTrue, reverse, true, ⊤};
-ghost use Rattle.kube_types.specs.Bindings.{is_completed};
+ghost use Rattle.kube_objects.specs.Bindings.{is_completed};
 ghost use Rattle.binder_model.specs.Reading.{AsksForClaim, AsksForEnded, AsksForVolume};
 ghost use Rattle.binder_model.specs.Told.{IsVolumeWith, newest, object_of};
 ghost use Rattle.evidence_pages.specs.Parts.{IsPart};

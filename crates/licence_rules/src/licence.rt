@@ -1,7 +1,7 @@
 //! Whether a controller may make a request, and which rule refuses it else.
 
 ghost use Rattle.std.specs.Prelude.{◌≡◌, ◌↔◌, IsTrue, MatchResult, reverse, if◌then◌else◌};
-ghost use Rattle.kube_types.specs.declared.names.LicenceRule.TheVariants as rules;
+ghost use Rattle.kube_parts.specs.declared.names.LicenceRule.TheVariants as rules;
 ghost use Rattle.call_types.specs.declared.request.SeatKind.TheVariants as seats;
 ghost use Rattle.binder_model.specs.Licence.{AreOfKind, IsRefusedBy, Licensed, RowAllows, binder_claim_phase, binder_phase, claim_phase_rule, delete_rule, is_kind, ops_phase, phase_rule, read_rule, row_rule};
 ghost use Rattle.licence_record.specs.Judged.{Judges};

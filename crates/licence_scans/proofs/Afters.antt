@@ -1,6 +1,6 @@
 -- What was told before the last entry of a kind.
 use Rattle.std.proofs.Common.{◌≡◌, ℕ, ◌+◌, List, [], ◌∷◌, ◌++◌, ◌↔◌, IsTrue, Bool, take, drop, reverse, sym, ◌∙◌, ap, subst, inl, inr}
-use Rattle.kube_types.specs.declared.objects.Object.{Object}
+use Rattle.kube_objects.specs.declared.objects.Object.{Object}
 use Rattle.call_types.specs.declared.entry.Entry.{Entry}
 use Rattle.binder_model.specs.Told.{After, SomeOf, TellsObject, ToldObject, objects_in}
 use Rattle.licence_scans.specs.Last.{IsLast}
@@ -16,7 +16,8 @@ after_told R Q [] h = elim h [ ]
 after_told R Q (x ∷ xs) (inl p) = inr p.1
 after_told R Q (x ∷ xs) (inr h) = inr (after_told R Q xs h)
 
-after_cut : (R : Object → Type 0) (Q : Entry → Type 0) (recent : List Entry) (e : Entry) (older : List Entry) → (SomeOf Q recent → ⊥) → After (ToldObject R) Q (recent ++ e ∷ older) → ToldObject R older
+after_cut : (R : Object → Type 0) (Q : Entry → Type 0) (recent : List Entry) (e : Entry) (older : List Entry) → (SomeOf Q recent → ⊥)
+    → After (ToldObject R) Q (recent ++ e ∷ older) → ToldObject R older
 after_cut R Q [] e older none (inl p) = p.1
 after_cut R Q [] e older none (inr h) = after_told R Q older h
 after_cut R Q (x ∷ recent) e older none (inl p) = absurd (none (inl p.0))
@@ -32,7 +33,8 @@ last_cut Q mine place last = cut_at mine place last.entry last.within ∙ ap (λ
 pub last_some : (Q : Entry → Type 0) (mine : List Entry) (place : ℕ) → IsLast Q mine place → SomeOf Q (reverse mine)
 last_some Q mine place last = some_reverse Q mine place last.entry last.within (subst Q last.there last.is)
 
-pub after_last : (R : Object → Type 0) (Q : Entry → Type 0) (mine : List Entry) (place : ℕ) (told : Bool) → IsLast Q mine place → (IsTrue told ↔ ToldObject R (reverse (take place mine))) → (IsTrue told ↔ After (ToldObject R) Q (reverse mine))
+pub after_last : (R : Object → Type 0) (Q : Entry → Type 0) (mine : List Entry) (place : ℕ) (told : Bool) → IsLast Q mine place
+    → (IsTrue told ↔ ToldObject R (reverse (take place mine))) → (IsTrue told ↔ After (ToldObject R) Q (reverse mine))
 after_last R Q mine place told last is =
     let cut = last_cut Q mine place last in (
       (λ t. subst (After (ToldObject R) Q) (sym cut) (after_back R Q (reverse (drop (place + 1) mine)) last.entry (reverse (take place mine)) last.is (is.0 t))),

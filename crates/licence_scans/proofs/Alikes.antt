@@ -1,6 +1,6 @@
 -- The first told of those that are alike stands for all.
 use Rattle.std.proofs.Common.{List}
-use Rattle.kube_types.specs.declared.objects.Object.{Object}
+use Rattle.kube_objects.specs.declared.objects.Object.{Object}
 use Rattle.call_types.specs.declared.entry.Entry.{Entry}
 use Rattle.binder_model.specs.Told.{TellsObject, ToldObject, objects_in}
 use Rattle.licence_scans.specs.Found.{IsFirstAlike}
@@ -14,5 +14,11 @@ module _ (May Row : Object → Type 0) (Alike : Object → Object → Type 0) (n
   pub is_first : ((o x : Object) → Alike o x → Row o → Row x) → (ToldObject (λ o. May o × Row o) newer → ⊥) → TellsObject (λ o. May o × Row o) e → TellsObject (IsFirstAlike May Alike Row newer) e
   is_first shares none t = (
     t.0,
-    some_map {P = λ o. May o × Row o} {Q = IsFirstAlike May Alike Row newer} (λ o p. record { may = p.0; first = λ s. none (told_map {P = λ x. May x × Alike o x} {Q = λ x. May x × Row x} (λ x q. (q.0, shares o x q.1 p.1)) newer s); row = p.1 }) (objects_in e.reply) t.1,
+    some_map {P = λ o. May o × Row o} {Q = IsFirstAlike May Alike Row newer}
+        (λ o p. record {
+          may = p.0;
+          first = λ s. none (told_map {P = λ x. May x × Alike o x} {Q = λ x. May x × Row x}
+              (λ x q. (q.0, shares o x q.1 p.1)) newer s);
+          row = p.1;
+        }) (objects_in e.reply) t.1,
   )

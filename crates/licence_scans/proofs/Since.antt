@@ -1,7 +1,7 @@
 -- The last epoch of a node and the last read of a key, where their entry stands.
 use Rattle.std.proofs.Common.{◌≡◌, ℕ, ◌+◌, Bool, true, false, true≢false, List, [], ◌∷◌, ◌++◌, Option, Some, None, take, drop, reverse, refl, sym, ◌∙◌, ap, inl, inr}
 use Rattle.std.specs.Prelude.{◌&&◌, is_some, if◌then◌else◌}
-use Rattle.kube_types.specs.declared.key.Key.{Key}
+use Rattle.kube_objects.specs.declared.key.Key.{Key}
 use Rattle.call_types.specs.declared.entry.Entry.{Entry}
 use Rattle.binder_model.specs.AgentLicence.{epoch_in, is_get_of, last_epoch, last_get, since_epoch, since_get}
 use Rattle.binder_model.specs.Told.{SomeOf, first_some}
@@ -10,7 +10,8 @@ use Rattle.licence_scans.proofs.Afters.{last_cut}
 
 -- an entry that tells no epoch
 
-epoch_cut : (node : List ℕ) (recent : List Entry) (e : Entry) (older : List Entry) → (SomeOf (λ x. is_some (epoch_in node x) ≡ true) recent → ⊥) → is_some (epoch_in node e) ≡ true → last_epoch node (recent ++ e ∷ older) ≡ epoch_in node e
+epoch_cut : (node : List ℕ) (recent : List Entry) (e : Entry) (older : List Entry) → (SomeOf (λ x. is_some (epoch_in node x) ≡ true) recent → ⊥)
+    → is_some (epoch_in node e) ≡ true → last_epoch node (recent ++ e ∷ older) ≡ epoch_in node e
 epoch_cut node [] e older none is = by (epoch_in node e) is
   where
     by : (o : Option ℕ) → is_some o ≡ true → first_some o (last_epoch node older) ≡ o
@@ -22,7 +23,8 @@ epoch_cut node (x ∷ recent) e older none is = by (epoch_in node x) (λ s. none
     by (Some n) not rest = absurd (not refl)
     by None not rest = rest
 
-epoch_since : (node : List ℕ) (recent : List Entry) (e : Entry) (older : List Entry) → (SomeOf (λ x. is_some (epoch_in node x) ≡ true) recent → ⊥) → is_some (epoch_in node e) ≡ true → since_epoch node (recent ++ e ∷ older) ≡ recent
+epoch_since : (node : List ℕ) (recent : List Entry) (e : Entry) (older : List Entry) → (SomeOf (λ x. is_some (epoch_in node x) ≡ true) recent → ⊥)
+    → is_some (epoch_in node e) ≡ true → since_epoch node (recent ++ e ∷ older) ≡ recent
 epoch_since node [] e older none is = rw is refl
 epoch_since node (x ∷ recent) e older none is = by (is_some (epoch_in node x)) (λ s. none (inl s)) (epoch_since node recent e older (λ s. none (inr s)) is)
   where
@@ -39,10 +41,12 @@ epoch_none node (x ∷ xs) none = by (epoch_in node x) (λ s. none (inl s)) (epo
     by None not rest = rest
 
 pub epoch_last : (node : List ℕ) (mine : List Entry) (place : ℕ) (last : IsLast (λ x. is_some (epoch_in node x) ≡ true) mine place) → last_epoch node (reverse mine) ≡ epoch_in node last.entry
-epoch_last node mine place last = ap (last_epoch node) (last_cut (λ x. is_some (epoch_in node x) ≡ true) mine place last) ∙ epoch_cut node (reverse (drop (place + 1) mine)) last.entry (reverse (take place mine)) last.since last.is
+epoch_last node mine place last = ap (last_epoch node) (last_cut (λ x. is_some (epoch_in node x) ≡ true) mine place last)
+    ∙ epoch_cut node (reverse (drop (place + 1) mine)) last.entry (reverse (take place mine)) last.since last.is
 
 pub epoch_after : (node : List ℕ) (mine : List Entry) (place : ℕ) (last : IsLast (λ x. is_some (epoch_in node x) ≡ true) mine place) → since_epoch node (reverse mine) ≡ reverse (drop (place + 1) mine)
-epoch_after node mine place last = ap (since_epoch node) (last_cut (λ x. is_some (epoch_in node x) ≡ true) mine place last) ∙ epoch_since node (reverse (drop (place + 1) mine)) last.entry (reverse (take place mine)) last.since last.is
+epoch_after node mine place last = ap (since_epoch node) (last_cut (λ x. is_some (epoch_in node x) ≡ true) mine place last)
+    ∙ epoch_since node (reverse (drop (place + 1) mine)) last.entry (reverse (take place mine)) last.since last.is
 
 -- reads
 

@@ -22,7 +22,8 @@ twice_equal k1 v1 k2 v2 y ys order same = let e : text_cmp y.0 k2 ≡ Less = tot
 twice_greater : (k1 v1 k2 v2 : List ℕ) (y : Pair) (ys : List Pair) → text_cmp k1 k2 ≡ Less → text_cmp y.0 k1 ≡ Greater → put_pair k1 v1 (put_pair k2 v2 (y ∷ ys)) ≡ (k1, v1) ∷ put_pair k2 v2 (y ∷ ys)
 twice_greater k1 v1 k2 v2 y ys order over = by (text_cmp y.0 k2)
   where
-    by : (r : Ordering) → put_pair k1 v1 (match_ordering r (y ∷ put_pair k2 v2 ys) ((k2, v2) ∷ ys) ((k2, v2) ∷ y ∷ ys)) ≡ (k1, v1) ∷ match_ordering r (y ∷ put_pair k2 v2 ys) ((k2, v2) ∷ ys) ((k2, v2) ∷ y ∷ ys)
+    by : (r : Ordering) → put_pair k1 v1 (match_ordering r (y ∷ put_pair k2 v2 ys) ((k2, v2) ∷ ys) ((k2, v2) ∷ y ∷ ys)) ≡ (k1, v1) ∷ match_ordering r
+        (y ∷ put_pair k2 v2 ys) ((k2, v2) ∷ ys) ((k2, v2) ∷ y ∷ ys)
     by Less = rw over refl
     by Equal = rw (above k1 k2 order) refl
     by Greater = rw (above k1 k2 order) refl

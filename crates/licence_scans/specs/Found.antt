@@ -1,7 +1,7 @@
 -- An object of which a condition holds, found among others or among what a seat was told.
 -- A choice of this project, as the rows are.
 use Rattle.std.specs.Prelude.{◌≡◌, List}
-use Rattle.kube_types.specs.declared.objects.Object.{Object}
+use Rattle.kube_objects.specs.declared.objects.Object.{Object}
 use Rattle.call_types.specs.declared.entry.Entry.{Entry}
 use Rattle.binder_model.specs.Told.{SomeOf, ToldObject}
 

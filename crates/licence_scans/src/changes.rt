@@ -2,7 +2,7 @@
 
 ghost use Rattle.std.specs.Prelude.{◌≡◌, ◌↔◌, IsTrue, Some, None};
 ghost use Rattle.plain_data.specs.Pairs.{put_pair, without_key};
-ghost use Rattle.kube_types.specs.Bindings.{bind_completed, bound_by_controller};
+ghost use Rattle.kube_objects.specs.Bindings.{bind_completed, bound_by_controller};
 ghost use Rattle.binder_model.specs.BindWrites.{annotated_meta, annotated_meta_if, completed_with, ref_to, taken_for, unbound_volume, without_uid};
 ghost use Rattle.binder_model.specs.GuardLicence.{guarded_meta, unguarded_meta};
 

@@ -3,7 +3,7 @@
 ghost use Rattle.std.specs.Prelude.{◌≡◌, ◌↔◌, ℕ, IsTrue, reverse, None};
 ghost use Rattle.call_types.specs.declared.request.Request.TheVariants as requests;
 ghost use Rattle.call_types.specs.declared.request.SeatKind.TheVariants as seats;
-ghost use Rattle.kube_types.specs.Keys.{same_kind};
+ghost use Rattle.kube_objects.specs.Keys.{same_kind};
 ghost use Rattle.binder_model.specs.Reading.{IsFrom, IsUnlisted, follow_on, following_of, follows};
 ghost use Rattle.licence_scans.specs.Following.{as_following};
 

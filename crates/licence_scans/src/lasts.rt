@@ -2,7 +2,7 @@
 
 ghost use Rattle.std.specs.Prelude.{◌≡◌, ◌&&◌, MatchOption, None, Some, is_some, reverse, true};
 ghost use Rattle.binder_model.specs.AgentLicence.{epoch_in, epoch_told, is_get_of, last_epoch, last_get, since_epoch, since_get};
-ghost use Rattle.kube_types.specs.Keys.{same_key};
+ghost use Rattle.kube_objects.specs.Keys.{same_key};
 ghost use Rattle.licence_scans.specs.Keyed.{key_at};
 
 use crate::entries::{EntryTest, last_place};

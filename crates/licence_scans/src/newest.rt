@@ -3,7 +3,7 @@
 ghost use Rattle.std.specs.Prelude.{◌≡◌, ◌↔◌, IsTrue, List, ℕ, None, reverse, if◌then◌else◌};
 ghost use Rattle.std.specs.Option.{option_copied};
 ghost use Rattle.std.specs.Ordering.{is_eq};
-ghost use Rattle.kube_types.specs.Keys.{key_cmp, key_of, row_at, same_key};
+ghost use Rattle.kube_objects.specs.Keys.{key_cmp, key_of, row_at, same_key};
 ghost use Rattle.binder_model.specs.Told.{later, listing, lists_key, newest, object_of, of_event, tells_of, told_by_events, told_of};
 ghost use Rattle.licence_scans.specs.Keyed.{as_telling, key_at};
 

@@ -1,11 +1,11 @@
 //! Told volumes, claims and pods, and writes at a told object.
 
 ghost use Rattle.std.specs.Prelude.{◌≡◌, ◌↔◌, IsTrue, reverse};
-ghost use Rattle.kube_types.specs.declared.objects.Claim.{Claim as ClaimData};
-ghost use Rattle.kube_types.specs.declared.objects.Object.{Object};
-ghost use Rattle.kube_types.specs.declared.objects.Pod.{Pod as PodData};
-ghost use Rattle.kube_types.specs.declared.objects.Volume.{Volume as VolumeData};
-ghost use Rattle.kube_types.specs.Keys.{meta_of};
+ghost use Rattle.kube_objects.specs.declared.objects.Claim.{Claim as ClaimData};
+ghost use Rattle.kube_objects.specs.declared.objects.Object.{Object};
+ghost use Rattle.kube_objects.specs.declared.objects.Pod.{Pod as PodData};
+ghost use Rattle.kube_objects.specs.declared.objects.Volume.{Volume as VolumeData};
+ghost use Rattle.kube_objects.specs.Keys.{meta_of};
 ghost use Rattle.binder_model.specs.At.{IsWrittenAt};
 ghost use Rattle.binder_model.specs.Told.{IsClaimWith, IsPodWith, IsVolumeWith, ToldClaim, ToldObject, ToldPod, ToldVolume};
 

@@ -1,7 +1,7 @@
 //! Told objects of which a condition in two parts holds, the second of which asks the same of many.
 
 ghost use Rattle.std.specs.Prelude.{◌↔◌, IsTrue, reverse};
-ghost use Rattle.kube_types.specs.declared.objects.Object.{Object};
+ghost use Rattle.kube_objects.specs.declared.objects.Object.{Object};
 ghost use Rattle.binder_model.specs.Told.{ToldObject};
 ghost use Rattle.licence_scans.specs.Found.{IsFirstAlike};
 

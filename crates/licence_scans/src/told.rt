@@ -1,7 +1,7 @@
 //! What a seat was told.
 
 ghost use Rattle.std.specs.Prelude.{◌≡◌, ◌↔◌, ◌∷◌, [], IsTrue, MatchOption, reverse};
-ghost use Rattle.kube_types.specs.declared.objects.Object.{Object};
+ghost use Rattle.kube_objects.specs.declared.objects.Object.{Object};
 ghost use Rattle.call_types.specs.declared.reply.Event.{Event};
 ghost use Rattle.licence_scans.specs.Found.{IsFound, IsToldFound};
 ghost use Rattle.binder_model.specs.Told.{SomeOf, TellsObject, ToldObject, objects_in, objects_of_event, objects_of_events};

@@ -1,8 +1,8 @@
 -- The row DefaultClass, as the code tests it.
 use Rattle.std.proofs.Common.{◌≡◌, ◌↔◌, IsTrue, ℕ, Bool, List, [], Option, Some, None, true, false, sym, ◌∙◌, ap, true≢false}
 use Rattle.std.specs.Prelude.{is_some}
-use Rattle.kube_types.specs.declared.objects.Claim.{Claim as ClaimData}
-use Rattle.kube_types.specs.Bindings.{is_completed, is_deleting, lacks_class}
+use Rattle.kube_objects.specs.declared.objects.Claim.{Claim as ClaimData}
+use Rattle.kube_objects.specs.Bindings.{is_completed, is_deleting, lacks_class}
 use Rattle.call_types.specs.declared.entry.Entry.{Entry}
 use Rattle.binder_model.specs.BinderLicence.{MayAssignClass}
 use Rattle.model_laws.proofs.Lists.{one}
@@ -18,7 +18,8 @@ given mine o new row = ap (λ (c : ClaimData). c.class) row.change
 pub assign_none : (mine : List Entry) (o new : ClaimData) → new.class ≡ None → MayAssignClass mine o new → ⊥
 assign_none mine o new none row = true≢false (ap is_some (sym (given mine o new row) ∙ none))
 
-pub assign_row : (mine : List Entry) (o new : ClaimData) (name : List ℕ) (b : Bool) → is_completed o ≡ false → is_deleting o.meta ≡ false → o.volume_name ≡ [] → lacks_class o ≡ true → new ≡ record o { class = new.class } → new.class ≡ Some name
+pub assign_row : (mine : List Entry) (o new : ClaimData) (name : List ℕ) (b : Bool) → is_completed o ≡ false → is_deleting o.meta ≡ false
+    → o.volume_name ≡ [] → lacks_class o ≡ true → new ≡ record o { class = new.class } → new.class ≡ Some name
     → (IsTrue b ↔ IsDefaultNamed mine name) → (IsTrue b ↔ MayAssignClass mine o new)
 unfolding with_class
 assign_row mine o new name b undone staying unnamed classless change found is = (

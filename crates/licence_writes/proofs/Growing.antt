@@ -1,12 +1,12 @@
 -- What a row of ops allows by a part of the entries, it allows by the entries.
 use Rattle.std.proofs.Common.{ℕ, List, subst}
-use Rattle.kube_types.specs.declared.uid.Uid.{Uid}
-use Rattle.kube_types.specs.declared.objects.DataId.{DataId}
-use Rattle.kube_types.specs.declared.objects.Claim.{Claim as ClaimData}
-use Rattle.kube_types.specs.declared.objects.Class.{Class as ClassData}
-use Rattle.kube_types.specs.declared.objects.Volume.{Volume as VolumeData}
-use Rattle.kube_types.specs.declared.objects.Object.{Object}
-use Rattle.kube_types.specs.Sources.{data_id_of}
+use Rattle.kube_parts.specs.declared.uid.Uid.{Uid}
+use Rattle.kube_objects.specs.declared.objects.DataId.{DataId}
+use Rattle.kube_objects.specs.declared.objects.Claim.{Claim as ClaimData}
+use Rattle.kube_objects.specs.declared.objects.Class.{Class as ClassData}
+use Rattle.kube_objects.specs.declared.objects.Volume.{Volume as VolumeData}
+use Rattle.kube_objects.specs.declared.objects.Object.{Object}
+use Rattle.kube_objects.specs.Sources.{data_id_of}
 use Rattle.call_types.specs.declared.entry.Entry.{Entry}
 use Rattle.call_types.specs.declared.reply.Reply.{Reply}
 use Rattle.call_types.specs.declared.reply.Reply.TheVariants.{Done}
@@ -53,15 +53,21 @@ shown_reads name new t x is h = no_data name new x t.request (subst (λ (r : Rep
 -- the rows
 
 pub fail_grows : (small mine : List Entry) → IsPart small mine → (o : VolumeData) → MayFail small o → MayFail mine o
-fail_grows small mine part o row = record { ended = row.ended; failed = after_grows (IsVolumeWith (IsThisVolume o)) (TellsEraseFailed (data_id_of o.source)) (fault_reads (data_id_of o.source)) small mine part row.failed }
+fail_grows small mine part o row = record {
+  ended = row.ended;
+  failed = after_grows (IsVolumeWith (IsThisVolume o))
+      (TellsEraseFailed (data_id_of o.source)) (fault_reads (data_id_of o.source)) small mine part row.failed;
+}
 
 pub delete_grows : (small mine : List Entry) → IsPart small mine → (uid : Uid) → MayDelete small uid → MayDelete mine uid
 delete_grows small mine part uid row = record { id = row.id; erased = after_grows (IsVolumeWith (IsEndedOver uid row.id)) (TellsErased row.id) (erase_reads row.id) small mine part row.erased }
 
-pub exhausted_grows : (small mine : List Entry) → IsPart small mine → (o : ClaimData) (uid : Uid) → After (ToldClaim (IsThisClaim o)) (TellsExhausted (data_name uid)) small → After (ToldClaim (IsThisClaim o)) (TellsExhausted (data_name uid)) mine
+pub exhausted_grows : (small mine : List Entry) → IsPart small mine → (o : ClaimData) (uid : Uid)
+    → After (ToldClaim (IsThisClaim o)) (TellsExhausted (data_name uid)) small → After (ToldClaim (IsThisClaim o)) (TellsExhausted (data_name uid)) mine
 exhausted_grows small mine part o uid h = after_grows (IsClaimWith (IsThisClaim o)) (TellsExhausted (data_name uid)) (exhausted_reads (data_name uid)) small mine part h
 
-pub creates_grows : (small mine : List Entry) → IsPart small mine → (claim : ClaimData) (uid : Uid) (class : ClassData) (new : VolumeData) → Creates small claim uid class new → Creates mine claim uid class new
+pub creates_grows : (small mine : List Entry) → IsPart small mine → (claim : ClaimData) (uid : Uid) (class : ClassData) (new : VolumeData)
+    → Creates small claim uid class new → Creates mine claim uid class new
 creates_grows small mine part claim uid class new row = record {
   known = row.known;
   made = row.made;

@@ -1,6 +1,6 @@
 -- Phases that no row lets a controller write.
 use Rattle.std.proofs.Common.{ℕ, List, Option, false}
-use Rattle.kube_types.specs.declared.key.Key.{Key}
+use Rattle.kube_objects.specs.declared.key.Key.{Key}
 use Rattle.call_types.specs.declared.entry.Entry.{Entry}
 use Rattle.binder_model.specs.At.{IsWrittenAt}
 use Rattle.binder_model.specs.Licence.{AtClaimKey, AtVolumeKey}

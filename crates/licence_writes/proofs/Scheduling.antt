@@ -1,10 +1,10 @@
 -- The scheduler's rows, by what was told newest of a claim, its volume, its class and a node.
 use Rattle.std.proofs.Common.{◌≡◌, ◌↔◌, IsTrue, ℕ, Bool, true, List, subst}
-use Rattle.kube_types.specs.declared.objects.Claim.{Claim as ClaimData}
-use Rattle.kube_types.specs.declared.objects.Class.{Class as ClassData}
-use Rattle.kube_types.specs.declared.objects.Node.{Node as NodeData}
-use Rattle.kube_types.specs.declared.objects.Object.TheVariants.{Class, Node, Claim}
-use Rattle.kube_types.specs.Bindings.{class_of_claim, is_completed}
+use Rattle.kube_objects.specs.declared.objects.Claim.{Claim as ClaimData}
+use Rattle.kube_objects.specs.declared.objects.Class.{Class as ClassData}
+use Rattle.kube_objects.specs.declared.objects.Node.{Node as NodeData}
+use Rattle.kube_objects.specs.declared.objects.Object.TheVariants.{Class, Node, Claim}
+use Rattle.kube_objects.specs.Bindings.{class_of_claim, is_completed}
 use Rattle.call_types.specs.declared.entry.Entry.{Entry}
 use Rattle.binder_model.specs.ObjectKeys.{class_key, claim_key, node_key}
 use Rattle.binder_model.specs.SchedulerLicence.{IsReadyOn}
@@ -24,7 +24,8 @@ node_row mine name node b new is = (
   (λ n. is.1 (subst (λ (x : NodeData). x.meta.name ≡ name) (node_is mine (node_key name) n.0 node n.1.0 new) n.1.1)),
 )
 
-pub ready_row : (mine : List Entry) (node : NodeData) (namespace name : List ℕ) (claim : ClaimData) (b : Bool) → IsNewest mine (claim_key namespace name) (Claim claim) → is_completed claim ≡ true → (IsTrue b ↔ IsAdmitted mine node claim) → (IsTrue b ↔ IsReadyOn mine node namespace name)
+pub ready_row : (mine : List Entry) (node : NodeData) (namespace name : List ℕ) (claim : ClaimData) (b : Bool)
+    → IsNewest mine (claim_key namespace name) (Claim claim) → is_completed claim ≡ true → (IsTrue b ↔ IsAdmitted mine node claim) → (IsTrue b ↔ IsReadyOn mine node namespace name)
 ready_row mine node namespace name claim b new completed is = (
   (λ t. let a = is.0 t in record { claim = claim; newest = new; completed = completed; volume = a.0; volume_newest = a.1.0; admitted = a.1.1 }),
   (λ r. is.1 (subst (IsAdmitted mine node) (claim_is mine (claim_key namespace name) r.claim claim r.newest new) (r.volume, (r.volume_newest, r.admitted)))),

@@ -1,7 +1,7 @@
 //! Where the binder may give a claim the default class.
 
 ghost use Rattle.std.specs.Prelude.{◌≡◌, ◌↔◌, [], IsTrue, true};
-ghost use Rattle.kube_types.specs.Bindings.{lacks_class};
+ghost use Rattle.kube_objects.specs.Bindings.{lacks_class};
 ghost use Rattle.binder_model.specs.BinderLicence.{MayAssignClass};
 ghost use Rattle.binder_model.specs.Licence.{AtClaim};
 ghost use Rattle.licence_record.specs.Judged.{Judges};

@@ -1,6 +1,6 @@
 //! Where the binder may write.
 
-ghost use Rattle.kube_types.specs.declared.objects.Object.TheVariants as objects;
+ghost use Rattle.kube_objects.specs.declared.objects.Object.TheVariants as objects;
 ghost use Rattle.call_types.specs.declared.request.NewStatus.TheVariants as statuses;
 ghost use Rattle.call_types.specs.declared.request.Request.TheVariants as requests;
 ghost use Rattle.call_types.specs.declared.request.SeatKind.TheVariants as seats;

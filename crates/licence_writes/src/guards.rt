@@ -1,6 +1,6 @@
 //! Where the protection controllers may write.
 
-ghost use Rattle.kube_types.specs.declared.objects.Object.TheVariants as objects;
+ghost use Rattle.kube_objects.specs.declared.objects.Object.TheVariants as objects;
 ghost use Rattle.call_types.specs.declared.request.Request.TheVariants as requests;
 ghost use Rattle.call_types.specs.declared.request.SeatKind.TheVariants as seats;
 ghost use Rattle.binder_model.specs.Licence.{AtClaim, AtVolume, GuardsClaim, GuardsVolume, RowAllows};

@@ -1,8 +1,8 @@
 //! Where data may be provisioned.
 
 ghost use Rattle.std.specs.Prelude.{◌≡◌, IsTrue, Some, true};
-ghost use Rattle.kube_types.specs.declared.objects.Node.{Node as NodeData};
-ghost use Rattle.kube_types.specs.declared.objects.Object.TheVariants as objects;
+ghost use Rattle.kube_objects.specs.declared.objects.Node.{Node as NodeData};
+ghost use Rattle.kube_objects.specs.declared.objects.Object.TheVariants as objects;
 ghost use Rattle.binder_model.specs.ObjectKeys.{node_key};
 ghost use Rattle.binder_model.specs.OpsLicence.{AreLabels, MayProvision};
 ghost use Rattle.binder_model.specs.Told.{IsNewest};

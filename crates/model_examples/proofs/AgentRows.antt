@@ -1,15 +1,29 @@
 -- The agent's rows but for Mount, computed.
 use Rattle.std.proofs.Common.{sym, refl, inl, inr, true≢false}
 use Rattle.std.specs.Prelude.{◌==◌, List, [], ◌∷◌, is_none, bytes_eq}
-use Rattle.kube_types.specs.Keys.{kind_index}
-use Rattle.kube_types.specs.Uids.{uid_of_serial}
-use Rattle.kube_types.specs.Bindings.{is_uid}
+use Rattle.kube_objects.specs.Keys.{kind_index}
+use Rattle.kube_parts.specs.Uids.{uid_of_serial}
+use Rattle.kube_objects.specs.Bindings.{is_uid}
 use Rattle.call_types.specs.declared.entry.Entry.{Entry}
 use Rattle.call_types.specs.declared.request.SeatKind.TheVariants as seats
 use Rattle.binder_model.specs.Told.{SomeOf, ToldPod}
 use Rattle.binder_model.specs.AgentLicence.{IsEndingPod}
 use Rattle.model_examples.specs.Samples.{Exchange, seat_of, unheard, tells_pod, takes, node_1, node_2, p, ending_p, uid_p}
-use Rattle.model_examples.specs.AgentRows.{mounts_other, MountsExamples, UnmountExamples, other_pod, elsewhere_pod, nowhere_pod, FinishPodExamples, row_of, mounted, unmounts_at, unmounted, mounts_it, told_ending}
+use Rattle.model_examples.specs.AgentRows.{
+  mounts_other,
+  MountsExamples,
+  UnmountExamples,
+  other_pod,
+  elsewhere_pod,
+  nowhere_pod,
+  FinishPodExamples,
+  row_of,
+  mounted,
+  unmounts_at,
+  unmounted,
+  mounts_it,
+  told_ending,
+}
 use Rattle.model_examples.proofs.Tellings.{differ, sole, own_kind, told_pods, pods_in, told_objects, is_version}
 
 abbrev mine : List Exchange → List Entry
@@ -47,11 +61,19 @@ pub finish_pod_examples : FinishPodExamples
 finish_pod_examples = record {
   finishes_after_unmount = (own_kind seats.Agent (unmounted ∷ told_ending), record { current = refl; kind = refl; told = inr (inl (refl, inl told)); unmounted = refl });
   finishes_after_mounts = (own_kind seats.Agent (mounted node_1 1 [] ∷ told_ending), record { current = refl; kind = refl; told = inr (inl (refl, inl told)); unmounted = refl });
-  finishes_beside_other_pod = (own_kind seats.Agent (mounted node_1 1 (row_of (uid_of_serial 8) ∷ []) ∷ told_ending), record { current = refl; kind = refl; told = inr (inl (refl, inl told)); unmounted = refl });
+  finishes_beside_other_pod = (
+    own_kind seats.Agent (mounted node_1 1 (row_of (uid_of_serial 8) ∷ []) ∷ told_ending),
+    record
+        { current = refl; kind = refl; told = inr (inl (refl, inl told)); unmounted = refl },
+  );
   finishes_after_a_mount_before = (own_kind seats.Agent (unmounted ∷ mounts_it ∷ told_ending), record { current = refl; kind = refl; told = inr (inr (inl (refl, inl told))); unmounted = refl });
   finishes_by_uid_whatever_the_name = (own_kind seats.Agent (unmounted ∷ told_ending), record { current = refl; kind = refl; told = inr (inl (refl, inl told)); unmounted = refl });
   finishes_after_mount_of_other_pod = (own_kind seats.Agent (mounts_other ∷ told_ending), record { current = refl; kind = refl; told = inr (inl (refl, inl told)); unmounted = refl });
-  finishes_before_mount_of_other_pod = (own_kind seats.Agent (unheard mounts_other ∷ unmounted ∷ told_ending), record { current = refl; kind = refl; told = inr (inr (inl (refl, inl told))); unmounted = refl });
+  finishes_before_mount_of_other_pod = (
+    own_kind seats.Agent (unheard mounts_other ∷ unmounted ∷ told_ending),
+    record
+        { current = refl; kind = refl; told = inr (inr (inl (refl, inl told))); unmounted = refl },
+  );
   older_epoch_is_refused = λ l. differ (is_version 3) l.1.current refl refl;
   key_of_other_kind_is_refused = λ l. differ (λ k. kind_index k == 3) l.1.kind refl refl;
   pod_never_told_is_refused = λ l. ending (unmounted ∷ takes node_1 1 ∷ []) l.1.told;

@@ -1,17 +1,17 @@
 -- The binder's rows that take a binding back, computed.
 use Rattle.std.proofs.Common.{sym, refl, ap, inl, inr, true≢false, ◌∙◌}
 use Rattle.std.specs.Prelude.{ℕ, ◌≡◌, ◌⊎◌, Bool, true, false, not, List, [], ◌∷◌, Option, Some, None, is_none, codes, bytes_eq}
-use Rattle.kube_types.specs.declared.parts.Kind.TheVariants as kinds
-use Rattle.kube_types.specs.declared.parts.Modes.{Modes}
-use Rattle.kube_types.specs.declared.key.Key.{Key}
-use Rattle.kube_types.specs.declared.uid.Uid.{Uid}
-use Rattle.kube_types.specs.declared.objects.Amount.{Amount}
-use Rattle.kube_types.specs.declared.objects.Ref.{Ref}
-use Rattle.kube_types.specs.declared.objects.Volume.{Volume as VolumeData}
-use Rattle.kube_types.specs.declared.objects.Claim.{Claim as ClaimData}
-use Rattle.kube_types.specs.declared.objects.Object.TheVariants.{Volume, Claim}
-use Rattle.kube_types.specs.Uids.{uid_of_serial}
-use Rattle.kube_types.specs.Bindings.{is_empty, is_uid, ref_uid}
+use Rattle.kube_parts.specs.declared.parts.Kind.TheVariants as kinds
+use Rattle.kube_parts.specs.declared.parts.Modes.{Modes}
+use Rattle.kube_objects.specs.declared.key.Key.{Key}
+use Rattle.kube_parts.specs.declared.uid.Uid.{Uid}
+use Rattle.kube_objects.specs.declared.objects.Amount.{Amount}
+use Rattle.kube_objects.specs.declared.objects.Ref.{Ref}
+use Rattle.kube_objects.specs.declared.objects.Volume.{Volume as VolumeData}
+use Rattle.kube_objects.specs.declared.objects.Claim.{Claim as ClaimData}
+use Rattle.kube_objects.specs.declared.objects.Object.TheVariants.{Volume, Claim}
+use Rattle.kube_parts.specs.Uids.{uid_of_serial}
+use Rattle.kube_objects.specs.Bindings.{is_empty, is_uid, ref_uid}
 use Rattle.call_types.specs.declared.entry.Entry.{Entry}
 use Rattle.call_types.specs.declared.request.SeatKind.TheVariants as seats
 use Rattle.binder_model.specs.At.{IsWrittenAt, IsElsewhere, IsSameObject}
@@ -21,9 +21,74 @@ use Rattle.binder_model.specs.BinderDue.{is_reclaimed}
 use Rattle.binder_model.specs.Told.{SomeOf, ToldVolume, ToldClaim, TellsLive}
 use Rattle.binder_model.specs.BinderLicence.{MayRelease, WasReadGone, IsReferring, IsGone, MayUnbind, MayLose, WasReadLost, IsNotCarrying, IsCompletedVersion}
 use Rattle.binder_model.specs.Licence.{AtVolume, AtVolumeKey, AtClaimKey}
-use Rattle.model_examples.specs.Samples.{Exchange, entry_of, seat_of, unheard, lists, tells_volume, tells_claim, tells_both, finds, finds_none, once, amount, a, c, d, other_c, naming, with_reference, key_a, key_c, uid_c, name_c, ref_c, taken_a, bound_a, bound_c, key_d, elsewhere_c, key_b, nameless_c, bound_for_other}
-use Rattle.model_examples.specs.BinderReleases.{ReleasedExamples, prebound_a, failed_a, earlier_a, provisioned_a, reclaimed_a, deleted_with_claim, UnbindExamples, taken_prebound, LostExamples, uncompleted_c, earlier_c}
-use Rattle.model_examples.proofs.Tellings.{differ, neither, sole, own_kind, told_volumes, told_claims, volume_row, volume_status_row, claim_status_row, volumes_in, claims_in, told_objects, after_tells, never_read, has_get, key_read, not_get, is_version, name_of}
+use Rattle.model_examples.specs.Samples.{
+  Exchange,
+  entry_of,
+  seat_of,
+  unheard,
+  lists,
+  tells_volume,
+  tells_claim,
+  tells_both,
+  finds,
+  finds_none,
+  once,
+  amount,
+  a,
+  c,
+  d,
+  other_c,
+  naming,
+  with_reference,
+  key_a,
+  key_c,
+  uid_c,
+  name_c,
+  ref_c,
+  taken_a,
+  bound_a,
+  bound_c,
+  key_d,
+  elsewhere_c,
+  key_b,
+  nameless_c,
+  bound_for_other,
+}
+use Rattle.model_examples.specs.BinderReleases.{
+  ReleasedExamples,
+  prebound_a,
+  failed_a,
+  earlier_a,
+  provisioned_a,
+  reclaimed_a,
+  deleted_with_claim,
+  UnbindExamples,
+  taken_prebound,
+  LostExamples,
+  uncompleted_c,
+  earlier_c,
+}
+use Rattle.model_examples.proofs.Tellings.{
+  differ,
+  neither,
+  sole,
+  own_kind,
+  told_volumes,
+  told_claims,
+  volume_row,
+  volume_status_row,
+  claim_status_row,
+  volumes_in,
+  claims_in,
+  told_objects,
+  after_tells,
+  never_read,
+  has_get,
+  key_read,
+  not_get,
+  is_version,
+  name_of,
+}
 
 abbrev mine : List Exchange → List Entry
 mine xs = seat_of seats.Binder xs
@@ -43,7 +108,8 @@ same_a = record { uid = uid_of_serial 1; first = refl; second = refl }
 
 -- Released
 
-release_at : (xs : List Exchange) (given : Option ℕ) → AtVolumeKey (mine xs) key_a given (λ o. MayRelease (mine xs) o) → SomeOf (λ o. IsWrittenAt given [] (codes "a") o.meta × MayRelease (mine xs) o) (volumes_in (told_objects (mine xs)))
+release_at : (xs : List Exchange) (given : Option ℕ) → AtVolumeKey (mine xs) key_a given (λ o. MayRelease (mine xs) o)
+    → SomeOf (λ o. IsWrittenAt given [] (codes "a") o.meta × MayRelease (mine xs) o) (volumes_in (told_objects (mine xs)))
 release_at xs given h = volume_status_row (λ o. MayRelease (mine xs) o) (mine xs) key_a given h
 
 -- the UID of the reference
@@ -59,17 +125,20 @@ unread xs o r uid none h =
     (after_tells (ToldVolume (IsReferring o r)) (TellsLive (claim_key r.namespace r.name) (IsGone uid)) (mine xs) h)
 
 -- a row where no claim was told has a read; a row where nothing was read has a claim elsewhere
-read_of : (xs : List Exchange) (o : VolumeData) (row : MayRelease (mine xs) o) → (SomeOf (IsElsewhere o.meta.name row.uid) (claims_in (told_objects (mine xs))) → ⊥) → WasReadGone (mine xs) o row.reference row.uid
+read_of : (xs : List Exchange) (o : VolumeData) (row : MayRelease (mine xs) o)
+    → (SomeOf (IsElsewhere o.meta.name row.uid) (claims_in (told_objects (mine xs))) → ⊥) → WasReadGone (mine xs) o row.reference row.uid
 read_of xs o row none = by row.why
   where
     by : WasReadGone (mine xs) o row.reference row.uid ⊎ (ToldClaim (IsElsewhere o.meta.name row.uid) (mine xs) × (is_reclaimed o ≡ true)) → WasReadGone (mine xs) o row.reference row.uid
     by (inl h) = h
     by (inr h) = absurd (none (elsewhere xs o row.uid h.0))
 
-claim_of : (xs : List Exchange) (o : VolumeData) (row : MayRelease (mine xs) o) → has_get (mine xs) ≡ false → SomeOf (IsElsewhere o.meta.name row.uid) (claims_in (told_objects (mine xs))) × (is_reclaimed o ≡ true)
+claim_of : (xs : List Exchange) (o : VolumeData) (row : MayRelease (mine xs) o) → has_get (mine xs) ≡ false
+    → SomeOf (IsElsewhere o.meta.name row.uid) (claims_in (told_objects (mine xs))) × (is_reclaimed o ≡ true)
 claim_of xs o row none = by row.why
   where
-    by : WasReadGone (mine xs) o row.reference row.uid ⊎ (ToldClaim (IsElsewhere o.meta.name row.uid) (mine xs) × (is_reclaimed o ≡ true)) → SomeOf (IsElsewhere o.meta.name row.uid) (claims_in (told_objects (mine xs))) × (is_reclaimed o ≡ true)
+    by : WasReadGone (mine xs) o row.reference row.uid ⊎ (ToldClaim (IsElsewhere o.meta.name row.uid) (mine xs) × (is_reclaimed o ≡ true))
+        → SomeOf (IsElsewhere o.meta.name row.uid) (claims_in (told_objects (mine xs))) × (is_reclaimed o ≡ true)
     by (inl h) = absurd (unread xs o row.reference row.uid none h)
     by (inr h) = (elsewhere xs o row.uid h.0, h.1)
 
@@ -103,19 +172,31 @@ read x v row none = read_first x v row (read_of (read_after x v) v row none)
 pub released_examples : ReleasedExamples
 released_examples = record {
   releases_after_reading_none = (own_kind seats.Binder (read_after (finds_none key_c) taken_a), (refl, inr (inl (refl, inl (record { version = refl; placed = refl; named = refl }, none)))));
-  releases_after_reading_other_uid = (own_kind seats.Binder (read_after (finds key_c (Claim other_c)) taken_a), (refl, inr (inl (refl, inl (record { version = refl; placed = refl; named = refl }, other)))));
-  releases_reclaimed_of_claim_elsewhere = (own_kind seats.Binder (tells_both elsewhere_c reclaimed_a), (refl, inr (inl (refl, inl (record { version = refl; placed = refl; named = refl }, reclaimed)))));
-  releases_with_other_calls_since = (own_kind seats.Binder (tells_claim d ∷ read_after (finds_none key_c) taken_a), (refl, inr (inr (inl (refl, inl (record { version = refl; placed = refl; named = refl }, since))))));
+  releases_after_reading_other_uid = (
+    own_kind seats.Binder (read_after (finds key_c (Claim other_c)) taken_a),
+    (refl, inr (inl (refl, inl (record { version = refl; placed = refl; named = refl }, other)))),
+  );
+  releases_reclaimed_of_claim_elsewhere =
+      (own_kind seats.Binder (tells_both elsewhere_c reclaimed_a), (refl, inr (inl (refl, inl (record { version = refl; placed = refl; named = refl }, reclaimed)))));
+  releases_with_other_calls_since = (
+    own_kind seats.Binder (tells_claim d ∷ read_after (finds_none key_c) taken_a),
+    (refl, inr (inr (inl (refl, inl (record { version = refl; placed = refl; named = refl }, since))))),
+  );
   releases_ended_is_refused = λ l. true≢false (sole (release_at (read_after (finds_none key_c) failed_a) (Some 4) l.1)).1.live;
-  releases_without_uid_is_refused = λ l. differ is_none (uid_in (read_after (finds_none key_c) prebound_a) prebound_a (sole (release_at (read_after (finds_none key_c) prebound_a) (Some 4) l.1)).1) refl refl;
+  releases_without_uid_is_refused = λ l. differ is_none (uid_in (read_after (finds_none key_c) prebound_a) prebound_a
+      (sole (release_at (read_after (finds_none key_c) prebound_a) (Some 4) l.1)).1) refl refl;
   releases_without_reference_is_refused = λ l. differ is_none (sole (release_at (read_after (finds_none key_c) a) (Some 3) l.1)).1.refers refl refl;
   read_before_told_is_refused = λ l. too_early (sole (release_at (tells_volume taken_a ∷ finds_none key_c ∷ []) (Some 4) l.1)).1;
   read_that_found_the_claim_is_refused = λ l. found (read (finds key_c (Claim c)) taken_a (sole (release_at (read_after (finds key_c (Claim c)) taken_a) (Some 4) l.1)).1 (λ h. (sole h).named refl));
   read_of_other_key_is_refused = λ l. other_key (read (finds_none key_d) taken_a (sole (release_at (read_after (finds_none key_d) taken_a) (Some 4) l.1)).1 (λ h. h));
-  read_without_answer_is_refused = λ l. true≢false (sym (read (unheard (finds_none key_c)) taken_a (sole (release_at (read_after (unheard (finds_none key_c)) taken_a) (Some 4) l.1)).1 (λ h. h)).live.0);
-  absence_in_a_list_is_refused = λ l. (claim_of (read_after (lists kinds.PersistentVolumeClaim [] 9) taken_a) taken_a (sole (release_at (read_after (lists kinds.PersistentVolumeClaim [] 9) taken_a) (Some 4) l.1)).1 refl).0;
-  read_before_told_with_uid_is_refused = λ l. neither (λ o. uid_too_late o.1) (neither (λ o. differ (is_version 4) o.0.version refl refl) (λ h. h)) (release_at (tells_volume taken_a ∷ finds_none key_c ∷ tells_volume a ∷ []) (Some 4) l.1);
-  read_after_other_volume_is_refused = λ l. neither (λ o. after_other o.1) (neither (λ o. differ (is_version 4) o.0.version refl refl) (λ h. h)) (release_at (tells_volume taken_a ∷ finds_none key_c ∷ tells_volume earlier_a ∷ []) (Some 4) l.1);
+  read_without_answer_is_refused = λ l. true≢false (sym
+      (read (unheard (finds_none key_c)) taken_a (sole (release_at (read_after (unheard (finds_none key_c)) taken_a) (Some 4) l.1)).1 (λ h. h)).live.0);
+  absence_in_a_list_is_refused = λ l. (claim_of (read_after (lists kinds.PersistentVolumeClaim [] 9) taken_a) taken_a
+      (sole (release_at (read_after (lists kinds.PersistentVolumeClaim [] 9) taken_a) (Some 4) l.1)).1 refl).0;
+  read_before_told_with_uid_is_refused = λ l. neither (λ o. uid_too_late o.1) (neither (λ o. differ (is_version 4) o.0.version refl refl) (λ h. h))
+      (release_at (tells_volume taken_a ∷ finds_none key_c ∷ tells_volume a ∷ []) (Some 4) l.1);
+  read_after_other_volume_is_refused = λ l. neither (λ o. after_other o.1) (neither (λ o. differ (is_version 4) o.0.version refl refl) (λ h. h))
+      (release_at (tells_volume taken_a ∷ finds_none key_c ∷ tells_volume earlier_a ∷ []) (Some 4) l.1);
   elsewhere_without_provisioner_is_refused = λ l. true≢false (sym (away elsewhere_c deleted_with_claim l.1).reclaimed);
   elsewhere_with_policy_retain_is_refused = λ l. true≢false (sym (away elsewhere_c provisioned_a l.1).reclaimed);
   claim_without_volume_is_refused = λ l. (away c reclaimed_a l.1).claim.named refl;
@@ -135,7 +216,15 @@ released_examples = record {
     since = record { live = refl; reference = ref_c; uid = uid_c; refers = refl; known = refl; why = inl (inr (inl ((refl, refl, tt), inl (refl, inl referring)))) }
 
     other : MayRelease (mine (read_after (finds key_c (Claim other_c)) taken_a)) taken_a
-    other = record { live = refl; reference = ref_c; uid = uid_c; refers = refl; known = refl; why = inl (inl ((refl, refl, λ e. differ (λ u. is_uid u uid_c) (sym e) refl refl), inl (refl, inl referring))) }
+    other = record {
+      live = refl;
+      reference = ref_c;
+      uid = uid_c;
+      refers = refl;
+      known = refl;
+      why =
+          inl (inl ((refl, refl, λ e. differ (λ u. is_uid u uid_c) (sym e) refl refl), inl (refl, inl referring)));
+    }
 
     reclaimed : MayRelease (mine (tells_both elsewhere_c reclaimed_a)) reclaimed_a
     reclaimed = record { live = refl; reference = ref_c; uid = uid_c; refers = refl; known = refl; why = inr (inl (refl, inl (record { claim = refl; named = not_none; other = b_is_not_a })), refl) }
@@ -150,14 +239,16 @@ released_examples = record {
     other_key r = differ (λ n. bytes_eq n (codes "d")) (ap (λ q. name_read (key_read q)) r.live.1 ∙ sym (ap name_of r.row.refers)) refl refl
 
     uid_too_late : MayRelease (mine (tells_volume taken_a ∷ finds_none key_c ∷ tells_volume a ∷ [])) taken_a → ⊥
-    uid_too_late row = neither (λ h. not_get h.0.1 refl) (neither (λ h. differ is_none (sole (told_volumes (IsReferring taken_a row.reference) (mine (tells_volume a ∷ [])) h.1)).refers refl refl) (neither (λ h. h.1) (λ h. h)))
+    uid_too_late row = neither (λ h. not_get h.0.1 refl)
+        (neither (λ h. differ is_none (sole (told_volumes (IsReferring taken_a row.reference) (mine (tells_volume a ∷ [])) h.1)).refers refl refl) (neither (λ h. h.1) (λ h. h)))
         (read_of (tells_volume taken_a ∷ finds_none key_c ∷ tells_volume a ∷ []) taken_a row (λ h. h))
 
     not_same : IsSameObject taken_a.meta earlier_a.meta → ⊥
     not_same s = differ (λ u. is_uid u (uid_of_serial 1)) (s.first ∙ sym s.second) refl refl
 
     after_other : MayRelease (mine (tells_volume taken_a ∷ finds_none key_c ∷ tells_volume earlier_a ∷ [])) taken_a → ⊥
-    after_other row = neither (λ h. not_get h.0.1 refl) (neither (λ h. not_same (sole (told_volumes (IsReferring taken_a row.reference) (mine (tells_volume earlier_a ∷ [])) h.1)).same) (neither (λ h. h.1) (λ h. h)))
+    after_other row = neither (λ h. not_get h.0.1 refl)
+        (neither (λ h. not_same (sole (told_volumes (IsReferring taken_a row.reference) (mine (tells_volume earlier_a ∷ [])) h.1)).same) (neither (λ h. h.1) (λ h. h)))
         (read_of (tells_volume taken_a ∷ finds_none key_c ∷ tells_volume earlier_a ∷ []) taken_a row (λ h. h))
 
     other_uid : Away (naming (codes "b") other_c) reclaimed_a → ⊥
@@ -165,7 +256,8 @@ released_examples = record {
 
 -- Unbind
 
-unbind_at : (xs : List Exchange) (new : VolumeData) (given : Option ℕ) → AtVolume (mine xs) new given (λ o. MayUnbind (mine xs) o new) → SomeOf (λ o. IsWrittenAt given new.meta.namespace new.meta.name o.meta × MayUnbind (mine xs) o new) (volumes_in (told_objects (mine xs)))
+unbind_at : (xs : List Exchange) (new : VolumeData) (given : Option ℕ) → AtVolume (mine xs) new given (λ o. MayUnbind (mine xs) o new)
+    → SomeOf (λ o. IsWrittenAt given new.meta.namespace new.meta.name o.meta × MayUnbind (mine xs) o new) (volumes_in (told_objects (mine xs)))
 unbind_at xs new given h = volume_row (λ o. MayUnbind (mine xs) o new) (mine xs) new given h
 
 unbinding : (xs : List Exchange) (o new : VolumeData) (row : MayUnbind (mine xs) o new) → SomeOf (IsElsewhere o.meta.name row.uid) (claims_in (told_objects (mine xs)))
@@ -193,7 +285,8 @@ unbind_examples = record {
   unbinds_from_claim_without_volume_is_refused = λ l. (unbind c taken_a (unbound_volume taken_a) (Some 4) l.1).claim.named refl;
   unbinds_from_claim_of_this_volume_is_refused = λ l. (unbind (naming (codes "a") c) taken_a (unbound_volume taken_a) (Some 4) l.1).claim.other refl;
   unbinds_from_other_claim_is_refused = λ l. other_uid (unbind (naming (codes "b") other_c) taken_a (unbound_volume taken_a) (Some 4) l.1);
-  unbinds_from_claim_never_told_is_refused = λ l. unbinding (tells_volume taken_a ∷ []) taken_a (unbound_volume taken_a) (sole (unbind_at (tells_volume taken_a ∷ []) (unbound_volume taken_a) (Some 4) l.1)).1;
+  unbinds_from_claim_never_told_is_refused =
+      λ l. unbinding (tells_volume taken_a ∷ []) taken_a (unbound_volume taken_a) (sole (unbind_at (tells_volume taken_a ∷ []) (unbound_volume taken_a) (Some 4) l.1)).1;
   keeps_controllers_name_is_refused = λ l. differ (λ v. not (is_unreferred v)) (unbind elsewhere_c taken_a (with_reference (Some name_c) taken_a) (Some 4) l.1).row.change refl refl;
   drops_users_name_is_refused = λ l. differ is_unreferred (unbind elsewhere_c taken_prebound (with_reference None taken_prebound) (Some 3) l.1).row.change refl refl;
   unbinds_at_other_version_is_refused = λ l. differ (is_version 3) (unbind elsewhere_c taken_a (unbound_volume taken_a) (Some 3) l.1).written.version refl refl;
@@ -213,7 +306,8 @@ unbind_examples = record {
 abbrev MayLoseAt : List Exchange → Modes → Option Amount → Option ℕ → Type 0
 MayLoseAt xs modes got given = AtClaimKey (mine xs) key_c given (λ o. MayLose (mine xs) o modes got)
 
-lose_at : (xs : List Exchange) (modes : Modes) (got : Option Amount) (given : Option ℕ) → MayLoseAt xs modes got given → SomeOf (λ o. IsWrittenAt given (codes "default") (codes "c") o.meta × MayLose (mine xs) o modes got) (claims_in (told_objects (mine xs)))
+lose_at : (xs : List Exchange) (modes : Modes) (got : Option Amount) (given : Option ℕ) → MayLoseAt xs modes got given
+    → SomeOf (λ o. IsWrittenAt given (codes "default") (codes "c") o.meta × MayLose (mine xs) o modes got) (claims_in (told_objects (mine xs)))
 lose_at xs modes got given h = claim_status_row (λ o. MayLose (mine xs) o modes got) (mine xs) key_c given h
 
 -- a row of a claim that names a volume
@@ -225,7 +319,8 @@ lost_read xs o row named = by row.why
     by (inr h) = h
 
 no_lost_read : (xs : List Exchange) (o : ClaimData) → has_get (mine xs) ≡ false → WasReadLost (mine xs) o → ⊥
-no_lost_read xs o none h = never_read (volume_key o.volume_name) (IsNotCarrying o) (mine xs) none (after_tells (ToldClaim (IsCompletedVersion o)) (TellsLive (volume_key o.volume_name) (IsNotCarrying o)) (mine xs) h)
+no_lost_read xs o none h = never_read (volume_key o.volume_name) (IsNotCarrying o) (mine xs) none (after_tells (ToldClaim (IsCompletedVersion o))
+    (TellsLive (volume_key o.volume_name) (IsNotCarrying o)) (mine xs) h)
 
 abbrev reads_after : Exchange → ClaimData → List Exchange
 reads_after x o = x ∷ tells_claim o ∷ []
@@ -235,24 +330,37 @@ lost_live x (inl h) = h.0
 lost_live x (inr (inl h)) = absurd (not_get h.0.1 refl)
 lost_live x (inr (inr h)) = absurd h
 
-lost_by : (x : Exchange) → SomeOf (λ o. IsWrittenAt (Some 7) (codes "default") (codes "c") o.meta × MayLose (mine (reads_after x bound_c)) o once (Some (amount 5))) (bound_c ∷ []) → TellsLive key_a (IsNotCarrying bound_c) (entry_of seats.Binder x)
+lost_by : (x : Exchange) → SomeOf (λ o. IsWrittenAt (Some 7) (codes "default") (codes "c") o.meta × MayLose (mine (reads_after x bound_c)) o once
+    (Some (amount 5))) (bound_c ∷ []) → TellsLive key_a (IsNotCarrying bound_c) (entry_of seats.Binder x)
 lost_by x h = lost_live x (lost_read (reads_after x bound_c) bound_c (sole h).1 refl)
 
 pub lost_examples : LostExamples
 lost_examples = record {
-  loses_claim_without_volume = (own_kind seats.Binder (tells_claim nameless_c ∷ []), (refl, inl (refl, inl (record { version = refl; placed = refl; named = refl }, record { completed = refl; why = inl refl; same_modes = refl; same_amount = refl }))));
+  loses_claim_without_volume = (
+    own_kind seats.Binder (tells_claim nameless_c ∷ []),
+    (refl, inl (refl, inl (record { version = refl; placed = refl; named = refl }, record { completed = refl; why = inl refl; same_modes = refl; same_amount = refl }))),
+  );
   loses_after_reading_none = (own_kind seats.Binder (reads_after (finds_none key_a) bound_c), (refl, inr (inl (refl, inl (record { version = refl; placed = refl; named = refl }, none)))));
-  loses_after_reading_other_uid = (own_kind seats.Binder (reads_after (finds key_a (Volume bound_for_other)) bound_c), (refl, inr (inl (refl, inl (record { version = refl; placed = refl; named = refl }, other)))));
+  loses_after_reading_other_uid = (
+    own_kind seats.Binder (reads_after (finds key_a (Volume bound_for_other)) bound_c),
+    (refl, inr (inl (refl, inl (record { version = refl; placed = refl; named = refl }, other)))),
+  );
   loses_before_completion_is_refused = λ l. true≢false (sym (sole (lose_at (tells_claim (naming [] uncompleted_c) ∷ []) once (Some (amount 5)) (Some 7) l.1)).1.completed);
-  loses_unread_is_refused = λ l. no_lost_read (tells_claim bound_c ∷ []) bound_c refl (lost_read (tells_claim bound_c ∷ []) bound_c (sole (lose_at (tells_claim bound_c ∷ []) once (Some (amount 5)) (Some 7) l.1)).1 refl);
+  loses_unread_is_refused = λ l. no_lost_read (tells_claim bound_c ∷ []) bound_c refl (lost_read (tells_claim bound_c ∷ []) bound_c
+      (sole (lose_at (tells_claim bound_c ∷ []) once (Some (amount 5)) (Some 7) l.1)).1 refl);
   read_that_found_it_carrying_is_refused = λ l. carrying (lost_by (finds key_a (Volume bound_a)) (lose_at (reads_after (finds key_a (Volume bound_a)) bound_c) once (Some (amount 5)) (Some 7) l.1));
   read_that_found_it_free_is_refused = λ l. free (lost_by (finds key_a (Volume a)) (lose_at (reads_after (finds key_a (Volume a)) bound_c) once (Some (amount 5)) (Some 7) l.1));
   read_before_told_is_refused = λ l. too_early (sole (lose_at (tells_claim bound_c ∷ finds_none key_a ∷ []) once (Some (amount 5)) (Some 7) l.1)).1;
-  read_before_told_completed_is_refused = λ l. neither (λ o. uncompleted o.1) (neither (λ o. true≢false (sym o.1.completed)) (λ h. h)) (lose_at (tells_claim bound_c ∷ finds_none key_a ∷ tells_claim uncompleted_c ∷ []) once (Some (amount 5)) (Some 7) l.1);
-  read_after_other_claim_is_refused = λ l. neither (λ o. after_other o.1) (neither (λ o. differ (is_version 7) o.0.version refl refl) (λ h. h)) (lose_at (tells_claim bound_c ∷ finds_none key_a ∷ tells_claim earlier_c ∷ []) once (Some (amount 5)) (Some 7) l.1);
-  read_of_other_key_is_refused = λ l. differ (λ q. bytes_eq (name_read (key_read q)) (codes "b")) (lost_by (finds_none key_b) (lose_at (reads_after (finds_none key_b) bound_c) once (Some (amount 5)) (Some 7) l.1)).1 refl refl;
+  read_before_told_completed_is_refused =
+      λ l. neither (λ o. uncompleted o.1) (neither (λ o. true≢false (sym o.1.completed)) (λ h. h))
+      (lose_at (tells_claim bound_c ∷ finds_none key_a ∷ tells_claim uncompleted_c ∷ []) once (Some (amount 5)) (Some 7) l.1);
+  read_after_other_claim_is_refused = λ l. neither (λ o. after_other o.1) (neither (λ o. differ (is_version 7) o.0.version refl refl) (λ h. h))
+      (lose_at (tells_claim bound_c ∷ finds_none key_a ∷ tells_claim earlier_c ∷ []) once (Some (amount 5)) (Some 7) l.1);
+  read_of_other_key_is_refused = λ l. differ (λ q. bytes_eq (name_read (key_read q)) (codes "b")) (lost_by (finds_none key_b)
+      (lose_at (reads_after (finds_none key_b) bound_c) once (Some (amount 5)) (Some 7) l.1)).1 refl refl;
   read_without_answer_is_refused = λ l. true≢false (sym (lost_by (unheard (finds_none key_a)) (lose_at (reads_after (unheard (finds_none key_a)) bound_c) once (Some (amount 5)) (Some 7) l.1)).0);
-  absence_in_a_list_is_refused = λ l. not_get (lost_by (lists kinds.PersistentVolume [] 9) (lose_at (reads_after (lists kinds.PersistentVolume [] 9) bound_c) once (Some (amount 5)) (Some 7) l.1)).1 refl;
+  absence_in_a_list_is_refused = λ l. not_get (lost_by (lists kinds.PersistentVolume [] 9)
+      (lose_at (reads_after (lists kinds.PersistentVolume [] 9) bound_c) once (Some (amount 5)) (Some 7) l.1)).1 refl;
   other_modes_is_refused = λ l. differ (λ m. m.rox) (sole (lose_at (reads_after (finds_none key_a) bound_c) (record once { rox = true }) (Some (amount 5)) (Some 7) l.1)).1.same_modes refl refl;
   other_amount_is_refused = λ l. differ is_none (sole (lose_at (reads_after (finds_none key_a) bound_c) once None (Some 7) l.1)).1.same_amount refl refl;
   other_version_is_refused = λ l. differ (is_version 6) (sole (lose_at (reads_after (finds_none key_a) bound_c) once (Some (amount 5)) (Some 6) l.1)).0.version refl refl;
@@ -265,7 +373,13 @@ lost_examples = record {
     none = record { completed = refl; why = inr (inl ((refl, refl, tt), inl (refl, inl itself))); same_modes = refl; same_amount = refl }
 
     other : MayLose (mine (reads_after (finds key_a (Volume bound_for_other)) bound_c)) bound_c once (Some (amount 5))
-    other = record { completed = refl; why = inr (inl ((refl, refl, (uid_of_serial 9, refl, λ e. differ (λ u. is_uid u uid_c) e refl refl)), inl (refl, inl itself))); same_modes = refl; same_amount = refl }
+    other = record {
+      completed = refl;
+      why =
+          inr (inl ((refl, refl, (uid_of_serial 9, refl, λ e. differ (λ u. is_uid u uid_c) e refl refl)), inl (refl, inl itself)));
+      same_modes = refl;
+      same_amount = refl;
+    }
 
     carrying : TellsLive key_a (IsNotCarrying bound_c) (entry_of seats.Binder (finds key_a (Volume bound_a))) → ⊥
     carrying t = t.2.2 t.2.1
@@ -277,12 +391,14 @@ lost_examples = record {
     too_early row = neither (λ h. not_get h.0.1 refl) (neither (λ h. h.1) (λ h. h)) (lost_read (tells_claim bound_c ∷ finds_none key_a ∷ []) bound_c row refl)
 
     uncompleted : MayLose (mine (tells_claim bound_c ∷ finds_none key_a ∷ tells_claim uncompleted_c ∷ [])) bound_c once (Some (amount 5)) → ⊥
-    uncompleted row = neither (λ h. not_get h.0.1 refl) (neither (λ h. true≢false (sym (sole (told_claims (IsCompletedVersion bound_c) (mine (tells_claim uncompleted_c ∷ [])) h.1)).completed)) (neither (λ h. h.1) (λ h. h)))
+    uncompleted row = neither (λ h. not_get h.0.1 refl)
+        (neither (λ h. true≢false (sym (sole (told_claims (IsCompletedVersion bound_c) (mine (tells_claim uncompleted_c ∷ [])) h.1)).completed)) (neither (λ h. h.1) (λ h. h)))
         (lost_read (tells_claim bound_c ∷ finds_none key_a ∷ tells_claim uncompleted_c ∷ []) bound_c row refl)
 
     not_same : IsSameObject bound_c.meta earlier_c.meta → ⊥
     not_same s = differ (λ u. is_uid u uid_c) (s.first ∙ sym s.second) refl refl
 
     after_other : MayLose (mine (tells_claim bound_c ∷ finds_none key_a ∷ tells_claim earlier_c ∷ [])) bound_c once (Some (amount 5)) → ⊥
-    after_other row = neither (λ h. not_get h.0.1 refl) (neither (λ h. not_same (sole (told_claims (IsCompletedVersion bound_c) (mine (tells_claim earlier_c ∷ [])) h.1)).same) (neither (λ h. h.1) (λ h. h)))
+    after_other row = neither (λ h. not_get h.0.1 refl)
+        (neither (λ h. not_same (sole (told_claims (IsCompletedVersion bound_c) (mine (tells_claim earlier_c ∷ [])) h.1)).same) (neither (λ h. h.1) (λ h. h)))
         (lost_read (tells_claim bound_c ∷ finds_none key_a ∷ tells_claim earlier_c ∷ []) bound_c row refl)

@@ -5,18 +5,18 @@ use Rattle.std.specs.List.{list_all}
 use Rattle.std.proofs.lemmas.Slice.Eq.{bytes_eq-Decides}
 use Rattle.std.specs.declared.cmp.Ordering.{Ordering}
 use Rattle.std.specs.declared.cmp.Ordering.TheVariants.{Less, Greater}
-use Rattle.kube_types.specs.declared.names.Due.{Due}
-use Rattle.kube_types.specs.declared.names.Due.TheVariants as dues
-use Rattle.kube_types.specs.declared.key.Key.{Key}
-use Rattle.kube_types.specs.declared.parts.Kind.TheVariants as kinds
-use Rattle.kube_types.specs.declared.objects.Claim.{Claim as ClaimData}
-use Rattle.kube_types.specs.declared.objects.Node.{Node as NodeData}
-use Rattle.kube_types.specs.declared.objects.Volume.{Volume as VolumeData}
-use Rattle.kube_types.specs.declared.objects.Object.{Object}
-use Rattle.kube_types.specs.declared.objects.Object.TheVariants.{Class, Node, Volume, Claim, Pod}
-use Rattle.kube_types.specs.Keys.{key_of, key_cmp, row_at, rows_of}
-use Rattle.kube_types.proofs.KeyOrder.{row_at_key, row_at-put_row}
-use Rattle.kube_types.specs.Uids.{uid_text}
+use Rattle.kube_parts.specs.declared.names.Due.{Due}
+use Rattle.kube_parts.specs.declared.names.Due.TheVariants as dues
+use Rattle.kube_objects.specs.declared.key.Key.{Key}
+use Rattle.kube_parts.specs.declared.parts.Kind.TheVariants as kinds
+use Rattle.kube_objects.specs.declared.objects.Claim.{Claim as ClaimData}
+use Rattle.kube_objects.specs.declared.objects.Node.{Node as NodeData}
+use Rattle.kube_objects.specs.declared.objects.Volume.{Volume as VolumeData}
+use Rattle.kube_objects.specs.declared.objects.Object.{Object}
+use Rattle.kube_objects.specs.declared.objects.Object.TheVariants.{Class, Node, Volume, Claim, Pod}
+use Rattle.kube_objects.specs.Keys.{key_of, key_cmp, row_at, rows_of}
+use Rattle.kube_objects.proofs.KeyOrder.{row_at_key, row_at-put_row}
+use Rattle.kube_parts.specs.Uids.{uid_text}
 use Rattle.binder_model.specs.ObjectKeys.{node_key, volume_key}
 use Rattle.binder_model.specs.BindWrites.{next_write, claim_write}
 use Rattle.binder_model.specs.BinderDue.{volume_due, reference_due, referred_due, claim_with, claim_due, named_due, completed_due}
@@ -27,7 +27,35 @@ use Rattle.binder_model.specs.Choice.{Share, TakesVolume, IsProvisioned, AreShar
 use Rattle.binder_model.specs.Due.{or_due, IsDue, CanPrepare, shares_are_served}
 use Rattle.model_laws.specs.Worked.{no_setup}
 use Rattle.model_examples.specs.Samples.{fast, uid_c, late, a, c, d, n1, key_a, waiting_p, selecting_c}
-use Rattle.model_examples.specs.DueActions.{pvc_volume, with_rows, small_setup, pod_of_two, searched, pending_a, done_rows, two_rows, pool_setup, searched_two, searched_large, large_d, near_a, far_free_a, beside_completed, selected_a, unselected_b, small_d, smaller_first, VolumeDueExamples, ReclaimDueExamples, ClaimDueExamples, ClassDueExamples, ProvisionDueExamples, PodDueExamples, PrepareDueExamples, SettledExamples}
+use Rattle.model_examples.specs.DueActions.{
+  pvc_volume,
+  with_rows,
+  small_setup,
+  pod_of_two,
+  searched,
+  pending_a,
+  done_rows,
+  two_rows,
+  pool_setup,
+  searched_two,
+  searched_large,
+  large_d,
+  near_a,
+  far_free_a,
+  beside_completed,
+  selected_a,
+  unselected_b,
+  small_d,
+  smaller_first,
+  VolumeDueExamples,
+  ReclaimDueExamples,
+  ClaimDueExamples,
+  ClassDueExamples,
+  ProvisionDueExamples,
+  PodDueExamples,
+  PrepareDueExamples,
+  SettledExamples,
+}
 use Rattle.model_examples.proofs.Tellings.{IsIn, one, differ, sole, found_in, node_in, nodes_in}
 use Rattle.model_examples.proofs.Eligible.{same_at}
 
@@ -199,7 +227,8 @@ unshared (TakesVolume place ∷ shares) h given = differ is_none h.0.candidate.t
 unshared (IsProvisioned ∷ shares) h given = true≢false (sym given)
 
 ungiven : CanPrepare small_setup (with_rows searched) waiting_p → ⊥
-ungiven can = unshared can.shares (subst (λ n. AreShares searched n [] (c ∷ []) can.shares) (sym e) can.serves.shared) (subst (λ n. shares_are_served small_setup (with_rows searched) n (c ∷ []) can.shares ≡ true) (sym e) can.given)
+ungiven can = unshared can.shares (subst (λ n. AreShares searched n [] (c ∷ []) can.shares) (sym e) can.serves.shared)
+    (subst (λ n. shares_are_served small_setup (with_rows searched) n (c ∷ []) can.shares ≡ true) (sym e) can.given)
   where
     e : n1 ≡ can.node
     e = sole (node_in can.node searched (found_in (node_key can.node.meta.name) (Node can.node) searched can.there))
@@ -221,17 +250,21 @@ second_ungiven (IsProvisioned ∷ TakesVolume place ∷ shares) h given = differ
 second_ungiven (IsProvisioned ∷ IsProvisioned ∷ shares) h given = true≢false (sym given)
 
 too_large : CanPrepare pool_setup (with_rows searched_large) pod_of_two → ⊥
-too_large can = second_ungiven can.shares (subst (λ n. AreShares searched_large n [] (c ∷ large_d ∷ []) can.shares) (sym e) can.serves.shared) (subst (λ n. shares_are_served pool_setup (with_rows searched_large) n (c ∷ large_d ∷ []) can.shares ≡ true) (sym e) can.given)
+too_large can = second_ungiven can.shares (subst (λ n. AreShares searched_large n [] (c ∷ large_d ∷ []) can.shares) (sym e) can.serves.shared)
+    (subst (λ n. shares_are_served pool_setup (with_rows searched_large) n (c ∷ large_d ∷ []) can.shares ≡ true) (sym e) can.given)
   where
     e : n1 ≡ can.node
     e = only_node searched_large can.node refl can.there
 
 near_is_best : (other : ℕ) (u : VolumeData) → IsCandidate (beside_completed near_a) d (Some n1) false [] other u → match_cmp d near_a u ≢ Greater
-near_is_best zero u candidate greater = differ is_greater (sym (subst (λ v. match_cmp d near_a v ≡ Greater) (sym (same_at (beside_completed near_a) 0 near_a u refl candidate.there)) greater)) refl refl
+near_is_best zero u candidate greater =
+    differ is_greater (sym (subst (λ v. match_cmp d near_a v ≡ Greater) (sym (same_at (beside_completed near_a) 0 near_a u refl candidate.there)) greater)) refl refl
 near_is_best (suc other) u candidate greater = differ is_none candidate.there refl refl
 
 far_from_node : CanPrepare pool_setup (with_rows (beside_completed far_free_a)) pod_of_two → ⊥
-far_from_node can = true≢false (sym (subst (λ n. list_all (fixed_admit (beside_completed far_free_a) n) (claims_of (beside_completed far_free_a) pod_of_two) ≡ true) (sym (only_node (beside_completed far_free_a) can.node refl can.there)) can.serves.fixed))
+far_from_node can = true≢false (sym
+    (subst (λ n. list_all (fixed_admit (beside_completed far_free_a) n) (claims_of (beside_completed far_free_a) pod_of_two) ≡ true)
+    (sym (only_node (beside_completed far_free_a) can.node refl can.there)) can.serves.fixed))
 
 -- the smaller claim takes the volume that the larger one selects
 smaller_has : IsCandidate smaller_first small_d (Some n1) false [] 0 selected_a
@@ -239,9 +272,11 @@ smaller_has = record { there = refl; open_to = refl; own = refl; eligible = refl
 
 none_is_left : (place other : ℕ) → IsBestAt smaller_first small_d (Some n1) false [] place → IsBestAt smaller_first selecting_c (Some n1) false (place ∷ []) other → ⊥
 none_is_left zero zero first best = true≢false best.candidate.open_to
-none_is_left zero (suc zero) first best = true≢false (sym (subst (λ v. eligible v selecting_c (Some n1) ≡ true) (sym (same_at smaller_first 1 unselected_b best.volume refl best.candidate.there)) best.candidate.eligible))
+none_is_left zero (suc zero) first best =
+    true≢false (sym (subst (λ v. eligible v selecting_c (Some n1) ≡ true) (sym (same_at smaller_first 1 unselected_b best.volume refl best.candidate.there)) best.candidate.eligible))
 none_is_left zero (suc (suc other)) first best = differ is_none best.candidate.there refl refl
-none_is_left (suc zero) other first best = first.first 0 selected_a smaller_has (subst (λ v. match_cmp small_d v selected_a ≡ Greater) (same_at smaller_first 1 unselected_b first.volume refl first.candidate.there) refl)
+none_is_left (suc zero) other first best =
+    first.first 0 selected_a smaller_has (subst (λ v. match_cmp small_d v selected_a ≡ Greater) (same_at smaller_first 1 unselected_b first.volume refl first.candidate.there) refl)
 none_is_left (suc (suc place)) other first best = differ is_none first.candidate.there refl refl
 
 smaller_shares : (shares : List Share) → AreShares smaller_first n1 [] (small_d ∷ selecting_c ∷ []) shares → ⊥
@@ -252,7 +287,8 @@ smaller_shares (TakesVolume place ∷ IsProvisioned ∷ shares) h = true≢false
 smaller_shares (TakesVolume place ∷ TakesVolume other ∷ shares) h = none_is_left place other h.0 h.1.0
 
 smaller_takes : CanPrepare no_setup (with_rows smaller_first) pod_of_two → ⊥
-smaller_takes can = smaller_shares can.shares (subst (λ n. AreShares smaller_first n [] (small_d ∷ selecting_c ∷ []) can.shares) (sym (only_node smaller_first can.node refl can.there)) can.serves.shared)
+smaller_takes can = smaller_shares can.shares
+    (subst (λ n. AreShares smaller_first n [] (small_d ∷ selecting_c ∷ []) can.shares) (sym (only_node smaller_first can.node refl can.there)) can.serves.shared)
 
 abbrev without_node : List Object
 without_node = Class late ∷ Claim c ∷ Pod waiting_p ∷ []
@@ -260,10 +296,40 @@ without_node = Class late ∷ Claim c ∷ Pod waiting_p ∷ []
 pub prepare_due_examples : PrepareDueExamples
 prepare_due_examples = record {
   prepare_by_provisioning = (refl, record { node = n1; there = refl; shares = IsProvisioned ∷ []; serves = record { fixed = refl; shared = (none_there, refl, tt) }; given = refl });
-  prepare_by_volume = (refl, record { node = n1; there = refl; shares = TakesVolume 0 ∷ []; serves = record { fixed = refl; shared = (record { volume = a; candidate = record { there = refl; open_to = refl; own = refl; eligible = refl }; first = a_is_best }, tt) }; given = refl });
-  prepare_by_provisioning_two = (refl, record { node = n1; there = refl; shares = IsProvisioned ∷ IsProvisioned ∷ []; serves = record { fixed = refl; shared = (no_volume searched_two c refl, refl, (no_volume searched_two d refl, refl, tt)) }; given = refl });
+  prepare_by_volume = (
+    refl,
+    record {
+      node = n1;
+      there = refl;
+      shares = TakesVolume 0 ∷ [];
+      serves = record
+          { fixed = refl; shared = (record { volume = a; candidate = record { there = refl; open_to = refl; own = refl; eligible = refl }; first = a_is_best }, tt) };
+      given = refl;
+    },
+  );
+  prepare_by_provisioning_two = (
+    refl,
+    record {
+      node = n1;
+      there = refl;
+      shares = IsProvisioned ∷ IsProvisioned ∷ [];
+      serves =
+          record { fixed = refl; shared = (no_volume searched_two c refl, refl, (no_volume searched_two d refl, refl, tt)) };
+      given = refl;
+    },
+  );
   no_prepare_where_the_second_is_too_large = too_large;
-  prepare_beside_a_completed_claim = (refl, record { node = n1; there = refl; shares = TakesVolume 0 ∷ []; serves = record { fixed = refl; shared = (record { volume = near_a; candidate = record { there = refl; open_to = refl; own = refl; eligible = refl }; first = near_is_best }, tt) }; given = refl });
+  prepare_beside_a_completed_claim = (
+    refl,
+    record {
+      node = n1;
+      there = refl;
+      shares = TakesVolume 0 ∷ [];
+      serves =
+          record { fixed = refl; shared = (record { volume = near_a; candidate = record { there = refl; open_to = refl; own = refl; eligible = refl }; first = near_is_best }, tt) };
+      given = refl;
+    },
+  );
   no_prepare_far_from_the_volume_of_a_completed_claim = far_from_node;
   no_prepare_where_the_smaller_claim_takes_the_volume = smaller_takes;
   no_prepare_where_pool_is_small = ungiven;
@@ -286,7 +352,13 @@ settled_examples = record {
   empty_is_settled = λ key o e. absurd (differ is_none e refl refl);
   bound_is_settled = λ key o e. done o (found_in key o done_rows e);
   unbound_is_not = λ s. differ is_none (s key_a (Volume pending_a) refl) refl refl;
-  first_is_the_volume = record { object = Volume pending_a; there = refl; due = refl; first = λ earlier o e less. absurd (none_before earlier o (row_at_key earlier o two_rows e) less (found_in earlier o two_rows e)) };
+  first_is_the_volume = record {
+    object = Volume pending_a;
+    there = refl;
+    due = refl;
+    first = λ earlier o e less. absurd
+        (none_before earlier o (row_at_key earlier o two_rows e) less (found_in earlier o two_rows e));
+  };
   first_is_not_the_claim = λ r. differ is_none (r.first key_a (Volume pending_a) refl refl) refl refl;
   other_action_is_not_first = λ r. differ is_available_due (sym (subst (λ o. IsDue no_setup (with_rows two_rows) o (Some dues.Bound)) (sym (one (Volume pending_a) r.object r.there)) r.due)) refl refl;
   none_is_not_first = λ s. differ is_none (s key_a (Volume pending_a) refl) refl refl;

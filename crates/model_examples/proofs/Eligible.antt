@@ -3,11 +3,11 @@ use Rattle.std.proofs.Common.{sym, refl, ap, subst, true≢false, ◌∙◌}
 use Rattle.std.specs.Prelude.{ℕ, zero, suc, ◌≡◌, ◌≢◌, Bool, true, false, List, [], ◌∷◌, Option, Some, None, is_none, codes, slice_get}
 use Rattle.std.specs.declared.cmp.Ordering.{Ordering}
 use Rattle.std.specs.declared.cmp.Ordering.TheVariants.{Greater}
-use Rattle.kube_types.specs.declared.parts.Kind.TheVariants as kinds
-use Rattle.kube_types.specs.declared.objects.Volume.{Volume as VolumeData}
-use Rattle.kube_types.specs.declared.objects.Object.{Object}
-use Rattle.kube_types.specs.declared.objects.Object.TheVariants.{Volume}
-use Rattle.kube_types.specs.Keys.{rows_of}
+use Rattle.kube_parts.specs.declared.parts.Kind.TheVariants as kinds
+use Rattle.kube_objects.specs.declared.objects.Volume.{Volume as VolumeData}
+use Rattle.kube_objects.specs.declared.objects.Object.{Object}
+use Rattle.kube_objects.specs.declared.objects.Object.TheVariants.{Volume}
+use Rattle.kube_objects.specs.Keys.{rows_of}
 use Rattle.binder_model.specs.Matching.{eligible, match_cmp, only_own_passes, IsCandidate}
 use Rattle.model_examples.specs.Samples.{a, c, n1}
 use Rattle.model_examples.specs.Eligible.{EligibleExamples, PreferenceExamples, BestExamples, in_zone, sized, large_own, two_free, one_own, far_rows}
@@ -83,7 +83,8 @@ volume_or v (Some (Volume u)) = u
 volume_or v o = v
 
 -- the volume at a place is the one that stands there
-pub same_at : (rows : List Object) (place : ℕ) (v u : VolumeData) → slice_get (rows_of kinds.PersistentVolume rows) place ≡ Some (Volume v) → slice_get (rows_of kinds.PersistentVolume rows) place ≡ Some (Volume u) → v ≡ u
+pub same_at : (rows : List Object) (place : ℕ) (v u : VolumeData) → slice_get (rows_of kinds.PersistentVolume rows) place ≡ Some (Volume v)
+    → slice_get (rows_of kinds.PersistentVolume rows) place ≡ Some (Volume u) → v ≡ u
 same_at rows place v u e f = ap (volume_or v) (sym e) ∙ ap (volume_or v) f
 
 not_before : (v u w : VolumeData) → u ≡ w → is_greater (match_cmp c v u) ≡ false → match_cmp c v w ≢ Greater

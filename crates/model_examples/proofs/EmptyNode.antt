@@ -2,8 +2,8 @@
 use Rattle.std.proofs.Common.{sym, refl, inl, inr, true≢false}
 use Rattle.std.specs.Prelude.{[], ◌∷◌, Some, codes}
 use mathlib.Core.Bool.{xor}
-use Rattle.kube_types.specs.Uids.{uid_of_serial}
-use Rattle.kube_types.specs.declared.parts.VolumePhase.TheVariants as volumes
+use Rattle.kube_parts.specs.Uids.{uid_of_serial}
+use Rattle.kube_parts.specs.declared.parts.VolumePhase.TheVariants as volumes
 use Rattle.call_types.specs.declared.request.SeatKind.TheVariants as seats
 use Rattle.binder_model.specs.Store.{with_meta, at_version, marked_object, admitted_object, without_status, created_object, with_status_of, updated_object, leaves, leaves_at_once, lacks_node}
 use Rattle.binder_model.specs.Fields.{faulty, volume_fault, claim_fault, pod_fault, kind_fault, create_fault, changed_field, update_fault}
@@ -62,7 +62,8 @@ l11 : Licensed seats.Agent (e10 ∷ []) e11.request
 l11 = ((refl, tt), (refl, tt))
 
 unread : Licensed seats.Agent (e11 ∷ e10 ∷ []) e12.request → ⊥
-unread l = neither (λ h. true≢false (sym (sole (told_pods (NamesClaim (e11 ∷ e10 ∷ []) (claim_key (codes "default") (codes "c"))) (e11 ∷ e10 ∷ []) h)).scheduled)) (neither (λ h. h.1) (neither (λ h. h.1) (λ h. h))) l.1
+unread l = neither (λ h. true≢false (sym
+    (sole (told_pods (NamesClaim (e11 ∷ e10 ∷ []) (claim_key (codes "default") (codes "c"))) (e11 ∷ e10 ∷ []) h)).scheduled)) (neither (λ h. h.1) (neither (λ h. h.1) (λ h. h))) l.1
 
 unscheduled : WasShownReady (e13 ∷ e12 ∷ e11 ∷ e10 ∷ []) [] (uid_of_serial 7) (uid_of_serial 2 ∷ []) [] (e13 ∷ e12 ∷ e11 ∷ []) → ⊥
 unscheduled s = neither (λ h. sole h.1.1) (neither (λ h. sole h.1.1) (neither (λ h. waiting (sole h.1.1)) (λ h. h))) s
@@ -74,15 +75,24 @@ refused : Licensed seats.Agent (e13 ∷ e12 ∷ e11 ∷ e10 ∷ []) e14.request 
 refused l = unscheduled l.1.shown
 
 until : Run no_setup until_list
-unfolding effect on_devices device_answer unless_stale take_node with_mounts outcome create update update_status delete delete_of get list with_status written_if_fits refuse refuse_field refuse_rule guard_on guard breaks create_fault kind_fault volume_fault claim_fault pod_fault update_fault changed_field faulty lacks_node admitted_object without_status created_object with_status_of updated_object at_version marked_object leaves leaves_at_once with_meta reply_to world_after reply_of after log_after xor
+unfolding effect on_devices device_answer unless_stale take_node with_mounts outcome create update update_status delete delete_of get list
+    with_status written_if_fits refuse refuse_field refuse_rule guard_on guard breaks create_fault kind_fault volume_fault claim_fault pod_fault
+    update_fault changed_field faulty lacks_node admitted_object without_status created_object with_status_of updated_object at_version marked_object
+    leaves leaves_at_once with_meta reply_to world_after reply_of after log_after xor
 until = (((((((((((tt, refl, tt), refl, tt), refl, l3), refl, l4), refl, l5), refl, l6), refl, l7), refl, l8), refl, tt), refl, l10), refl, l11)
 
 is_history : IsHistory no_setup history
-unfolding effect on_devices device_answer unless_stale take_node with_mounts outcome create update update_status delete delete_of get list with_status written_if_fits refuse refuse_field refuse_rule guard_on guard breaks create_fault kind_fault volume_fault claim_fault pod_fault update_fault changed_field faulty lacks_node admitted_object without_status created_object with_status_of updated_object at_version marked_object leaves leaves_at_once with_meta reply_to world_after reply_of after log_after xor
+unfolding effect on_devices device_answer unless_stale take_node with_mounts outcome create update update_status delete delete_of get list
+    with_status written_if_fits refuse refuse_field refuse_rule guard_on guard breaks create_fault kind_fault volume_fault claim_fault pod_fault
+    update_fault changed_field faulty lacks_node admitted_object without_status created_object with_status_of updated_object at_version marked_object
+    leaves leaves_at_once with_meta reply_to world_after reply_of after log_after xor
 is_history = ((((((((((((((((((tt, refl), refl), refl), refl), refl), refl), refl), refl), refl), refl), refl), refl), refl), refl), refl), refl), refl), refl)
 
 unsafe : Safe no_setup history → ⊥
-unfolding effect on_devices device_answer unless_stale take_node with_mounts outcome create update update_status delete delete_of get list with_status written_if_fits refuse refuse_field refuse_rule guard_on guard breaks create_fault kind_fault volume_fault claim_fault pod_fault update_fault changed_field faulty lacks_node admitted_object without_status created_object with_status_of updated_object at_version marked_object leaves leaves_at_once with_meta reply_to world_after reply_of after log_after xor
+unfolding effect on_devices device_answer unless_stale take_node with_mounts outcome create update update_status delete delete_of get list
+    with_status written_if_fits refuse refuse_field refuse_rule guard_on guard breaks create_fault kind_fault volume_fault claim_fault pod_fault
+    update_fault changed_field faulty lacks_node admitted_object without_status created_object with_status_of updated_object at_version marked_object
+    leaves leaves_at_once with_meta reply_to world_after reply_of after log_after xor
 unsafe s = true≢false (sym (s.0.claims (claim_key (codes "default") (codes "c")) c_deleted refl refl))
 
 pub mounts_on_no_node : MountsOnNoNode

@@ -11,7 +11,8 @@ use Rattle.binder_model.specs.World.{effect, on_devices, reply_to, world_after, 
 use Rattle.model_examples.specs.GuardRuns.{GuardOfReleased}
 
 pub guard_of_released : GuardOfReleased
-unfolding effect on_devices device_answer outcome update edit edit_to edited_object refuse refuse_field refuse_rule guard_on guard breaks create_fault kind_fault volume_fault update_fault changed_field faulty lacks_node with_status_of updated_object leaves with_meta reply_to world_after reply_of after log_after xor
+unfolding effect on_devices device_answer outcome update edit edit_to edited_object refuse refuse_field refuse_rule guard_on guard breaks
+    create_fault kind_fault volume_fault update_fault changed_field faulty lacks_node with_status_of updated_object leaves with_meta reply_to world_after reply_of after log_after xor
 guard_of_released = record {
   clears_released = refl;
   keeps_mark = refl;

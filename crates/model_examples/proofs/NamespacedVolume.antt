@@ -20,9 +20,11 @@ is_refused (replies.Refused r) = true
 is_refused r = false
 
 no_run : Run no_setup history → ⊥
-unfolding effect on_devices device_answer outcome create refuse_field refuse_rule guard_on guard breaks create_fault kind_fault volume_fault faulty lacks_node admitted_object without_status created_object with_meta reply_to world_after reply_of after log_after xor
+unfolding effect on_devices device_answer outcome create refuse_field refuse_rule guard_on guard breaks create_fault kind_fault volume_fault faulty
+    lacks_node admitted_object without_status created_object with_meta reply_to world_after reply_of after log_after xor
 no_run r = differ is_refused (sym r.0.0.0.0.0.0.1) refl refl
 
 pub namespaced_volume_is_refused : NamespacedVolumeIsRefused
-unfolding effect on_devices device_answer outcome create refuse_field refuse_rule guard_on guard breaks create_fault kind_fault volume_fault class_fault faulty lacks_node admitted_object without_status created_object with_meta reply_to world_after reply_of after log_after xor
+unfolding effect on_devices device_answer outcome create refuse_field refuse_rule guard_on guard breaks create_fault kind_fault volume_fault
+    class_fault faulty lacks_node admitted_object without_status created_object with_meta reply_to world_after reply_of after log_after xor
 namespaced_volume_is_refused = record { volume = refl; volume_by_controller = refl; class = refl; node = refl; is_no_run = no_run }

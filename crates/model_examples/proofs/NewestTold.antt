@@ -1,7 +1,7 @@
 -- What was told, computed.
 use Rattle.std.proofs.Common.{sym, refl, inl, inr, true≢false}
 use Rattle.std.specs.Prelude.{◌==◌, is_some}
-use Rattle.kube_types.specs.Keys.{meta_of}
+use Rattle.kube_objects.specs.Keys.{meta_of}
 use Rattle.model_examples.specs.NewestTold.{ToldExamples, NewestExamples}
 use Rattle.model_examples.proofs.Tellings.{differ, neither}
 

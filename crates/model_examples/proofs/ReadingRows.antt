@@ -1,23 +1,88 @@
 -- Reads, computed.
 use Rattle.std.proofs.Common.{sym, refl, ap, subst, inl, inr, true≢false, ◌∙◌}
 use Rattle.std.specs.Prelude.{ℕ, ◌≡◌, ◌==◌, Bool, true, List, [], ◌∷◌, Option, Some, is_none, codes, bytes_eq, unwrap_or}
-use Rattle.kube_types.specs.declared.key.Key.{Key}
-use Rattle.kube_types.specs.declared.parts.Kind.TheVariants as kinds
-use Rattle.kube_types.specs.declared.uid.Uid.{Uid}
-use Rattle.kube_types.specs.declared.objects.Ref.{Ref}
-use Rattle.kube_types.specs.declared.objects.Volume.{Volume as VolumeData}
-use Rattle.kube_types.specs.declared.objects.Object.TheVariants.{Volume, Claim}
-use Rattle.kube_types.specs.Keys.{kind_index}
-use Rattle.kube_types.specs.Bindings.{is_uid, ref_uid, is_completed}
+use Rattle.kube_objects.specs.declared.key.Key.{Key}
+use Rattle.kube_parts.specs.declared.parts.Kind.TheVariants as kinds
+use Rattle.kube_parts.specs.declared.uid.Uid.{Uid}
+use Rattle.kube_objects.specs.declared.objects.Ref.{Ref}
+use Rattle.kube_objects.specs.declared.objects.Volume.{Volume as VolumeData}
+use Rattle.kube_objects.specs.declared.objects.Object.TheVariants.{Volume, Claim}
+use Rattle.kube_objects.specs.Keys.{kind_index}
+use Rattle.kube_objects.specs.Bindings.{is_uid, ref_uid, is_completed}
 use Rattle.call_types.specs.declared.entry.Entry.{Entry}
 use Rattle.call_types.specs.declared.request.SeatKind.TheVariants as seats
 use Rattle.binder_model.specs.ObjectKeys.{volume_key, claim_key, pod_key}
 use Rattle.binder_model.specs.OpsLicence.{IsToErase}
 use Rattle.binder_model.specs.Told.{SomeOf, ToldPod, IsNewest, newest, object_of}
 use Rattle.binder_model.specs.Reading.{AsksForClaim, AsksForVolume, AsksForEnded, NamesClaim, IsDeletingIn, LacksUid}
-use Rattle.model_examples.specs.Samples.{Exchange, seat_of, unheard, lists, lists_in, tells_volume, tells_claim, tells_pod, tells_both, finds, takes, node_1, a, c, other_c, naming, key_a, key_c, uid_c, ref_c, taken_a, released_a, completed_c, bound_c, p, waiting_p, key_b, key_d, prebound_a, ended_a, still_bound_a, never_bound_a, deleting_a}
-use Rattle.model_examples.specs.ReadingRows.{FollowsExamples, ListExamples, listed, watched, gone_from, leaving_c, WatchExamples, watched_classes, BinderGetExamples, released_later, OpsGetExamples, AgentGetExamples, elsewhere_p, OtherGetExamples}
-use Rattle.model_examples.proofs.Tellings.{differ, neither, sole, own_kind, told_claims, told_pods, newest_volume, newest_claim, same_volume, volumes_in, claims_in, pods_in, told_objects, has_version, name_of}
+use Rattle.model_examples.specs.Samples.{
+  Exchange,
+  seat_of,
+  unheard,
+  lists,
+  lists_in,
+  tells_volume,
+  tells_claim,
+  tells_pod,
+  tells_both,
+  finds,
+  takes,
+  node_1,
+  a,
+  c,
+  other_c,
+  naming,
+  key_a,
+  key_c,
+  uid_c,
+  ref_c,
+  taken_a,
+  released_a,
+  completed_c,
+  bound_c,
+  p,
+  waiting_p,
+  key_b,
+  key_d,
+  prebound_a,
+  ended_a,
+  still_bound_a,
+  never_bound_a,
+  deleting_a,
+}
+use Rattle.model_examples.specs.ReadingRows.{
+  FollowsExamples,
+  ListExamples,
+  listed,
+  watched,
+  gone_from,
+  leaving_c,
+  WatchExamples,
+  watched_classes,
+  BinderGetExamples,
+  released_later,
+  OpsGetExamples,
+  AgentGetExamples,
+  elsewhere_p,
+  OtherGetExamples,
+}
+use Rattle.model_examples.proofs.Tellings.{
+  differ,
+  neither,
+  sole,
+  own_kind,
+  told_claims,
+  told_pods,
+  newest_volume,
+  newest_claim,
+  same_volume,
+  volumes_in,
+  claims_in,
+  pods_in,
+  told_objects,
+  has_version,
+  name_of,
+}
 
 pub follows_examples : FollowsExamples
 follows_examples = record {
@@ -67,7 +132,8 @@ list_examples = record {
   lists_all_pods_after_those_of_namespace = (own_kind seats.ClaimProtect (lists_in (codes "default") [] 9 ∷ tells_claim leaving_c ∷ []), (refl, tt));
   namespace_of_no_claim_is_refused = λ l. l.1;
   namespace_of_staying_claim_is_refused = λ l. true≢false (sym (sole (told_claims (IsDeletingIn (codes "default")) (seat_of seats.ClaimProtect (tells_claim c ∷ [])) l.1)).deleting);
-  other_namespace_is_refused = λ l. differ (λ n. bytes_eq n (codes "default")) (sole (told_claims (IsDeletingIn (codes "x")) (seat_of seats.ClaimProtect (tells_claim leaving_c ∷ [])) l.1)).placed refl refl;
+  other_namespace_is_refused = λ l. differ (λ n. bytes_eq n (codes "default")) (sole
+      (told_claims (IsDeletingIn (codes "x")) (seat_of seats.ClaimProtect (tells_claim leaving_c ∷ [])) l.1)).placed refl refl;
   claims_of_namespace_is_refused = λ l. l.1;
   pods_of_namespace_by_scheduler_is_refused = λ l. l.1;
 }
@@ -114,7 +180,8 @@ pub record Refers (told : List Entry) (key : Key) (v : VolumeData) : Type 0 wher
   pub lacking : LacksUid (object_of (newest told key)) uid
 
 refers_of : (told : List Entry) (key : Key) (r : AsksForClaim told key) (v : VolumeData) → v ≡ r.volume → Refers told key v
-refers_of told key r v e = subst (λ v. Refers told key v) (sym e) (record { newest_volume = r.newest_volume; reference = r.reference; refers = r.refers; named = r.named; uid = r.uid; known = r.known; lacking = r.lacking })
+refers_of told key r v e = subst (λ v. Refers told key v) (sym e) (record
+    { newest_volume = r.newest_volume; reference = r.reference; refers = r.refers; named = r.named; uid = r.uid; known = r.known; lacking = r.lacking })
 
 -- one volume was told
 refers : (xs : List Exchange) (key : Key) (v : VolumeData) → volumes_in (told_objects (mine xs)) ≡ v ∷ [] → AsksForClaim (mine xs) key → Refers (mine xs) key v
@@ -128,8 +195,16 @@ no_volume xs key e r = subst (λ vs. SomeOf (λ v. v ≡ r.volume) vs) e (volume
 
 pub binder_get_examples : BinderGetExamples
 binder_get_examples = record {
-  reads_claim_that_is_unknown = (own_kind seats.Binder (tells_volume taken_a ∷ []), inl (record { volume = taken_a; newest_volume = refl; reference = ref_c; refers = refl; named = refl; uid = uid_c; known = refl; lacking = tt }));
-  reads_claim_known_with_other_uid = (own_kind seats.Binder (tells_both other_c taken_a), inl (record { volume = taken_a; newest_volume = refl; reference = ref_c; refers = refl; named = refl; uid = uid_c; known = refl; lacking = λ e. differ (λ u. is_uid u uid_c) (sym e) refl refl }));
+  reads_claim_that_is_unknown = (
+    own_kind seats.Binder (tells_volume taken_a ∷ []),
+    inl
+        (record { volume = taken_a; newest_volume = refl; reference = ref_c; refers = refl; named = refl; uid = uid_c; known = refl; lacking = tt }),
+  );
+  reads_claim_known_with_other_uid = (
+    own_kind seats.Binder (tells_both other_c taken_a),
+    inl
+        (record { volume = taken_a; newest_volume = refl; reference = ref_c; refers = refl; named = refl; uid = uid_c; known = refl; lacking = λ e. differ (λ u. is_uid u uid_c) (sym e) refl refl }),
+  );
   claim_known_with_the_uid_is_refused = λ l. neither (λ r. known (refers (tells_both c taken_a) key_c taken_a refl r)) uncompleted l.1;
   claim_without_uid_in_reference_is_refused = λ l. neither (λ r. no_uid (refers (tells_volume prebound_a ∷ []) key_c prebound_a refl r)) (no_claim (tells_volume prebound_a ∷ []) key_c refl) l.1;
   claim_of_no_volume_is_refused = λ l. neither (λ r. differ is_none (refers (tells_volume a ∷ []) key_c a refl r).refers refl refl) (no_claim (tells_volume a ∷ []) key_c refl) l.1;
@@ -168,7 +243,8 @@ binder_get_examples = record {
     older_claim : AsksForVolume (mine (lists kinds.PersistentVolumeClaim [] 9 ∷ tells_claim completed_c ∷ [])) key_a → ⊥
     older_claim r =
         let e = sole (claims_asked (lists kinds.PersistentVolumeClaim [] 9 ∷ tells_claim completed_c ∷ []) key_a r) in
-        differ is_none (subst (λ x. IsNewest (mine (lists kinds.PersistentVolumeClaim [] 9 ∷ tells_claim completed_c ∷ [])) (claim_key x.meta.namespace x.meta.name) (Claim x)) (sym e) r.newest_claim) refl refl
+        differ is_none (subst (λ x. IsNewest (mine (lists kinds.PersistentVolumeClaim [] 9 ∷ tells_claim completed_c ∷ []))
+        (claim_key x.meta.namespace x.meta.name) (Claim x)) (sym e) r.newest_claim) refl refl
 
 -- ops
 
@@ -180,7 +256,11 @@ ended_of xs v newest r = subst (λ v. IsToErase v) (same_volume (ops xs) key_a r
 
 pub ops_get_examples : OpsGetExamples
 ops_get_examples = record {
-  reads_ended_volume = (own_kind seats.Ops (tells_volume ended_a ∷ []), record { volume = ended_a; newest_volume = refl; ended = record { ended = refl; policy = refl; referring = refl; staying = refl } });
+  reads_ended_volume = (
+    own_kind seats.Ops (tells_volume ended_a ∷ []),
+    record
+        { volume = ended_a; newest_volume = refl; ended = record { ended = refl; policy = refl; referring = refl; staying = refl } },
+  );
   bound_volume_is_refused = λ l. true≢false (sym (ended_of (tells_volume still_bound_a ∷ []) still_bound_a refl l.1).ended);
   policy_retain_is_refused = λ l. true≢false (sym (ended_of (tells_volume released_a ∷ []) released_a refl l.1).policy);
   volume_without_uid_is_refused = λ l. true≢false (sym (ended_of (tells_volume never_bound_a ∷ []) never_bound_a refl l.1).referring);
@@ -204,11 +284,15 @@ agent_get_examples = record {
   reads_volume_of_claim = (own_kind seats.Agent (finds key_c (Claim bound_c) ∷ []), inr (inl (refl, refl)));
   pod_never_told_is_refused = λ l. neither (pods_asked (takes node_1 1 ∷ []) key_c) (neither (λ h. h.1) (λ h. h)) l.1;
   node_never_taken_is_refused = λ l. neither (λ h. true≢false (sym (sole (pods_asked (tells_pod p ∷ []) key_c h)).taken)) (neither (λ h. h.1) (λ h. h)) l.1;
-  pod_on_other_node_is_refused = λ l. neither (λ h. true≢false (sym (sole (pods_asked (tells_pod elsewhere_p ∷ takes node_1 1 ∷ []) key_c h)).taken)) (neither (λ h. h.1) (neither (λ h. h.1) (λ h. h))) l.1;
-  claim_of_pod_on_no_node_is_refused = λ l. neither (λ h. true≢false (sym (sole (pods_asked (tells_pod waiting_p ∷ takes [] 1 ∷ []) key_c h)).scheduled)) (neither (λ h. h.1) (neither (λ h. h.1) (λ h. h))) l.1;
+  pod_on_other_node_is_refused = λ l. neither (λ h. true≢false (sym (sole (pods_asked (tells_pod elsewhere_p ∷ takes node_1 1 ∷ []) key_c h)).taken))
+      (neither (λ h. h.1) (neither (λ h. h.1) (λ h. h))) l.1;
+  claim_of_pod_on_no_node_is_refused = λ l. neither (λ h. true≢false
+      (sym (sole (pods_asked (tells_pod waiting_p ∷ takes [] 1 ∷ []) key_c h)).scheduled)) (neither (λ h. h.1) (neither (λ h. h.1) (λ h. h))) l.1;
   claim_of_other_name_is_refused = λ l. neither (λ h. true≢false (sym (sole (pods_asked (tells_pod p ∷ takes node_1 1 ∷ []) key_d h)).named)) (neither (λ h. h.1) (neither (λ h. h.1) (λ h. h))) l.1;
-  claim_of_other_namespace_is_refused = λ l. neither (λ h. differ (λ n. bytes_eq n (codes "x")) (sole (pods_asked (tells_pod p ∷ takes node_1 1 ∷ []) (claim_key (codes "x") (codes "c")) h)).placed refl refl) (neither (λ h. h.1) (neither (λ h. h.1) (λ h. h))) l.1;
-  other_kind_is_refused = λ l. neither (λ h. differ (λ k. kind_index k == 4) (sole (pods_asked (tells_pod p ∷ takes node_1 1 ∷ []) (pod_key (codes "default") (codes "c")) h)).kind refl refl) (neither (λ h. h.1) (neither (λ h. h.1) (λ h. h))) l.1;
+  claim_of_other_namespace_is_refused = λ l. neither (λ h. differ (λ n. bytes_eq n (codes "x"))
+      (sole (pods_asked (tells_pod p ∷ takes node_1 1 ∷ []) (claim_key (codes "x") (codes "c")) h)).placed refl refl) (neither (λ h. h.1) (neither (λ h. h.1) (λ h. h))) l.1;
+  other_kind_is_refused = λ l. neither (λ h. differ (λ k. kind_index k == 4)
+      (sole (pods_asked (tells_pod p ∷ takes node_1 1 ∷ []) (pod_key (codes "default") (codes "c")) h)).kind refl refl) (neither (λ h. h.1) (neither (λ h. h.1) (λ h. h))) l.1;
   other_volume_is_refused = λ l. neither (pods_asked (finds key_c (Claim bound_c) ∷ []) key_b) (neither (λ h. differ (λ k. bytes_eq k.name (codes "b")) h.1 refl refl) (λ h. h)) l.1;
   volume_of_listed_claim_is_refused = λ l. neither (pods_asked (tells_claim bound_c ∷ []) key_a) (neither (λ h. h.1) (λ h. h)) l.1;
   read_without_answer_is_refused = λ l. neither (pods_asked (unheard (finds key_c (Claim bound_c)) ∷ []) key_a) (neither (λ h. true≢false (sym h.0)) (λ h. h)) l.1;

@@ -1,8 +1,8 @@
 -- Refusals, computed.
 use Rattle.std.proofs.Common.{sym, refl, inl}
 use Rattle.std.specs.Prelude.{Bool, true, false, [], ◌∷◌, Some, codes}
-use Rattle.kube_types.specs.declared.names.LicenceRule.{LicenceRule}
-use Rattle.kube_types.specs.declared.names.LicenceRule.TheVariants as rules
+use Rattle.kube_parts.specs.declared.names.LicenceRule.{LicenceRule}
+use Rattle.kube_parts.specs.declared.names.LicenceRule.TheVariants as rules
 use Rattle.call_types.specs.declared.request.SeatKind.{SeatKind}
 use Rattle.call_types.specs.declared.request.SeatKind.TheVariants as seats
 use Rattle.binder_model.specs.At.{IsWrittenAt}

@@ -1,17 +1,17 @@
 -- The parts of what is safe, computed.
 use Rattle.std.proofs.Common.{sym, refl, ap, subst, inl, inr, true≢false, ◌∙◌}
 use Rattle.std.specs.Prelude.{ℕ, ◌≡◌, ◌⊎◌, true, false, List, [], ◌∷◌, Some, is_none, is_some, codes, bytes_eq}
-use Rattle.kube_types.specs.declared.key.Key.{Key}
-use Rattle.kube_types.specs.declared.parts.VolumePhase.TheVariants as volumes
-use Rattle.kube_types.specs.declared.parts.ClaimPhase.TheVariants as claims
-use Rattle.kube_types.specs.declared.objects.Claim.{Claim as ClaimData}
-use Rattle.kube_types.specs.declared.objects.Volume.{Volume as VolumeData}
-use Rattle.kube_types.specs.declared.objects.Object.{Object}
-use Rattle.kube_types.specs.declared.objects.Object.TheVariants.{Volume, Claim}
-use Rattle.kube_types.specs.Keys.{row_at, key_of}
-use Rattle.kube_types.specs.Uids.{uid_of_serial}
-use Rattle.kube_types.specs.Bindings.{is_bound, is_completed, carries, is_uid}
-use Rattle.kube_types.proofs.KeyOrder.{row_at_key}
+use Rattle.kube_objects.specs.declared.key.Key.{Key}
+use Rattle.kube_parts.specs.declared.parts.VolumePhase.TheVariants as volumes
+use Rattle.kube_parts.specs.declared.parts.ClaimPhase.TheVariants as claims
+use Rattle.kube_objects.specs.declared.objects.Claim.{Claim as ClaimData}
+use Rattle.kube_objects.specs.declared.objects.Volume.{Volume as VolumeData}
+use Rattle.kube_objects.specs.declared.objects.Object.{Object}
+use Rattle.kube_objects.specs.declared.objects.Object.TheVariants.{Volume, Claim}
+use Rattle.kube_objects.specs.Keys.{row_at, key_of}
+use Rattle.kube_parts.specs.Uids.{uid_of_serial}
+use Rattle.kube_objects.specs.Bindings.{is_bound, is_completed, carries, is_uid}
+use Rattle.kube_objects.proofs.KeyOrder.{row_at_key}
 use Rattle.call_types.specs.declared.entry.Entry.{Entry}
 use Rattle.call_types.specs.declared.setup.Setup.{Setup}
 use Rattle.call_types.specs.declared.request.SeatKind.TheVariants as seats
@@ -26,8 +26,45 @@ use Rattle.binder_model.specs.World.{World, world, effect, on_devices, reply_to,
 use Rattle.binder_model.specs.Safe.{AreBindings, CountedAreBound, Counts, IsBoundTo, KeepsBound, KeepsMounted, Safe, is_mounted, IsEndedForDelete}
 use Rattle.model_laws.specs.Worked.{no_setup}
 use Rattle.model_examples.specs.Imported.{setup_of}
-use Rattle.model_examples.specs.Samples.{seat_of, finds, volume_at, a, c, d, in_phase, claim_at, key_a, key_c, taken_a, bound_a, released_a, bound_c, ended_a, failed_a, bound_for_other, leaving_bound_a, still_bound_a}
-use Rattle.model_examples.specs.SafePoints.{completing, completes, with_claim, lost_setup, BindingExamples, mounting, unmounted, LeavingExamples, next_a, no_uid_a, ErasedExamples, SafeExamples, loosens, erases_read, leaving_free_a, WholeExamples}
+use Rattle.model_examples.specs.Samples.{
+  seat_of,
+  finds,
+  volume_at,
+  a,
+  c,
+  d,
+  in_phase,
+  claim_at,
+  key_a,
+  key_c,
+  taken_a,
+  bound_a,
+  released_a,
+  bound_c,
+  ended_a,
+  failed_a,
+  bound_for_other,
+  leaving_bound_a,
+  still_bound_a,
+}
+use Rattle.model_examples.specs.SafePoints.{
+  completing,
+  completes,
+  with_claim,
+  lost_setup,
+  BindingExamples,
+  mounting,
+  unmounted,
+  LeavingExamples,
+  next_a,
+  no_uid_a,
+  ErasedExamples,
+  SafeExamples,
+  loosens,
+  erases_read,
+  leaving_free_a,
+  WholeExamples,
+}
 use Rattle.model_examples.proofs.Tellings.{one, differ, sole, found_in, claims_in, claim_in, volumes_in, volume_in, volume_of}
 
 -- the claims, and the volumes, that stand in literal rows
@@ -41,13 +78,16 @@ volumes_at key v rows e = volume_in v rows (found_in key (Volume v) rows e)
 
 pub leaving_examples : LeavingExamples
 leaving_examples = record {
-  bound_volume_stays = λ key v e bound. subst (λ k. is_some (row_at k (Volume released_a ∷ [])) ≡ true) (key_is key v (volumes_at key v (Volume bound_a ∷ []) e) (row_at_key key (Volume v) (Volume bound_a ∷ []) e)) refl;
+  bound_volume_stays = λ key v e bound. subst (λ k. is_some (row_at k (Volume released_a ∷ [])) ≡ true) (key_is key v
+      (volumes_at key v (Volume bound_a ∷ []) e) (row_at_key key (Volume v) (Volume bound_a ∷ []) e)) refl;
   free_volume_leaves = λ key v e bound. absurd (true≢false (sym (subst (λ u. is_bound u.phase ≡ true) (sym (sole (volumes_at key v (Volume a ∷ []) e))) bound)));
   bound_volume_leaves_is_unsafe = λ k. true≢false (sym (k key_a bound_a refl refl));
   bound_volume_for_another_is_unsafe = λ k. true≢false (sym (k key_a bound_a refl refl));
-  mounted_claim_stays = λ key x e mounted. subst (λ k. is_some (row_at k (Claim c ∷ [])) ≡ true) (claim_key_is key x (claims_at key x (Claim c ∷ []) e) (row_at_key key (Claim x) (Claim c ∷ []) e)) refl;
+  mounted_claim_stays = λ key x e mounted. subst (λ k. is_some (row_at k (Claim c ∷ [])) ≡ true) (claim_key_is key x
+      (claims_at key x (Claim c ∷ []) e) (row_at_key key (Claim x) (Claim c ∷ []) e)) refl;
   unmounted_claim_leaves = λ key x e mounted. absurd (true≢false (sym (subst (λ y. is_mounted unmounted.devices y ≡ true) (sym (sole (claims_at key x (Claim c ∷ []) e))) mounted)));
-  claim_leaves_beside_other_mount = λ key x e mounted. absurd (true≢false (sym (subst (λ y. is_mounted (mounting (uid_of_serial 8)).devices y ≡ true) (sym (sole (claims_at key x (Claim c ∷ []) e))) mounted)));
+  claim_leaves_beside_other_mount = λ key x e mounted. absurd (true≢false
+      (sym (subst (λ y. is_mounted (mounting (uid_of_serial 8)).devices y ≡ true) (sym (sole (claims_at key x (Claim c ∷ []) e))) mounted)));
   mounted_claim_leaves_is_unsafe = λ k. true≢false (sym (k key_c c refl refl));
 }
   where
@@ -61,10 +101,31 @@ leaving_examples = record {
 
 pub erased_examples : ErasedExamples
 erased_examples = record {
-  erased_while_released = record { volume = ended_a; last = refl; uid = uid_of_serial 1; known = refl; since = λ key v e known. subst (λ u. IsEndedForDelete u) (sole (volumes_at key v (Volume ended_a ∷ []) e)) (record { ended = refl; policy = refl }) };
-  erased_while_failed = record { volume = ended_a; last = refl; uid = uid_of_serial 1; known = refl; since = λ key v e known. subst (λ u. IsEndedForDelete u) (sole (volumes_at key v (Volume failed_a ∷ []) e)) (record { ended = refl; policy = refl }) };
+  erased_while_released = record {
+    volume = ended_a;
+    last = refl;
+    uid = uid_of_serial 1;
+    known = refl;
+    since = λ key v e known. subst
+        (λ u. IsEndedForDelete u) (sole (volumes_at key v (Volume ended_a ∷ []) e)) (record { ended = refl; policy = refl });
+  };
+  erased_while_failed = record {
+    volume = ended_a;
+    last = refl;
+    uid = uid_of_serial 1;
+    known = refl;
+    since = λ key v e known. subst
+        (λ u. IsEndedForDelete u) (sole (volumes_at key v (Volume failed_a ∷ []) e)) (record { ended = refl; policy = refl });
+  };
   erased_after_it_left = record { volume = ended_a; last = refl; uid = uid_of_serial 1; known = refl; since = λ key v e known. absurd (differ is_none e refl refl) };
-  erased_beside_next_volume = record { volume = ended_a; last = refl; uid = uid_of_serial 1; known = refl; since = λ key v e known. absurd (differ (λ u. is_uid u (uid_of_serial 12)) (ap (λ u. u.meta.uid) (sole (volumes_at key v (Volume next_a ∷ []) e)) ∙ known) refl refl) };
+  erased_beside_next_volume = record {
+    volume = ended_a;
+    last = refl;
+    uid = uid_of_serial 1;
+    known = refl;
+    since = λ key v e known. absurd
+        (differ (λ u. is_uid u (uid_of_serial 12)) (ap (λ u. u.meta.uid) (sole (volumes_at key v (Volume next_a ∷ []) e)) ∙ known) refl refl);
+  };
   nothing_erased = tt;
   never_read_is_unsafe = λ h. differ is_none h.last refl refl;
   listed_alone_is_unsafe = λ h. differ is_none h.last refl refl;
@@ -84,7 +145,8 @@ none_counts : (setup : Setup) (past : List Entry) → ((key : Key) (x : ClaimDat
 none_counts setup past none = record { bound = λ key x e counts. absurd (none key x e counts); apart = λ key other x y e f counts others same. absurd (none key x e counts) }
 
 -- where one claim stands, and is bound
-one_bound : (setup : Setup) (past : List Entry) (x : ClaimData) → ((key : Key) (y : ClaimData) → row_at key (rows_after setup past) ≡ Some (Claim y) → (x ≡ y) × (key_of (Claim y) ≡ key)) → IsBoundTo (rows_after setup past) x → AreBindings setup past
+one_bound : (setup : Setup) (past : List Entry) (x : ClaimData)
+    → ((key : Key) (y : ClaimData) → row_at key (rows_after setup past) ≡ Some (Claim y) → (x ≡ y) × (key_of (Claim y) ≡ key)) → IsBoundTo (rows_after setup past) x → AreBindings setup past
 one_bound setup past x at is = record {
   bound = λ key y e counts. subst (λ y. IsBoundTo (rows_after setup past) y) (at key y e).0 is;
   apart = λ key other y z e f counts others same. sym (at key y e).1 ∙ sym (ap (λ y. key_of (Claim y)) (at key y e).0) ∙ ap (λ y. key_of (Claim y)) (at other z f).0 ∙ (at other z f).1;
@@ -117,40 +179,60 @@ abbrev bound_then : Setup
 bound_then = with_claim (Volume bound_a ∷ [])
 
 too_early : CountedAreBound (with_claim (Volume taken_a ∷ [])) (completes c ∷ []) → ⊥
-unfolding effect on_devices device_answer outcome update update_status with_status written_if_fits refuse refuse_field refuse_rule guard_on update_fault changed_field create_fault kind_fault volume_fault claim_fault faulty lacks_node with_status_of updated_object at_version leaves with_meta reply_to world_after reply_of after log_after imported_object
+unfolding effect on_devices device_answer outcome update update_status with_status written_if_fits refuse refuse_field refuse_rule guard_on
+    update_fault changed_field create_fault kind_fault volume_fault claim_fault faulty lacks_node with_status_of updated_object at_version leaves
+    with_meta reply_to world_after reply_of after log_after imported_object
 too_early b = true≢false (sym (bound_of (Volume taken_a ∷ Claim (done 5) ∷ []) (done 5) taken_a (b key_c (done 5) refl (record { completed = refl; found = λ e. absurd (true≢false (sym e)) })) refl).1)
 
 not_completed : (key : Key) (x : ClaimData) (rows : List Object) → claims_in rows ≡ c ∷ [] → row_at key rows ≡ Some (Claim x) → is_completed x ≡ true → ⊥
 not_completed key x rows only e completed = true≢false (sym (subst (λ y. is_completed y ≡ true) (sym (sole (subst (λ ys. SomeOf (λ y. y ≡ x) ys) only (claims_at key x rows e)))) completed))
 
 before_completion : AreBindings bound_then []
-unfolding effect on_devices device_answer outcome update update_status with_status written_if_fits refuse refuse_field refuse_rule guard_on update_fault changed_field create_fault kind_fault volume_fault claim_fault faulty lacks_node with_status_of updated_object at_version leaves with_meta reply_to world_after reply_of after log_after imported_object
+unfolding effect on_devices device_answer outcome update update_status with_status written_if_fits refuse refuse_field refuse_rule guard_on
+    update_fault changed_field create_fault kind_fault volume_fault claim_fault faulty lacks_node with_status_of updated_object at_version leaves
+    with_meta reply_to world_after reply_of after log_after imported_object
 before_completion = none_counts bound_then [] (λ key x e counts. not_completed key x (Volume bound_a ∷ Claim c ∷ []) refl e counts.completed)
 
 after_bound : AreBindings bound_then (completes c ∷ [])
-unfolding effect on_devices device_answer outcome update update_status with_status written_if_fits refuse refuse_field refuse_rule guard_on update_fault changed_field create_fault kind_fault volume_fault claim_fault faulty lacks_node with_status_of updated_object at_version leaves with_meta reply_to world_after reply_of after log_after imported_object
-after_bound = one_bound bound_then (completes c ∷ []) (done 6) (λ key y e. (sole (claims_at key y (Volume bound_a ∷ Claim (done 6) ∷ []) e), row_at_key key (Claim y) (Volume bound_a ∷ Claim (done 6) ∷ []) e)) (record { volume = bound_a; there = refl; carries = refl; bound = refl })
+unfolding effect on_devices device_answer outcome update update_status with_status written_if_fits refuse refuse_field refuse_rule guard_on
+    update_fault changed_field create_fault kind_fault volume_fault claim_fault faulty lacks_node with_status_of updated_object at_version leaves
+    with_meta reply_to world_after reply_of after log_after imported_object
+after_bound = one_bound bound_then (completes c ∷ []) (done 6)
+    (λ key y e. (sole (claims_at key y (Volume bound_a ∷ Claim (done 6) ∷ []) e), row_at_key key (Claim y) (Volume bound_a ∷ Claim (done 6) ∷ []) e))
+    (record { volume = bound_a; there = refl; carries = refl; bound = refl })
 
 pub binding_examples : BindingExamples
-unfolding effect on_devices device_answer outcome update update_status with_status written_if_fits refuse refuse_field refuse_rule guard_on update_fault changed_field create_fault kind_fault volume_fault claim_fault faulty lacks_node with_status_of updated_object at_version leaves with_meta reply_to world_after reply_of after log_after imported_object
+unfolding effect on_devices device_answer outcome update update_status with_status written_if_fits refuse refuse_field refuse_rule guard_on
+    update_fault changed_field create_fault kind_fault volume_fault claim_fault faulty lacks_node with_status_of updated_object at_version leaves
+    with_meta reply_to world_after reply_of after log_after imported_object
 binding_examples = record {
   empty_world = none_counts no_setup [] (λ key x e counts. differ is_none e refl refl);
   claim_before_completion = none_counts (with_claim []) [] (λ key x e counts. not_completed key x (Claim c ∷ []) refl e counts.completed);
-  bound_in_an_import = one_bound import_setup [] bound_c (λ key y e. (sole (claims_at key y (Volume bound_a ∷ Claim bound_c ∷ []) e), row_at_key key (Claim y) (Volume bound_a ∷ Claim bound_c ∷ []) e)) (record { volume = bound_a; there = refl; carries = refl; bound = refl });
+  bound_in_an_import = one_bound import_setup [] bound_c (λ key y e.
+      (sole (claims_at key y (Volume bound_a ∷ Claim bound_c ∷ []) e), row_at_key key (Claim y) (Volume bound_a ∷ Claim bound_c ∷ []) e))
+      (record { volume = bound_a; there = refl; carries = refl; bound = refl });
   completed_after_bound = after_bound;
   completed_without_volume_is_unsafe = λ b. differ is_none (b key_c (done 3) refl (record { completed = refl; found = λ e. absurd (true≢false (sym e)) })).there refl refl;
-  completed_with_free_volume_is_unsafe = λ b. true≢false (sym (bound_of (Volume a ∷ Claim (done 4) ∷ []) (done 4) a (b key_c (done 4) refl (record { completed = refl; found = λ e. absurd (true≢false (sym e)) })) refl).0);
+  completed_with_free_volume_is_unsafe = λ b. true≢false (sym
+      (bound_of (Volume a ∷ Claim (done 4) ∷ []) (done 4) a (b key_c (done 4) refl (record { completed = refl; found = λ e. absurd (true≢false (sym e)) })) refl).0);
   completed_before_bound_is_unsafe = too_early;
-  released_under_claim_is_unsafe = λ b. true≢false (sym (bound_of (Volume (in_phase volumes.Released (volume_at 7 bound_a)) ∷ Claim (done 6) ∷ []) (done 6) (in_phase volumes.Released (volume_at 7 bound_a)) (b key_c (done 6) refl (record { completed = refl; found = λ e. absurd (true≢false (sym e)) })) refl).1);
+  released_under_claim_is_unsafe = λ b. true≢false (sym
+      (bound_of (Volume (in_phase volumes.Released (volume_at 7 bound_a)) ∷ Claim (done 6) ∷ []) (done 6)
+      (in_phase volumes.Released (volume_at 7 bound_a)) (b key_c (done 6) refl (record { completed = refl; found = λ e. absurd (true≢false (sym e)) })) refl).1);
   one_of_two_claims = λ key other x y e f counts others same. sym (at_c key x e counts.completed) ∙ at_c other y f others.completed;
-  two_claims_of_one_volume_are_unsafe = λ b. differ (λ k. bytes_eq k.name (codes "c")) (b key_c key_d (done 6) done_d refl refl (record { completed = refl; found = λ e. absurd (true≢false (sym e)) }) (record { completed = refl; found = λ e. absurd (true≢false (sym e)) }) refl) refl refl;
+  two_claims_of_one_volume_are_unsafe = λ b. differ (λ k. bytes_eq k.name (codes "c")) (b key_c key_d (done 6) done_d refl refl
+      (record { completed = refl; found = λ e. absurd (true≢false (sym e)) }) (record { completed = refl; found = λ e. absurd (true≢false (sym e)) }) refl) refl refl;
   completed_claim_counts = record { completed = refl; found = λ e. absurd (true≢false (sym e)) };
   claim_before_completion_does_not_count = λ k. true≢false (sym k.completed);
   lost_import_does_not_count = λ k. unbound bound_c (k.found refl) refl;
   lost_import_is_safe = none_counts lost_setup [] (λ key x e counts. lost (subst (λ y. Counts lost_setup [] y) (sym (sole (claims_at key x (Volume taken_a ∷ Claim lost_c ∷ []) e))) counts));
   lost_import_counts_once_bound = record { completed = refl; found = λ e. inl (record { volume = now_bound; there = refl; carries = refl; bound = refl }) };
-  lost_import_bound_is_safe = λ key x e counts. subst (λ y. IsBoundTo (Volume now_bound ∷ Claim lost_c ∷ []) y) (sole (claims_at key x (Volume now_bound ∷ Claim lost_c ∷ []) e)) (record { volume = now_bound; there = refl; carries = refl; bound = refl });
-  lost_import_bound_and_released_is_unsafe = λ b. true≢false (sym (bound_of (Volume (in_phase volumes.Released (volume_at 9 taken_a)) ∷ Claim lost_c ∷ []) lost_c (in_phase volumes.Released (volume_at 9 taken_a)) (b key_c lost_c refl (record { completed = refl; found = λ e. inr (inl (record { volume = now_bound; there = refl; carries = refl; bound = refl })) })) refl).1);
+  lost_import_bound_is_safe = λ key x e counts. subst (λ y. IsBoundTo (Volume now_bound ∷ Claim lost_c ∷ []) y) (sole
+      (claims_at key x (Volume now_bound ∷ Claim lost_c ∷ []) e)) (record { volume = now_bound; there = refl; carries = refl; bound = refl });
+  lost_import_bound_and_released_is_unsafe =
+      λ b. true≢false (sym (bound_of (Volume (in_phase volumes.Released (volume_at 9 taken_a)) ∷ Claim lost_c ∷ []) lost_c
+      (in_phase volumes.Released (volume_at 9 taken_a))
+      (b key_c lost_c refl (record { completed = refl; found = λ e. inr (inl (record { volume = now_bound; there = refl; carries = refl; bound = refl })) })) refl).1);
 }
   where
     at_c : (key : Key) (x : ClaimData) → row_at key (Volume bound_a ∷ Claim (done 6) ∷ Claim d ∷ []) ≡ Some (Claim x) → is_completed x ≡ true → key_c ≡ key
@@ -162,16 +244,28 @@ binding_examples = record {
         by (inr (inr h)) k = absurd h
 
     unbound : (x : ClaimData) → IsBoundTo (Volume taken_a ∷ Claim lost_c ∷ []) x → x.volume_name ≡ codes "a" → ⊥
-    unbound x is named = true≢false (sym (bound_of (Volume taken_a ∷ Claim lost_c ∷ []) x taken_a is (subst (λ n. row_at (volume_key n) (Volume taken_a ∷ Claim lost_c ∷ []) ≡ Some (Volume taken_a)) (sym named) refl)).1)
+    unbound x is named = true≢false (sym
+        (bound_of (Volume taken_a ∷ Claim lost_c ∷ []) x taken_a is (subst (λ n. row_at (volume_key n) (Volume taken_a ∷ Claim lost_c ∷ []) ≡ Some (Volume taken_a)) (sym named) refl)).1)
 
     lost : Counts lost_setup [] lost_c → ⊥
     lost k = unbound lost_c (k.found refl) refl
 
 pub safe_examples : SafeExamples
-unfolding effect on_devices device_answer outcome update update_status with_status written_if_fits refuse refuse_field refuse_rule guard_on update_fault changed_field create_fault kind_fault volume_fault claim_fault faulty lacks_node with_status_of updated_object at_version leaves with_meta reply_to world_after reply_of after log_after imported_object
+unfolding effect on_devices device_answer outcome update update_status with_status written_if_fits refuse refuse_field refuse_rule guard_on
+    update_fault changed_field create_fault kind_fault volume_fault claim_fault faulty lacks_node with_status_of updated_object at_version leaves
+    with_meta reply_to world_after reply_of after log_after imported_object
 safe_examples = record {
   nothing_asked = none_counts no_setup [] (λ key x e counts. differ is_none e refl refl);
-  completed_after_bound = (record { bindings = after_bound; volumes = λ key v e bound. subst (λ k. is_some (row_at k (Volume bound_a ∷ Claim (done 6) ∷ [])) ≡ true) (key_is key v e) refl; claims = λ key x e mounted. absurd (unmounted_c key x e mounted); erased = tt }, before_completion);
+  completed_after_bound = (
+    record {
+      bindings = after_bound;
+      volumes = λ key v e bound. subst (λ k. is_some (row_at k (Volume bound_a ∷ Claim (done 6) ∷ [])) ≡ true) (key_is key
+          v e) refl;
+      claims = λ key x e mounted. absurd (unmounted_c key x e mounted);
+      erased = tt;
+    },
+    before_completion,
+  );
   unsafe_before_is_unsafe = λ s. too_early s.1.0.bindings.bound;
 }
   where
@@ -193,14 +287,21 @@ no_claim_left old new none key x e mounted = absurd (subst (λ ys. SomeOf (λ y.
 
 -- where one volume stands that is not Bound, no Bound one leaves
 no_bound_left : (v : VolumeData) (old new : List Object) → volumes_in old ≡ v ∷ [] → is_bound v.phase ≡ false → KeepsBound old new
-no_bound_left v old new only free key u e bound = absurd (true≢false (sym (subst (λ w. is_bound w.phase ≡ true) (sym (sole (subst (λ ys. SomeOf (λ w. w ≡ u) ys) only (volumes_at key u old e)))) bound) ∙ free))
+no_bound_left v old new only free key u e bound =
+    absurd (true≢false (sym (subst (λ w. is_bound w.phase ≡ true) (sym (sole (subst (λ ys. SomeOf (λ w. w ≡ u) ys) only (volumes_at key u old e)))) bound) ∙ free))
 
 taken_by_another : Safe (with_claim (Volume bound_for_other ∷ [])) (completes c ∷ []) → ⊥
-unfolding effect on_devices device_answer outcome update update_status with_status written_if_fits refuse refuse_field refuse_rule guard_on update_fault changed_field create_fault kind_fault volume_fault claim_fault faulty lacks_node with_status_of updated_object at_version leaves with_meta reply_to world_after reply_of after log_after imported_object
-taken_by_another s = true≢false (sym (bound_of (Volume bound_for_other ∷ Claim (done 10) ∷ []) (done 10) bound_for_other (s.0.bindings.bound key_c (done 10) refl (record { completed = refl; found = λ e. absurd (true≢false (sym e)) })) refl).0)
+unfolding effect on_devices device_answer outcome update update_status with_status written_if_fits refuse refuse_field refuse_rule guard_on
+    update_fault changed_field create_fault kind_fault volume_fault claim_fault faulty lacks_node with_status_of updated_object at_version leaves
+    with_meta reply_to world_after reply_of after log_after imported_object
+taken_by_another s = true≢false (sym
+    (bound_of (Volume bound_for_other ∷ Claim (done 10) ∷ []) (done 10) bound_for_other
+    (s.0.bindings.bound key_c (done 10) refl (record { completed = refl; found = λ e. absurd (true≢false (sym e)) })) refl).0)
 
 free_leaves : Safe (setup_of (Volume leaving_free_a ∷ [])) (loosens leaving_free_a ∷ [])
-unfolding effect on_devices device_answer outcome update update_status with_status written_if_fits refuse refuse_field refuse_rule guard_on update_fault changed_field create_fault kind_fault volume_fault claim_fault faulty lacks_node with_status_of updated_object at_version leaves with_meta reply_to world_after reply_of after log_after imported_object
+unfolding effect on_devices device_answer outcome update update_status with_status written_if_fits refuse refuse_field refuse_rule guard_on
+    update_fault changed_field create_fault kind_fault volume_fault claim_fault faulty lacks_node with_status_of updated_object at_version leaves
+    with_meta reply_to world_after reply_of after log_after imported_object
 free_leaves = (
   record {
     bindings = claimless (setup_of (Volume leaving_free_a ∷ [])) (loosens leaving_free_a ∷ []) refl;
@@ -212,7 +313,9 @@ free_leaves = (
 )
 
 bound_leaves : Safe (setup_of (Volume leaving_bound_a ∷ [])) (loosens leaving_bound_a ∷ []) → ⊥
-unfolding effect on_devices device_answer outcome update update_status with_status written_if_fits refuse refuse_field refuse_rule guard_on update_fault changed_field create_fault kind_fault volume_fault claim_fault faulty lacks_node with_status_of updated_object at_version leaves with_meta reply_to world_after reply_of after log_after imported_object
+unfolding effect on_devices device_answer outcome update update_status with_status written_if_fits refuse refuse_field refuse_rule guard_on
+    update_fault changed_field create_fault kind_fault volume_fault claim_fault faulty lacks_node with_status_of updated_object at_version leaves
+    with_meta reply_to world_after reply_of after log_after imported_object
 bound_leaves s = true≢false (sym (s.0.volumes key_a leaving_bound_a refl refl))
 
 abbrev one_ended : Setup
@@ -222,13 +325,22 @@ abbrev read_of : VolumeData → List Entry
 read_of v = seat_of seats.Ops (finds key_a (Volume v) ∷ [])
 
 ended_erased : Safe one_ended (erases_read ended_a)
-unfolding effect on_devices device_answer outcome update update_status with_status written_if_fits refuse refuse_field refuse_rule guard_on update_fault changed_field create_fault kind_fault volume_fault claim_fault faulty lacks_node with_status_of updated_object at_version leaves with_meta reply_to world_after reply_of after log_after imported_object get erase unless_planned
+unfolding effect on_devices device_answer outcome update update_status with_status written_if_fits refuse refuse_field refuse_rule guard_on
+    update_fault changed_field create_fault kind_fault volume_fault claim_fault faulty lacks_node with_status_of updated_object at_version leaves
+    with_meta reply_to world_after reply_of after log_after imported_object get erase unless_planned
 ended_erased = (
   record {
     bindings = claimless one_ended (erases_read ended_a) refl;
     volumes = no_bound_left ended_a (Volume ended_a ∷ []) (Volume ended_a ∷ []) refl refl;
     claims = no_claim_left (world one_ended (read_of ended_a)) (Volume ended_a ∷ []) refl;
-    erased = record { volume = ended_a; last = refl; uid = uid_of_serial 1; known = refl; since = λ key v e known. subst (λ u. IsEndedForDelete u) (sole (volumes_at key v (Volume ended_a ∷ []) e)) (record { ended = refl; policy = refl }) };
+    erased = record {
+      volume = ended_a;
+      last = refl;
+      uid = uid_of_serial 1;
+      known = refl;
+      since =
+          λ key v e known. subst (λ u. IsEndedForDelete u) (sole (volumes_at key v (Volume ended_a ∷ []) e)) (record { ended = refl; policy = refl });
+    };
   },
   (
     record {
@@ -242,11 +354,15 @@ ended_erased = (
 )
 
 bound_erased : Safe (setup_of (Volume still_bound_a ∷ [])) (erases_read still_bound_a) → ⊥
-unfolding effect on_devices device_answer outcome update update_status with_status written_if_fits refuse refuse_field refuse_rule guard_on update_fault changed_field create_fault kind_fault volume_fault claim_fault faulty lacks_node with_status_of updated_object at_version leaves with_meta reply_to world_after reply_of after log_after imported_object get erase unless_planned
+unfolding effect on_devices device_answer outcome update update_status with_status written_if_fits refuse refuse_field refuse_rule guard_on
+    update_fault changed_field create_fault kind_fault volume_fault claim_fault faulty lacks_node with_status_of updated_object at_version leaves
+    with_meta reply_to world_after reply_of after log_after imported_object get erase unless_planned
 bound_erased s = true≢false (sym (s.0.erased.since key_a still_bound_a refl (ap (λ v. v.meta.uid) (one still_bound_a s.0.erased.volume s.0.erased.last) ∙ s.0.erased.known)).ended)
 
 retained_erased : Safe (setup_of (Volume released_a ∷ [])) (erases_read released_a) → ⊥
-unfolding effect on_devices device_answer outcome update update_status with_status written_if_fits refuse refuse_field refuse_rule guard_on update_fault changed_field create_fault kind_fault volume_fault claim_fault faulty lacks_node with_status_of updated_object at_version leaves with_meta reply_to world_after reply_of after log_after imported_object get erase unless_planned
+unfolding effect on_devices device_answer outcome update update_status with_status written_if_fits refuse refuse_field refuse_rule guard_on
+    update_fault changed_field create_fault kind_fault volume_fault claim_fault faulty lacks_node with_status_of updated_object at_version leaves
+    with_meta reply_to world_after reply_of after log_after imported_object get erase unless_planned
 retained_erased s = true≢false (sym (s.0.erased.since key_a released_a refl (ap (λ v. v.meta.uid) (one released_a s.0.erased.volume s.0.erased.last) ∙ s.0.erased.known)).policy)
 
 abbrev one_lost : Setup
@@ -260,7 +376,9 @@ lost_itself = none_counts one_lost [] (λ key x e counts. unbound (subst (λ y. 
     unbound k = differ is_none (k.found refl).there refl refl
 
 lost_another : Safe (setup_of (Claim bound_c ∷ Claim d ∷ [])) (completes d ∷ []) → ⊥
-unfolding effect on_devices device_answer outcome update update_status with_status written_if_fits refuse refuse_field refuse_rule guard_on update_fault changed_field create_fault kind_fault volume_fault claim_fault faulty lacks_node with_status_of updated_object at_version leaves with_meta reply_to world_after reply_of after log_after imported_object
+unfolding effect on_devices device_answer outcome update update_status with_status written_if_fits refuse refuse_field refuse_rule guard_on
+    update_fault changed_field create_fault kind_fault volume_fault claim_fault faulty lacks_node with_status_of updated_object at_version leaves
+    with_meta reply_to world_after reply_of after log_after imported_object
 lost_another s = differ is_none (s.0.bindings.bound key_d (completing (claim_at 8 d)) refl (record { completed = refl; found = λ e. absurd (true≢false (sym e)) })).there refl refl
 
 pub whole_examples : WholeExamples

@@ -2,17 +2,17 @@
 use Rattle.std.proofs.Common.{sym, refl, ap, inl, inr, true≢false, ◌∙◌}
 use Rattle.std.specs.Prelude.{ℕ, ◌≡◌, ◌⊎◌, Bool, true, false, List, [], ◌∷◌, ◌++◌, Option, Some, None, if◌then◌else◌, is_some, unwrap_or, ◌==◌}
 use Rattle.std.specs.Ordering.{is_eq}
-use Rattle.kube_types.specs.declared.objects.Ref.{Ref}
-use Rattle.kube_types.specs.declared.key.Key.{Key}
-use Rattle.kube_types.specs.declared.objects.Class.{Class as ClassData}
-use Rattle.kube_types.specs.declared.objects.Node.{Node as NodeData}
-use Rattle.kube_types.specs.declared.objects.Pod.{Pod as PodData}
-use Rattle.kube_types.specs.declared.objects.Volume.{Volume as VolumeData}
-use Rattle.kube_types.specs.declared.objects.Claim.{Claim as ClaimData}
-use Rattle.kube_types.specs.declared.objects.Object.{Object}
-use Rattle.kube_types.specs.declared.objects.Object.TheVariants.{Class, Node, Volume, Claim, Pod}
+use Rattle.kube_objects.specs.declared.objects.Ref.{Ref}
+use Rattle.kube_objects.specs.declared.key.Key.{Key}
+use Rattle.kube_objects.specs.declared.objects.Class.{Class as ClassData}
+use Rattle.kube_objects.specs.declared.objects.Node.{Node as NodeData}
+use Rattle.kube_objects.specs.declared.objects.Pod.{Pod as PodData}
+use Rattle.kube_objects.specs.declared.objects.Volume.{Volume as VolumeData}
+use Rattle.kube_objects.specs.declared.objects.Claim.{Claim as ClaimData}
+use Rattle.kube_objects.specs.declared.objects.Object.{Object}
+use Rattle.kube_objects.specs.declared.objects.Object.TheVariants.{Class, Node, Volume, Claim, Pod}
 use Rattle.call_types.specs.declared.entry.Entry.{Entry}
-use Rattle.kube_types.specs.Keys.{meta_of, key_of, key_cmp, row_at}
+use Rattle.kube_objects.specs.Keys.{meta_of, key_of, key_cmp, row_at}
 use Rattle.call_types.specs.declared.request.SeatKind.{SeatKind}
 use Rattle.call_types.specs.declared.request.Request.{Request}
 use Rattle.call_types.specs.declared.request.Request.TheVariants as requests
@@ -116,16 +116,20 @@ pub told_claims : (P : ClaimData → Type 0) (mine : List Entry) → ToldClaim P
 told_claims P mine h = some_claim P (told_objects mine) (told_some (IsClaimWith P) mine h)
 
 -- the row at each volume, and each claim, that was told
-pub volume_row : (Row : VolumeData → Type 0) (mine : List Entry) (new : VolumeData) (given : Option ℕ) → AtVolume mine new given Row → SomeOf (λ o. IsWrittenAt given new.meta.namespace new.meta.name o.meta × Row o) (volumes_in (told_objects mine))
+pub volume_row : (Row : VolumeData → Type 0) (mine : List Entry) (new : VolumeData) (given : Option ℕ) → AtVolume mine new given Row
+    → SomeOf (λ o. IsWrittenAt given new.meta.namespace new.meta.name o.meta × Row o) (volumes_in (told_objects mine))
 volume_row Row mine new given h = told_volumes (λ o. IsWrittenAt given new.meta.namespace new.meta.name o.meta × Row o) mine h
 
-pub claim_row : (Row : ClaimData → Type 0) (mine : List Entry) (new : ClaimData) (given : Option ℕ) → AtClaim mine new given Row → SomeOf (λ o. IsWrittenAt given new.meta.namespace new.meta.name o.meta × Row o) (claims_in (told_objects mine))
+pub claim_row : (Row : ClaimData → Type 0) (mine : List Entry) (new : ClaimData) (given : Option ℕ) → AtClaim mine new given Row
+    → SomeOf (λ o. IsWrittenAt given new.meta.namespace new.meta.name o.meta × Row o) (claims_in (told_objects mine))
 claim_row Row mine new given h = told_claims (λ o. IsWrittenAt given new.meta.namespace new.meta.name o.meta × Row o) mine h
 
-pub volume_status_row : (Row : VolumeData → Type 0) (mine : List Entry) (key : Key) (given : Option ℕ) → AtVolumeKey mine key given Row → SomeOf (λ o. IsWrittenAt given key.namespace key.name o.meta × Row o) (volumes_in (told_objects mine))
+pub volume_status_row : (Row : VolumeData → Type 0) (mine : List Entry) (key : Key) (given : Option ℕ) → AtVolumeKey mine key given Row
+    → SomeOf (λ o. IsWrittenAt given key.namespace key.name o.meta × Row o) (volumes_in (told_objects mine))
 volume_status_row Row mine key given h = told_volumes (λ o. IsWrittenAt given key.namespace key.name o.meta × Row o) mine h.1
 
-pub claim_status_row : (Row : ClaimData → Type 0) (mine : List Entry) (key : Key) (given : Option ℕ) → AtClaimKey mine key given Row → SomeOf (λ o. IsWrittenAt given key.namespace key.name o.meta × Row o) (claims_in (told_objects mine))
+pub claim_status_row : (Row : ClaimData → Type 0) (mine : List Entry) (key : Key) (given : Option ℕ) → AtClaimKey mine key given Row
+    → SomeOf (λ o. IsWrittenAt given key.namespace key.name o.meta × Row o) (claims_in (told_objects mine))
 claim_status_row Row mine key given h = told_claims (λ o. IsWrittenAt given key.namespace key.name o.meta × Row o) mine h.1
 
 -- after
@@ -155,7 +159,8 @@ pub never_read : (key : Key) (P : Option Object → Type 0) (mine : List Entry) 
 never_read key P [] none h = h
 never_read key P (e ∷ mine) none h = by (is_get e.request) refl none h (never_read key P mine)
   where
-    by : (b : Bool) → is_get e.request ≡ b → (if b then true else has_get mine) ≡ false → TellsLive key P e ⊎ SomeOf (TellsLive key P) mine → (has_get mine ≡ false → SomeOf (TellsLive key P) mine → ⊥) → ⊥
+    by : (b : Bool) → is_get e.request ≡ b → (if b then true else has_get mine) ≡ false → TellsLive key P e ⊎ SomeOf (TellsLive key P) mine
+        → (has_get mine ≡ false → SomeOf (TellsLive key P) mine → ⊥) → ⊥
     by true is none h more = true≢false none
     by false is none (inl t) more = true≢false (sym (ap is_get t.1) ∙ is)
     by false is none (inr h) more = more none h

@@ -2,24 +2,56 @@
 -- hold, and for each of its conditions one that misses it alone. A choice of this project, as the rows are.
 -- The newest exchange stands first.
 use Rattle.std.specs.Prelude.{ℕ, true, [], ◌∷◌, Option, Some, None, codes}
-use Rattle.kube_types.specs.declared.parts.Kind.TheVariants as kinds
-use Rattle.kube_types.specs.declared.parts.Policy.TheVariants as policies
-use Rattle.kube_types.specs.declared.parts.Modes.{Modes}
-use Rattle.kube_types.specs.declared.parts.VolumePhase.TheVariants as volumes
-use Rattle.kube_types.specs.declared.parts.ClaimPhase.TheVariants as claims
-use Rattle.kube_types.specs.declared.key.Key.{Key}
-use Rattle.kube_types.specs.declared.objects.Amount.{Amount}
-use Rattle.kube_types.specs.declared.objects.Volume.{Volume as VolumeData}
-use Rattle.kube_types.specs.declared.objects.Claim.{Claim as ClaimData}
-use Rattle.kube_types.specs.declared.objects.Object.TheVariants.{Volume, Claim}
-use Rattle.kube_types.specs.Uids.{uid_of_serial}
-use Rattle.kube_types.specs.Bindings.{bound_by_controller, provisioned_by, yes}
+use Rattle.kube_parts.specs.declared.parts.Kind.TheVariants as kinds
+use Rattle.kube_parts.specs.declared.parts.Policy.TheVariants as policies
+use Rattle.kube_parts.specs.declared.parts.Modes.{Modes}
+use Rattle.kube_parts.specs.declared.parts.VolumePhase.TheVariants as volumes
+use Rattle.kube_parts.specs.declared.parts.ClaimPhase.TheVariants as claims
+use Rattle.kube_objects.specs.declared.key.Key.{Key}
+use Rattle.kube_objects.specs.declared.objects.Amount.{Amount}
+use Rattle.kube_objects.specs.declared.objects.Volume.{Volume as VolumeData}
+use Rattle.kube_objects.specs.declared.objects.Claim.{Claim as ClaimData}
+use Rattle.kube_objects.specs.declared.objects.Object.TheVariants.{Volume, Claim}
+use Rattle.kube_parts.specs.Uids.{uid_of_serial}
+use Rattle.kube_objects.specs.Bindings.{bound_by_controller, provisioned_by, yes}
 use Rattle.call_types.specs.declared.request.NewStatus.TheVariants as statuses
 use Rattle.call_types.specs.declared.request.SeatKind.TheVariants as seats
 use Rattle.call_types.specs.declared.request.Request.{Request}
 use Rattle.call_types.specs.declared.request.Request.TheVariants as requests
 use Rattle.binder_model.specs.BindWrites.{unbound_volume, write_unbound}
-use Rattle.model_examples.specs.Samples.{Allows, Refuses, unheard, lists, tells_volume, tells_claim, tells_both, finds, finds_none, once, amount, a, c, d, other_c, in_phase, with_reference, with_uid, naming, key_a, key_c, name_c, ref_c, taken_a, bound_a, bound_c, bound_for_other, elsewhere_c, key_b, key_d, nameless_c}
+use Rattle.model_examples.specs.Samples.{
+  Allows,
+  Refuses,
+  unheard,
+  lists,
+  tells_volume,
+  tells_claim,
+  tells_both,
+  finds,
+  finds_none,
+  once,
+  amount,
+  a,
+  c,
+  d,
+  other_c,
+  in_phase,
+  with_reference,
+  with_uid,
+  naming,
+  key_a,
+  key_c,
+  name_c,
+  ref_c,
+  taken_a,
+  bound_a,
+  bound_c,
+  bound_for_other,
+  elsewhere_c,
+  key_b,
+  key_d,
+  nameless_c,
+}
 
 -- Released
 

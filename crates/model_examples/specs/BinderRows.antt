@@ -2,24 +2,51 @@
 -- that misses it alone. A choice of this project, as the rows are. The newest exchange stands first.
 use Rattle.std.specs.Prelude.{ℕ, true, List, [], ◌∷◌, Option, Some, None, codes}
 use Rattle.plain_data.specs.Pairs.{Pair}
-use Rattle.kube_types.specs.declared.key.Key.{Key}
-use Rattle.kube_types.specs.declared.parts.Kind.TheVariants as kinds
-use Rattle.kube_types.specs.declared.parts.Policy.TheVariants as policies
-use Rattle.kube_types.specs.declared.parts.Modes.{Modes}
-use Rattle.kube_types.specs.declared.parts.VolumePhase.TheVariants as volumes
-use Rattle.kube_types.specs.declared.parts.ClaimPhase.TheVariants as claims
-use Rattle.kube_types.specs.declared.objects.Amount.{Amount}
-use Rattle.kube_types.specs.declared.objects.Volume.{Volume as VolumeData}
-use Rattle.kube_types.specs.declared.objects.Claim.{Claim as ClaimData}
-use Rattle.kube_types.specs.declared.objects.Object.TheVariants.{Volume, Claim}
-use Rattle.kube_types.specs.Bindings.{bound_by_controller, bind_completed, yes}
+use Rattle.kube_objects.specs.declared.key.Key.{Key}
+use Rattle.kube_parts.specs.declared.parts.Kind.TheVariants as kinds
+use Rattle.kube_parts.specs.declared.parts.Policy.TheVariants as policies
+use Rattle.kube_parts.specs.declared.parts.Modes.{Modes}
+use Rattle.kube_parts.specs.declared.parts.VolumePhase.TheVariants as volumes
+use Rattle.kube_parts.specs.declared.parts.ClaimPhase.TheVariants as claims
+use Rattle.kube_objects.specs.declared.objects.Amount.{Amount}
+use Rattle.kube_objects.specs.declared.objects.Volume.{Volume as VolumeData}
+use Rattle.kube_objects.specs.declared.objects.Claim.{Claim as ClaimData}
+use Rattle.kube_objects.specs.declared.objects.Object.TheVariants.{Volume, Claim}
+use Rattle.kube_objects.specs.Bindings.{bound_by_controller, bind_completed, yes}
 use Rattle.call_types.specs.declared.request.NewStatus.TheVariants as statuses
 use Rattle.call_types.specs.declared.request.SeatKind.TheVariants as seats
 use Rattle.call_types.specs.declared.request.Request.{Request}
 use Rattle.call_types.specs.declared.request.Request.TheVariants as requests
 use Rattle.binder_model.specs.ObjectKeys.{claim_key, volume_key}
 use Rattle.binder_model.specs.BindWrites.{taken_for, completed_with, write_reference, write_bound, write_completion, write_claim_status, write_available}
-use Rattle.model_examples.specs.Samples.{Allows, Refuses, unheard, tells_volume, tells_claim, tells_both, once, amount, a, c, other_c, in_phase, with_reference, naming, key_a, key_c, name_c, ref_c, other_ref_c, taken_a, bound_a, released_a, completed_c, bound_for_other, prebound_a, unguarded_a}
+use Rattle.model_examples.specs.Samples.{
+  Allows,
+  Refuses,
+  unheard,
+  tells_volume,
+  tells_claim,
+  tells_both,
+  once,
+  amount,
+  a,
+  c,
+  other_c,
+  in_phase,
+  with_reference,
+  naming,
+  key_a,
+  key_c,
+  name_c,
+  ref_c,
+  other_ref_c,
+  taken_a,
+  bound_a,
+  released_a,
+  completed_c,
+  bound_for_other,
+  prebound_a,
+  unguarded_a,
+}
 
 -- ClaimRef: the first write of a binding
 

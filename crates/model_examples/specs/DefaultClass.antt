@@ -3,15 +3,15 @@
 -- Source: Kubernetes documentation, "Persistent Volumes" (Retroactive default StorageClass assignment); else a choice of
 -- this project, as the row is.
 use Rattle.std.specs.Prelude.{ℕ, ◌≡◌, List, [], ◌∷◌, Some, None, codes}
-use Rattle.kube_types.specs.declared.names.Field.TheVariants as fields
-use Rattle.kube_types.specs.declared.names.LicenceRule.{LicenceRule}
-use Rattle.kube_types.specs.declared.names.LicenceRule.TheVariants as rules
-use Rattle.kube_types.specs.declared.parts.Kind.TheVariants as kinds
-use Rattle.kube_types.specs.declared.objects.Class.{Class as ClassData}
-use Rattle.kube_types.specs.declared.objects.Claim.{Claim as ClaimData}
-use Rattle.kube_types.specs.declared.objects.Object.{Object}
-use Rattle.kube_types.specs.declared.objects.Object.TheVariants.{Class, Claim}
-use Rattle.kube_types.specs.Bindings.{beta_class, is_default_class}
+use Rattle.kube_parts.specs.declared.names.Field.TheVariants as fields
+use Rattle.kube_parts.specs.declared.names.LicenceRule.{LicenceRule}
+use Rattle.kube_parts.specs.declared.names.LicenceRule.TheVariants as rules
+use Rattle.kube_parts.specs.declared.parts.Kind.TheVariants as kinds
+use Rattle.kube_objects.specs.declared.objects.Class.{Class as ClassData}
+use Rattle.kube_objects.specs.declared.objects.Claim.{Claim as ClaimData}
+use Rattle.kube_objects.specs.declared.objects.Object.{Object}
+use Rattle.kube_objects.specs.declared.objects.Object.TheVariants.{Class, Claim}
+use Rattle.kube_objects.specs.Bindings.{beta_class, is_default_class}
 use Rattle.call_types.specs.declared.request.SeatKind.{SeatKind}
 use Rattle.call_types.specs.declared.request.SeatKind.TheVariants as seats
 use Rattle.call_types.specs.declared.request.Request.{Request}
@@ -86,11 +86,14 @@ pub record DefaultClassExamples : Type 0 where
   pub older_class_is_refused : RefusedAs rules.DefaultClass (told classless_c (Class gold ∷ Class newer_iron ∷ [])) (assigns (codes "gold") classless_c)
   pub assigns_the_first_name_of_one_moment : Allows seats.Binder (told classless_c (Class gold ∷ Class iron ∷ [])) (assigns (codes "gold") classless_c)
   pub second_name_of_one_moment_is_refused : RefusedAs rules.DefaultClass (told classless_c (Class gold ∷ Class iron ∷ [])) (assigns (codes "iron") classless_c)
-  pub assigns_what_was_marked_since : Allows seats.Binder (watches kinds.StorageClass changes.Modified (Class (class_at 10 gold)) 10 ∷ told classless_c (Class (unmarked gold) ∷ [])) (assigns (codes "gold") classless_c)
-  pub assigns_the_next_where_the_first_is_gone : Allows seats.Binder (watches kinds.StorageClass changes.Deleted (Class newer_iron) 10 ∷ told classless_c (Class gold ∷ Class newer_iron ∷ [])) (assigns (codes "gold") classless_c)
+  pub assigns_what_was_marked_since : Allows seats.Binder
+      (watches kinds.StorageClass changes.Modified (Class (class_at 10 gold)) 10 ∷ told classless_c (Class (unmarked gold) ∷ [])) (assigns (codes "gold") classless_c)
+  pub assigns_the_next_where_the_first_is_gone : Allows seats.Binder
+      (watches kinds.StorageClass changes.Deleted (Class newer_iron) 10 ∷ told classless_c (Class gold ∷ Class newer_iron ∷ [])) (assigns (codes "gold") classless_c)
   pub completed_claim_is_refused : RefusedAs rules.Completion (told completed_classless_c (Class gold ∷ [])) (assigns (codes "gold") completed_classless_c)
   pub completion_dropped_with_it_is_refused : RefusedAs rules.DefaultClass (told completed_classless_c (Class gold ∷ [])) (requests.Update (Claim uncompleted_gold) (Some 6))
-  pub deleting_claim_is_refused : RefusedAs rules.DefaultClass (told (record classless_c { meta = deleting c.meta }) (Class gold ∷ [])) (assigns (codes "gold") (record classless_c { meta = deleting c.meta }))
+  pub deleting_claim_is_refused : RefusedAs rules.DefaultClass (told (record classless_c { meta = deleting c.meta }) (Class gold ∷ []))
+      (assigns (codes "gold") (record classless_c { meta = deleting c.meta }))
   pub claim_that_names_a_volume_is_refused : RefusedAs rules.DefaultClass (told (naming (codes "a") classless_c) (Class gold ∷ [])) (assigns (codes "gold") (naming (codes "a") classless_c))
   pub claim_with_a_class_is_refused : RefusedAs rules.DefaultClass (told c (Class gold ∷ [])) (assigns (codes "gold") c)
   pub claim_with_the_empty_class_is_refused : RefusedAs rules.DefaultClass (told (of_class [] c) (Class gold ∷ [])) (assigns (codes "gold") (of_class [] c))
@@ -100,10 +103,12 @@ pub record DefaultClassExamples : Type 0 where
   pub classes_in_lost_answer_is_refused : RefusedAs rules.DefaultClass (unheard (lists kinds.StorageClass (Class gold ∷ []) 9) ∷ tells_claim classless_c ∷ []) (assigns (codes "gold") classless_c)
   pub unmarked_class_is_refused : RefusedAs rules.DefaultClass (told classless_c (Class (unmarked gold) ∷ [])) (assigns (codes "gold") classless_c)
   pub other_value_is_no_mark : RefusedAs rules.DefaultClass (told classless_c (Class (marked_by (codes "false") (codes "gold") 3) ∷ [])) (assigns (codes "gold") classless_c)
-  pub unmarked_since_is_refused : RefusedAs rules.DefaultClass (watches kinds.StorageClass changes.Modified (Class (class_at 10 (unmarked gold))) 10 ∷ told classless_c (Class gold ∷ [])) (assigns (codes "gold") classless_c)
+  pub unmarked_since_is_refused : RefusedAs rules.DefaultClass
+      (watches kinds.StorageClass changes.Modified (Class (class_at 10 (unmarked gold))) 10 ∷ told classless_c (Class gold ∷ [])) (assigns (codes "gold") classless_c)
   pub told_gone_is_refused : RefusedAs rules.DefaultClass (watches kinds.StorageClass changes.Deleted (Class gold) 10 ∷ told classless_c (Class gold ∷ [])) (assigns (codes "gold") classless_c)
   pub class_never_told_is_refused : RefusedAs rules.DefaultClass (told classless_c (Class gold ∷ [])) (assigns (codes "iron") classless_c)
-  pub other_change_beside_is_refused : RefusedAs rules.DefaultClass (told classless_c (Class gold ∷ [])) (requests.Update (Claim (record (of_class (codes "gold") classless_c) { extra = codes "x" })) (Some 2))
+  pub other_change_beside_is_refused : RefusedAs rules.DefaultClass (told classless_c (Class gold ∷ []))
+      (requests.Update (Claim (record (of_class (codes "gold") classless_c) { extra = codes "x" })) (Some 2))
   pub no_class_given_is_refused : RefusedAs rules.DefaultClass (told classless_c (Class gold ∷ [])) (requests.Update (Claim classless_c) (Some 2))
   pub other_version_is_refused : RefusedAs rules.DefaultClass (told classless_c (Class gold ∷ [])) (requests.Update (Claim (of_class (codes "gold") classless_c)) (Some 1))
   pub without_version_is_refused : RefusedAs rules.DefaultClass (told classless_c (Class gold ∷ [])) (requests.Update (Claim (of_class (codes "gold") classless_c)) None)

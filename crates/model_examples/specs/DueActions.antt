@@ -1,24 +1,67 @@
 -- What is due for an object of a small world: each action once, and for each of its conditions a world that misses it.
 -- Source: as for the single actions; a choice of this project.
 use Rattle.std.specs.Prelude.{◌*◌, ◌^◌, true, false, List, [], ◌∷◌, Option, Some, None, codes}
-use Rattle.kube_types.specs.declared.names.Due.{Due}
-use Rattle.kube_types.specs.declared.names.Due.TheVariants as dues
-use Rattle.kube_types.specs.declared.parts.ClaimPhase.TheVariants as claims
-use Rattle.kube_types.specs.declared.parts.Policy.TheVariants as policies
-use Rattle.kube_types.specs.declared.parts.VolumePhase.TheVariants as volumes
-use Rattle.kube_types.specs.declared.objects.Claim.{Claim as ClaimData}
-use Rattle.kube_types.specs.declared.objects.Pod.{Pod as PodData}
-use Rattle.kube_types.specs.declared.objects.Volume.{Volume as VolumeData}
-use Rattle.kube_types.specs.declared.objects.Object.{Object}
-use Rattle.kube_types.specs.declared.objects.Object.TheVariants.{Class, Node, Volume, Claim, Pod}
-use Rattle.kube_types.specs.Bindings.{bound_by_controller, provisioned_by, no_provisioner, yes}
+use Rattle.kube_parts.specs.declared.names.Due.{Due}
+use Rattle.kube_parts.specs.declared.names.Due.TheVariants as dues
+use Rattle.kube_parts.specs.declared.parts.ClaimPhase.TheVariants as claims
+use Rattle.kube_parts.specs.declared.parts.Policy.TheVariants as policies
+use Rattle.kube_parts.specs.declared.parts.VolumePhase.TheVariants as volumes
+use Rattle.kube_objects.specs.declared.objects.Claim.{Claim as ClaimData}
+use Rattle.kube_objects.specs.declared.objects.Pod.{Pod as PodData}
+use Rattle.kube_objects.specs.declared.objects.Volume.{Volume as VolumeData}
+use Rattle.kube_objects.specs.declared.objects.Object.{Object}
+use Rattle.kube_objects.specs.declared.objects.Object.TheVariants.{Class, Node, Volume, Claim, Pod}
+use Rattle.kube_objects.specs.Bindings.{bound_by_controller, provisioned_by, no_provisioner, yes}
 use Rattle.call_types.specs.declared.setup.Setup.{Setup}
 use Rattle.binder_model.specs.Devices.{MountAt, no_devices}
 use Rattle.binder_model.specs.Provisioning.{data_name, terms_for}
 use Rattle.binder_model.specs.World.{World, first_world}
 use Rattle.binder_model.specs.Due.{IsDue, IsSettled, IsFirstDue}
 use Rattle.model_laws.specs.Worked.{no_setup}
-use Rattle.model_examples.specs.Samples.{amount, a, c, other_c, in_phase, with_reference, naming, deleting, key_a, key_c, uid_c, name_c, other_ref_c, taken_a, bound_a, released_a, completed_c, bound_c, fast, late, n1, chosen_c, p, waiting_p, ending_p, uid_p, node_1, ended_a, elsewhere_c, failed_a, far_a, here_c, idle_class, leaving_bound_a, nameless_c, selecting_c, uncompleted_c, unguarded_a, unguarded_c, lost_c, d, zone}
+use Rattle.model_examples.specs.Samples.{
+  amount,
+  a,
+  c,
+  other_c,
+  in_phase,
+  with_reference,
+  naming,
+  deleting,
+  key_a,
+  key_c,
+  uid_c,
+  name_c,
+  other_ref_c,
+  taken_a,
+  bound_a,
+  released_a,
+  completed_c,
+  bound_c,
+  fast,
+  late,
+  n1,
+  chosen_c,
+  p,
+  waiting_p,
+  ending_p,
+  uid_p,
+  node_1,
+  ended_a,
+  elsewhere_c,
+  failed_a,
+  far_a,
+  here_c,
+  idle_class,
+  leaving_bound_a,
+  nameless_c,
+  selecting_c,
+  uncompleted_c,
+  unguarded_a,
+  unguarded_c,
+  lost_c,
+  d,
+  zone,
+}
 use Rattle.model_examples.specs.DefaultClass.{classless_c, classless_by_annotation, of_class, gold, unmarked}
 
 -- a pool of 10 gibibytes, also one for a zone alone
@@ -171,10 +214,12 @@ abbrev pub pvc_volume : VolumeData
 pvc_volume = record pending_a { meta = record pending_a.meta { name = data_name uid_c }; class = codes "other" }
 
 abbrev pub with_data : List Object → World
-with_data rows = let w = with_rows rows in record w { devices = record no_devices { stored = record { id = record { driver = codes "x/y"; id = codes "data-1" }; name = data_name uid_c; pool = 0; bytes = 3 * 2 ^ 30; there = true } ∷ [] } }
+with_data rows = let w = with_rows rows in
+    record w { devices = record no_devices { stored = record { id = record { driver = codes "x/y"; id = codes "data-1" }; name = data_name uid_c; pool = 0; bytes = 3 * 2 ^ 30; there = true } ∷ [] } }
 
 abbrev pub with_erased : List Object → World
-with_erased rows = let w = with_rows rows in record w { devices = record no_devices { stored = record { id = record { driver = codes "x/y"; id = codes "data-1" }; name = data_name uid_c; pool = 0; bytes = 3 * 2 ^ 30; there = false } ∷ [] } }
+with_erased rows = let w = with_rows rows in
+    record w { devices = record no_devices { stored = record { id = record { driver = codes "x/y"; id = codes "data-1" }; name = data_name uid_c; pool = 0; bytes = 3 * 2 ^ 30; there = false } ∷ [] } }
 
 pub record ProvisionDueExamples : Type 0 where
   pub provision_at_once : ProvisionOf pool_setup c (Class fast ∷ Claim c ∷ []) (Some dues.Provision)

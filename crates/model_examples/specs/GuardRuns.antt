@@ -1,10 +1,10 @@
 -- What users may do to a volume that was released. A choice of this project.
 use Rattle.std.specs.Prelude.{◌≡◌, [], ◌∷◌, Some, None}
-use Rattle.kube_types.specs.declared.names.Rule.TheVariants as rules
-use Rattle.kube_types.specs.declared.parts.Policy.TheVariants as policies
-use Rattle.kube_types.specs.declared.parts.VolumePhase.TheVariants as volumes
-use Rattle.kube_types.specs.declared.objects.Volume.{Volume as VolumeData}
-use Rattle.kube_types.specs.declared.objects.Object.TheVariants.{Volume}
+use Rattle.kube_parts.specs.declared.names.Rule.TheVariants as rules
+use Rattle.kube_parts.specs.declared.parts.Policy.TheVariants as policies
+use Rattle.kube_parts.specs.declared.parts.VolumePhase.TheVariants as volumes
+use Rattle.kube_objects.specs.declared.objects.Volume.{Volume as VolumeData}
+use Rattle.kube_objects.specs.declared.objects.Object.TheVariants.{Volume}
 use Rattle.call_types.specs.declared.edit.Edit.TheVariants as edits
 use Rattle.call_types.specs.declared.request.SeatKind.TheVariants as seats
 use Rattle.call_types.specs.declared.request.Request.TheVariants as requests
@@ -44,7 +44,8 @@ failed_a = in_phase volumes.Failed released_a
 pub record GuardOfReleased : Type 0 where
   pub clears_released : answers (with_volume released_a) (clear ∷ []) ≡ replies.Done (Volume cleared_a) ∷ []
   pub keeps_mark : answers (with_volume released_a) (put (with_reference None released_a) ∷ []) ≡ replies.Done (Volume unreferred_a) ∷ []
-  pub mark_after_reference_is_refused : answers (with_volume released_a) (put (with_reference None released_a) ∷ clear ∷ []) ≡ replies.Done (Volume unreferred_a) ∷ replies.Refused (refusals.Forbidden rules.Annotation) ∷ []
+  pub mark_after_reference_is_refused : answers (with_volume released_a) (put (with_reference None released_a) ∷ clear ∷ []) ≡ replies.Done
+      (Volume unreferred_a) ∷ replies.Refused (refusals.Forbidden rules.Annotation) ∷ []
   pub mark_alone_is_refused : answers (with_volume released_a) (put unmarked_a ∷ []) ≡ replies.Refused (refusals.Forbidden rules.Annotation) ∷ []
   pub bound_volume_is_refused : answers (with_volume bound_a) (clear ∷ []) ≡ replies.Refused (refusals.Forbidden rules.Annotation) ∷ []
   pub failed_volume_is_refused : answers (with_volume failed_a) (clear ∷ []) ≡ replies.Refused (refusals.Forbidden rules.Annotation) ∷ []

@@ -1,21 +1,52 @@
 -- Where a node agent may mount a pod, and where it may not: cases that hold, and for each condition one that misses it
 -- alone. A choice of this project, as the row is. The newest exchange stands first.
 use Rattle.std.specs.Prelude.{ℕ, List, [], ◌∷◌, Some, codes}
-use Rattle.kube_types.specs.declared.parts.Kind.TheVariants as kinds
-use Rattle.kube_types.specs.declared.parts.ClaimPhase.TheVariants as claims
-use Rattle.kube_types.specs.declared.uid.Uid.{Uid}
-use Rattle.kube_types.specs.declared.objects.Claim.{Claim as ClaimData}
-use Rattle.kube_types.specs.declared.objects.Pod.{Pod as PodData}
-use Rattle.kube_types.specs.declared.objects.Volume.{Volume as VolumeData}
-use Rattle.kube_types.specs.declared.objects.Object.TheVariants.{Volume, Claim, Pod}
-use Rattle.kube_types.specs.Uids.{uid_of_serial}
+use Rattle.kube_parts.specs.declared.parts.Kind.TheVariants as kinds
+use Rattle.kube_parts.specs.declared.parts.ClaimPhase.TheVariants as claims
+use Rattle.kube_parts.specs.declared.uid.Uid.{Uid}
+use Rattle.kube_objects.specs.declared.objects.Claim.{Claim as ClaimData}
+use Rattle.kube_objects.specs.declared.objects.Pod.{Pod as PodData}
+use Rattle.kube_objects.specs.declared.objects.Volume.{Volume as VolumeData}
+use Rattle.kube_objects.specs.declared.objects.Object.TheVariants.{Volume, Claim, Pod}
+use Rattle.kube_parts.specs.Uids.{uid_of_serial}
 use Rattle.call_types.specs.declared.request.SeatKind.TheVariants as seats
 use Rattle.call_types.specs.declared.request.Request.{Request}
 use Rattle.call_types.specs.declared.request.Request.TheVariants as requests
 use Rattle.call_types.specs.declared.reply.Change.TheVariants as changes
 use Rattle.call_types.specs.declared.reply.Reply.TheVariants as replies
 use Rattle.binder_model.specs.ObjectKeys.{pod_key}
-use Rattle.model_examples.specs.Samples.{Allows, Refuses, Exchange, heard, unheard, lists, tells_pod, finds, finds_none, watches, takes, node_1, node_2, a, with_uid, deleting, key_a, key_c, uid_c, bound_a, bound_c, p, waiting_p, ending_p, uid_p, bound_for_other, lost_c, uncompleted_c, unguarded_c, lists_in}
+use Rattle.model_examples.specs.Samples.{
+  Allows,
+  Refuses,
+  Exchange,
+  heard,
+  unheard,
+  lists,
+  tells_pod,
+  finds,
+  finds_none,
+  watches,
+  takes,
+  node_1,
+  node_2,
+  a,
+  with_uid,
+  deleting,
+  key_a,
+  key_c,
+  uid_c,
+  bound_a,
+  bound_c,
+  p,
+  waiting_p,
+  ending_p,
+  uid_p,
+  bound_for_other,
+  lost_c,
+  uncompleted_c,
+  unguarded_c,
+  lists_in,
+}
 
 abbrev pub mount : ℕ → List Uid → Request
 mount epoch uids = requests.Mount node_1 epoch uid_p uids
@@ -55,7 +86,8 @@ abbrev pub other_pod : PodData
 other_pod = record p { meta = record p.meta { uid = Some (uid_of_serial 8) } }
 
 abbrev pub finished_other : List Exchange
-finished_other = reads_volume ∷ reads_claim ∷ tells_pod p ∷ takes node_1 1 ∷ heard (requests.FinishPod (pod_key (codes "default") (codes "q")) (uid_of_serial 8) node_1 1) (replies.Left (Pod other_pod)) ∷ []
+finished_other = reads_volume ∷ reads_claim ∷ tells_pod p ∷ takes node_1 1 ∷ heard
+    (requests.FinishPod (pod_key (codes "default") (codes "q")) (uid_of_serial 8) node_1 1) (replies.Left (Pod other_pod)) ∷ []
 
 -- the claim was read again, and that answer was lost
 abbrev pub read_again_unheard : List Exchange

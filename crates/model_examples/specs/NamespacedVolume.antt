@@ -1,15 +1,15 @@
 -- A history in which a volume stands in a namespace, is bound, and the completed claim names none: it is no run, since
 -- the volume is refused at its creation. Source: Kubernetes API, volumes, classes and nodes have no namespace.
 use Rattle.std.specs.Prelude.{ℕ, ◌≡◌, List, [], ◌∷◌, Some, None, codes}
-use Rattle.kube_types.specs.declared.names.Field.TheVariants as fields
-use Rattle.kube_types.specs.declared.parts.Kind.TheVariants as kinds
-use Rattle.kube_types.specs.declared.parts.VolumePhase.{VolumePhase}
-use Rattle.kube_types.specs.declared.parts.VolumePhase.TheVariants as volumes
-use Rattle.kube_types.specs.declared.key.Key.{Key}
-use Rattle.kube_types.specs.declared.objects.Volume.{Volume as VolumeData}
-use Rattle.kube_types.specs.declared.objects.Claim.{Claim as ClaimData}
-use Rattle.kube_types.specs.declared.objects.Object.TheVariants.{Class, Node, Volume, Claim}
-use Rattle.kube_types.specs.Bindings.{bound_by_controller, pv_protection, yes}
+use Rattle.kube_parts.specs.declared.names.Field.TheVariants as fields
+use Rattle.kube_parts.specs.declared.parts.Kind.TheVariants as kinds
+use Rattle.kube_parts.specs.declared.parts.VolumePhase.{VolumePhase}
+use Rattle.kube_parts.specs.declared.parts.VolumePhase.TheVariants as volumes
+use Rattle.kube_objects.specs.declared.key.Key.{Key}
+use Rattle.kube_objects.specs.declared.objects.Volume.{Volume as VolumeData}
+use Rattle.kube_objects.specs.declared.objects.Claim.{Claim as ClaimData}
+use Rattle.kube_objects.specs.declared.objects.Object.TheVariants.{Class, Node, Volume, Claim}
+use Rattle.kube_objects.specs.Bindings.{bound_by_controller, pv_protection, yes}
 use Rattle.call_types.specs.declared.entry.Entry.{Entry}
 use Rattle.call_types.specs.declared.request.NewStatus.TheVariants as statuses
 use Rattle.call_types.specs.declared.request.SeatKind.TheVariants as seats
@@ -69,6 +69,8 @@ history = e7 ∷ e6 ∷ e5 ∷ e4 ∷ e3 ∷ e2 ∷ e1 ∷ []
 pub record NamespacedVolumeIsRefused : Type 0 where
   pub volume : answers (first_world no_setup) (by seats.User (requests.Create (Volume x_a)) ∷ []) ≡ replies.Refused (refusals.Invalid fields.Namespace) ∷ []
   pub volume_by_controller : answers (first_world no_setup) (by seats.Ops (requests.Create (Volume x_a)) ∷ []) ≡ replies.Refused (refusals.Invalid fields.Namespace) ∷ []
-  pub class : answers (first_world no_setup) (by seats.User (requests.Create (Class (record fast { meta = record fast.meta { namespace = codes "x" } }))) ∷ []) ≡ replies.Refused (refusals.Invalid fields.Namespace) ∷ []
-  pub node : answers (first_world no_setup) (by seats.User (requests.Create (Node (record n1 { meta = record n1.meta { namespace = codes "x" } }))) ∷ []) ≡ replies.Refused (refusals.Invalid fields.Namespace) ∷ []
+  pub class : answers (first_world no_setup)
+      (by seats.User (requests.Create (Class (record fast { meta = record fast.meta { namespace = codes "x" } }))) ∷ []) ≡ replies.Refused (refusals.Invalid fields.Namespace) ∷ []
+  pub node : answers (first_world no_setup)
+      (by seats.User (requests.Create (Node (record n1 { meta = record n1.meta { namespace = codes "x" } }))) ∷ []) ≡ replies.Refused (refusals.Invalid fields.Namespace) ∷ []
   pub is_no_run : Run no_setup history → ⊥

@@ -3,23 +3,49 @@
 -- The newest exchange stands first.
 use Rattle.std.specs.Prelude.{ℕ, List, [], ◌∷◌, Option, Some, None, codes}
 use Rattle.plain_data.specs.Pairs.{Pair}
-use Rattle.kube_types.specs.declared.parts.Kind.TheVariants as kinds
-use Rattle.kube_types.specs.declared.parts.Policy.TheVariants as policies
-use Rattle.kube_types.specs.declared.uid.Uid.{Uid}
-use Rattle.kube_types.specs.declared.objects.Class.{Class as ClassData}
-use Rattle.kube_types.specs.declared.objects.Claim.{Claim as ClaimData}
-use Rattle.kube_types.specs.declared.objects.DataId.{DataId}
-use Rattle.kube_types.specs.declared.objects.Volume.{Volume as VolumeData}
-use Rattle.kube_types.specs.declared.objects.Object.TheVariants.{Volume}
-use Rattle.kube_types.specs.Uids.{uid_of_serial}
-use Rattle.kube_types.specs.Bindings.{no_provisioner}
+use Rattle.kube_parts.specs.declared.parts.Kind.TheVariants as kinds
+use Rattle.kube_parts.specs.declared.parts.Policy.TheVariants as policies
+use Rattle.kube_parts.specs.declared.uid.Uid.{Uid}
+use Rattle.kube_objects.specs.declared.objects.Class.{Class as ClassData}
+use Rattle.kube_objects.specs.declared.objects.Claim.{Claim as ClaimData}
+use Rattle.kube_objects.specs.declared.objects.DataId.{DataId}
+use Rattle.kube_objects.specs.declared.objects.Volume.{Volume as VolumeData}
+use Rattle.kube_objects.specs.declared.objects.Object.TheVariants.{Volume}
+use Rattle.kube_parts.specs.Uids.{uid_of_serial}
+use Rattle.kube_objects.specs.Bindings.{no_provisioner}
 use Rattle.call_types.specs.declared.request.SeatKind.TheVariants as seats
 use Rattle.call_types.specs.declared.request.Request.{Request}
 use Rattle.call_types.specs.declared.request.Request.TheVariants as requests
 use Rattle.call_types.specs.declared.reply.Refusal.TheVariants as refusals
 use Rattle.call_types.specs.declared.reply.Reply.TheVariants as replies
 use Rattle.binder_model.specs.Provisioning.{data_name, provisioned_volume}
-use Rattle.model_examples.specs.Samples.{Allows, Refuses, Exchange, heard, unheard, lists, tells_claim, tells_class, amount, c, naming, uid_c, completed_c, fast, late, zone, n1, chosen_c, deleting, claim_at, other_c, idle_class, no_uid_c, selecting_c, tells_three}
+use Rattle.model_examples.specs.Samples.{
+  Allows,
+  Refuses,
+  Exchange,
+  heard,
+  unheard,
+  lists,
+  tells_claim,
+  tells_class,
+  amount,
+  c,
+  naming,
+  uid_c,
+  completed_c,
+  fast,
+  late,
+  zone,
+  n1,
+  chosen_c,
+  deleting,
+  claim_at,
+  other_c,
+  idle_class,
+  no_uid_c,
+  selecting_c,
+  tells_three,
+}
 
 -- Provision
 
@@ -110,7 +136,8 @@ pub record CreateVolumeExamples : Type 0 where
   pub other_topology_is_refused : Refuses seats.Ops (gives uid_c id_1 None ∷ tells_three c fast n1) (make id_1 pool_pair)
   pub other_policy_is_refused : Refuses seats.Ops (gives uid_c id_1 None ∷ tells_three c fast n1) (requests.Create (Volume kept_volume))
   pub claim_without_uid_is_refused : Refuses seats.Ops (gives uid_c id_1 None ∷ tells_three no_uid_c fast n1) (requests.Create (Volume (provisioned_volume no_uid_c uid_c fast id_1 None)))
-  pub claim_of_other_uid_now_is_refused : Refuses seats.Ops (gives uid_c id_1 None ∷ tells_claim next_c ∷ tells_three c fast n1) (requests.Create (Volume (provisioned_volume next_c uid_c fast id_1 None)))
+  pub claim_of_other_uid_now_is_refused : Refuses seats.Ops (gives uid_c id_1 None ∷ tells_claim next_c ∷ tells_three c fast n1)
+      (requests.Create (Volume (provisioned_volume next_c uid_c fast id_1 None)))
   pub claim_told_gone_is_refused : Refuses seats.Ops (gives uid_c id_1 None ∷ lists kinds.PersistentVolumeClaim [] 9 ∷ tells_three c fast n1) (make id_1 None)
   pub class_never_told_is_refused : Refuses seats.Ops (gives uid_c id_1 None ∷ tells_claim c ∷ []) (make id_1 None)
   pub older_telling_of_the_class_is_refused : Refuses seats.Ops (gives uid_c id_1 None ∷ tells_class moved_class ∷ tells_three c fast n1) (make id_1 None)

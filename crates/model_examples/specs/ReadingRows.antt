@@ -2,19 +2,58 @@
 -- alone. Source of the lists and watches: API concepts, "Efficient detection of changes"; else a choice of this
 -- project. The newest exchange stands first.
 use Rattle.std.specs.Prelude.{ℕ, List, [], ◌∷◌, Some, None, codes}
-use Rattle.kube_types.specs.declared.parts.Kind.{Kind}
-use Rattle.kube_types.specs.declared.parts.Kind.TheVariants as kinds
-use Rattle.kube_types.specs.declared.objects.Claim.{Claim as ClaimData}
-use Rattle.kube_types.specs.declared.objects.Pod.{Pod as PodData}
-use Rattle.kube_types.specs.declared.objects.Volume.{Volume as VolumeData}
-use Rattle.kube_types.specs.declared.objects.Object.TheVariants.{Claim}
+use Rattle.kube_parts.specs.declared.parts.Kind.{Kind}
+use Rattle.kube_parts.specs.declared.parts.Kind.TheVariants as kinds
+use Rattle.kube_objects.specs.declared.objects.Claim.{Claim as ClaimData}
+use Rattle.kube_objects.specs.declared.objects.Pod.{Pod as PodData}
+use Rattle.kube_objects.specs.declared.objects.Volume.{Volume as VolumeData}
+use Rattle.kube_objects.specs.declared.objects.Object.TheVariants.{Claim}
 use Rattle.call_types.specs.declared.request.SeatKind.TheVariants as seats
 use Rattle.call_types.specs.declared.request.Request.{Request}
 use Rattle.call_types.specs.declared.request.Request.TheVariants as requests
 use Rattle.call_types.specs.declared.reply.Refusal.TheVariants as refusals
 use Rattle.call_types.specs.declared.reply.Reply.TheVariants as replies
 use Rattle.binder_model.specs.ObjectKeys.{claim_key, pod_key}
-use Rattle.model_examples.specs.Samples.{Allows, Refuses, Exchange, heard, unheard, lists, lists_in, tells_volume, tells_claim, tells_pod, tells_both, finds, takes, node_1, node_2, a, c, other_c, naming, volume_at, with_reference, deleting, key_a, key_c, taken_a, released_a, completed_c, bound_c, p, waiting_p, ended_a, deleting_a, key_b, key_d, list_volumes, never_bound_a, prebound_a, still_bound_a}
+use Rattle.model_examples.specs.Samples.{
+  Allows,
+  Refuses,
+  Exchange,
+  heard,
+  unheard,
+  lists,
+  lists_in,
+  tells_volume,
+  tells_claim,
+  tells_pod,
+  tells_both,
+  finds,
+  takes,
+  node_1,
+  node_2,
+  a,
+  c,
+  other_c,
+  naming,
+  volume_at,
+  with_reference,
+  deleting,
+  key_a,
+  key_c,
+  taken_a,
+  released_a,
+  completed_c,
+  bound_c,
+  p,
+  waiting_p,
+  ended_a,
+  deleting_a,
+  key_b,
+  key_d,
+  list_volumes,
+  never_bound_a,
+  prebound_a,
+  still_bound_a,
+}
 
 -- the kinds that each controller follows
 

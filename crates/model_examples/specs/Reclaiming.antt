@@ -2,15 +2,15 @@
 -- row cases that hold, and for each of its conditions one that misses it alone. A choice of this project, as the rows
 -- are. The newest exchange stands first.
 use Rattle.std.specs.Prelude.{ℕ, true, false, List, [], ◌∷◌, Some, None, codes}
-use Rattle.kube_types.specs.declared.parts.Kind.TheVariants as kinds
-use Rattle.kube_types.specs.declared.parts.VolumePhase.TheVariants as volumes
-use Rattle.kube_types.specs.declared.uid.Uid.{Uid}
-use Rattle.kube_types.specs.declared.objects.DataId.{DataId}
-use Rattle.kube_types.specs.declared.objects.Claim.{Claim as ClaimData}
-use Rattle.kube_types.specs.declared.objects.Volume.{Volume as VolumeData}
-use Rattle.kube_types.specs.declared.objects.Object.TheVariants.{Volume, Claim}
-use Rattle.kube_types.specs.Uids.{uid_of_serial}
-use Rattle.kube_types.specs.Bindings.{bind_completed, selected_node, yes}
+use Rattle.kube_parts.specs.declared.parts.Kind.TheVariants as kinds
+use Rattle.kube_parts.specs.declared.parts.VolumePhase.TheVariants as volumes
+use Rattle.kube_parts.specs.declared.uid.Uid.{Uid}
+use Rattle.kube_objects.specs.declared.objects.DataId.{DataId}
+use Rattle.kube_objects.specs.declared.objects.Claim.{Claim as ClaimData}
+use Rattle.kube_objects.specs.declared.objects.Volume.{Volume as VolumeData}
+use Rattle.kube_objects.specs.declared.objects.Object.TheVariants.{Volume, Claim}
+use Rattle.kube_parts.specs.Uids.{uid_of_serial}
+use Rattle.kube_objects.specs.Bindings.{bind_completed, selected_node, yes}
 use Rattle.call_types.specs.declared.request.NewStatus.TheVariants as statuses
 use Rattle.call_types.specs.declared.request.SeatKind.TheVariants as seats
 use Rattle.call_types.specs.declared.request.Request.{Request}
@@ -20,7 +20,35 @@ use Rattle.call_types.specs.declared.reply.Reply.{Reply}
 use Rattle.call_types.specs.declared.reply.Reply.TheVariants as replies
 use Rattle.binder_model.specs.ObjectKeys.{volume_key}
 use Rattle.binder_model.specs.Provisioning.{data_name}
-use Rattle.model_examples.specs.Samples.{Allows, Refuses, Exchange, heard, unheard, lists, tells_volume, tells_claim, tells_node, finds, amount, c, volume_at, claim_at, with_uid, key_a, key_c, uid_c, released_a, n1, chosen_c, ended_a, deleting_a, failed_a, id_a, never_bound_a, still_bound_a}
+use Rattle.model_examples.specs.Samples.{
+  Allows,
+  Refuses,
+  Exchange,
+  heard,
+  unheard,
+  lists,
+  tells_volume,
+  tells_claim,
+  tells_node,
+  finds,
+  amount,
+  c,
+  volume_at,
+  claim_at,
+  with_uid,
+  key_a,
+  key_c,
+  uid_c,
+  released_a,
+  n1,
+  chosen_c,
+  ended_a,
+  deleting_a,
+  failed_a,
+  id_a,
+  never_bound_a,
+  still_bound_a,
+}
 
 -- Erase
 
@@ -133,7 +161,8 @@ pub record ClearNodeExamples : Type 0 where
   pub exhausted_before_told_is_refused : Refuses seats.Ops (tells_claim chosen_c ∷ exhausted ∷ []) clear
   pub exhausted_after_other_version_is_refused : Refuses seats.Ops (tells_claim later_chosen_c ∷ exhausted ∷ tells_claim chosen_c ∷ []) (requests.Update (Claim (claim_at 5 c)) (Some 5))
   pub exhausted_for_other_claim_is_refused : Refuses seats.Ops (exhausts (data_name (uid_of_serial 9)) ∷ tells_claim chosen_c ∷ []) clear
-  pub fault_is_refused : Refuses seats.Ops (heard (requests.Provision (data_name uid_c) (codes "x/y") (amount 3).bytes (Some [])) (replies.Refused (refusals.BackFault 1)) ∷ tells_claim chosen_c ∷ []) clear
+  pub fault_is_refused : Refuses seats.Ops
+      (heard (requests.Provision (data_name uid_c) (codes "x/y") (amount 3).bytes (Some [])) (replies.Refused (refusals.BackFault 1)) ∷ tells_claim chosen_c ∷ []) clear
   pub answer_lost_is_refused : Refuses seats.Ops (unheard exhausted ∷ tells_claim chosen_c ∷ []) clear
   pub keeps_node_is_refused : Refuses seats.Ops (exhausted ∷ tells_claim chosen_c ∷ []) (requests.Update (Claim chosen_c) (Some 2))
   pub other_version_is_refused : Refuses seats.Ops (exhausted ∷ tells_claim chosen_c ∷ []) (requests.Update (Claim cleared_c) (Some 1))

@@ -1,16 +1,16 @@
 -- Requests that no row allows, seats whose entries have two kinds, and the rule by which a request is refused.
 -- A choice of this project. The newest exchange stands first.
 use Rattle.std.specs.Prelude.{◌≡◌, List, [], ◌∷◌, ◌++◌, Some, None, codes}
-use Rattle.kube_types.specs.declared.names.LicenceRule.{LicenceRule}
-use Rattle.kube_types.specs.declared.names.LicenceRule.TheVariants as rules
-use Rattle.kube_types.specs.declared.parts.Kind.TheVariants as kinds
-use Rattle.kube_types.specs.declared.parts.VolumePhase.{VolumePhase}
-use Rattle.kube_types.specs.declared.parts.VolumePhase.TheVariants as volumes
-use Rattle.kube_types.specs.declared.parts.ClaimPhase.{ClaimPhase}
-use Rattle.kube_types.specs.declared.parts.ClaimPhase.TheVariants as claims
-use Rattle.kube_types.specs.declared.objects.Object.TheVariants.{Node, Volume, Claim, Pod}
-use Rattle.kube_types.specs.Sources.{data_id_of}
-use Rattle.kube_types.specs.Uids.{uid_of_serial}
+use Rattle.kube_parts.specs.declared.names.LicenceRule.{LicenceRule}
+use Rattle.kube_parts.specs.declared.names.LicenceRule.TheVariants as rules
+use Rattle.kube_parts.specs.declared.parts.Kind.TheVariants as kinds
+use Rattle.kube_parts.specs.declared.parts.VolumePhase.{VolumePhase}
+use Rattle.kube_parts.specs.declared.parts.VolumePhase.TheVariants as volumes
+use Rattle.kube_parts.specs.declared.parts.ClaimPhase.{ClaimPhase}
+use Rattle.kube_parts.specs.declared.parts.ClaimPhase.TheVariants as claims
+use Rattle.kube_objects.specs.declared.objects.Object.TheVariants.{Node, Volume, Claim, Pod}
+use Rattle.kube_objects.specs.Sources.{data_id_of}
+use Rattle.kube_parts.specs.Uids.{uid_of_serial}
 use Rattle.call_types.specs.declared.edit.Edit.TheVariants as edits
 use Rattle.call_types.specs.declared.entry.Entry.{Entry}
 use Rattle.call_types.specs.declared.request.NewStatus.TheVariants as statuses
@@ -23,7 +23,30 @@ use Rattle.binder_model.specs.ObjectKeys.{pod_key}
 use Rattle.binder_model.specs.BindWrites.{write_reference, write_completion, write_available}
 use Rattle.binder_model.specs.Provisioning.{data_name}
 use Rattle.binder_model.specs.Licence.{Licensed, IsRefusedBy, row_rule}
-use Rattle.model_examples.specs.Samples.{Allows, Refuses, Exchange, seat_of, lists, tells_volume, tells_both, a, c, key_a, key_c, uid_c, amount, once, node_1, taken_a, bound_a, completed_c, n1, p, uid_p, list_volumes}
+use Rattle.model_examples.specs.Samples.{
+  Allows,
+  Refuses,
+  Exchange,
+  seat_of,
+  lists,
+  tells_volume,
+  tells_both,
+  a,
+  c,
+  key_a,
+  key_c,
+  uid_c,
+  amount,
+  once,
+  node_1,
+  taken_a,
+  bound_a,
+  completed_c,
+  n1,
+  p,
+  uid_p,
+  list_volumes,
+}
 
 -- two kinds
 

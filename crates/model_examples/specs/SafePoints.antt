@@ -1,15 +1,15 @@
 -- The parts of what is safe: a world or a step of a history that is, and one that is not, for each condition.
 -- Whether these steps would be licensed is not asked. A choice of this project.
 use Rattle.std.specs.Prelude.{true, false, List, [], ◌∷◌, Some, None, codes}
-use Rattle.kube_types.specs.declared.parts.VolumePhase.{VolumePhase}
-use Rattle.kube_types.specs.declared.parts.VolumePhase.TheVariants as volumes
-use Rattle.kube_types.specs.declared.uid.Uid.{Uid}
-use Rattle.kube_types.specs.declared.objects.Claim.{Claim as ClaimData}
-use Rattle.kube_types.specs.declared.objects.Volume.{Volume as VolumeData}
-use Rattle.kube_types.specs.declared.objects.Object.{Object}
-use Rattle.kube_types.specs.declared.objects.Object.TheVariants.{Volume, Claim}
-use Rattle.kube_types.specs.Uids.{uid_of_serial}
-use Rattle.kube_types.specs.Bindings.{bind_completed, yes}
+use Rattle.kube_parts.specs.declared.parts.VolumePhase.{VolumePhase}
+use Rattle.kube_parts.specs.declared.parts.VolumePhase.TheVariants as volumes
+use Rattle.kube_parts.specs.declared.uid.Uid.{Uid}
+use Rattle.kube_objects.specs.declared.objects.Claim.{Claim as ClaimData}
+use Rattle.kube_objects.specs.declared.objects.Volume.{Volume as VolumeData}
+use Rattle.kube_objects.specs.declared.objects.Object.{Object}
+use Rattle.kube_objects.specs.declared.objects.Object.TheVariants.{Volume, Claim}
+use Rattle.kube_parts.specs.Uids.{uid_of_serial}
+use Rattle.kube_objects.specs.Bindings.{bind_completed, yes}
 use Rattle.call_types.specs.declared.entry.Entry.{Entry}
 use Rattle.call_types.specs.declared.setup.Setup.{Setup}
 use Rattle.call_types.specs.declared.request.NewStatus.TheVariants as statuses
@@ -22,7 +22,34 @@ use Rattle.binder_model.specs.World.{World, first_world}
 use Rattle.binder_model.specs.Safe.{AreBindings, CountedAreBound, CountedAreApart, Counts, KeepsBound, KeepsMounted, ErasesWell, Safe}
 use Rattle.model_laws.specs.Worked.{no_setup}
 use Rattle.model_examples.specs.Imported.{setup_of}
-use Rattle.model_examples.specs.Samples.{Exchange, seat_of, heard, unheard, tells_volume, finds, a, c, d, in_phase, claim_at, deleting, key_a, uid_c, taken_a, bound_a, released_a, bound_c, node_1, uid_p, ended_a, failed_a, id_a, bound_for_other, leaving_bound_a, still_bound_a}
+use Rattle.model_examples.specs.Samples.{
+  Exchange,
+  seat_of,
+  heard,
+  unheard,
+  tells_volume,
+  finds,
+  a,
+  c,
+  d,
+  in_phase,
+  claim_at,
+  deleting,
+  key_a,
+  uid_c,
+  taken_a,
+  bound_a,
+  released_a,
+  bound_c,
+  node_1,
+  uid_p,
+  ended_a,
+  failed_a,
+  id_a,
+  bound_for_other,
+  leaving_bound_a,
+  still_bound_a,
+}
 
 -- a step by a binder that asks no licence. The world does not look at its reply
 abbrev pub step : Request → Entry

@@ -1,21 +1,52 @@
 -- Where the scheduler's volume binding may write, and where it may not: for each row cases that hold, and for each of
 -- its conditions one that misses it alone. A choice of this project, as the rows are. The newest exchange stands first.
 use Rattle.std.specs.Prelude.{List, [], ◌∷◌, ◌++◌, Some, codes}
-use Rattle.kube_types.specs.declared.parts.Kind.TheVariants as kinds
-use Rattle.kube_types.specs.declared.objects.Class.{Class as ClassData}
-use Rattle.kube_types.specs.declared.objects.Claim.{Claim as ClaimData}
-use Rattle.kube_types.specs.declared.objects.Node.{Node as NodeData}
-use Rattle.kube_types.specs.declared.objects.Volume.{Volume as VolumeData}
-use Rattle.kube_types.specs.declared.objects.Object.TheVariants.{Volume, Claim}
-use Rattle.kube_types.specs.Uids.{uid_of_serial}
-use Rattle.kube_types.specs.Bindings.{bind_completed, selected_node, yes}
+use Rattle.kube_parts.specs.declared.parts.Kind.TheVariants as kinds
+use Rattle.kube_objects.specs.declared.objects.Class.{Class as ClassData}
+use Rattle.kube_objects.specs.declared.objects.Claim.{Claim as ClaimData}
+use Rattle.kube_objects.specs.declared.objects.Node.{Node as NodeData}
+use Rattle.kube_objects.specs.declared.objects.Volume.{Volume as VolumeData}
+use Rattle.kube_objects.specs.declared.objects.Object.TheVariants.{Volume, Claim}
+use Rattle.kube_parts.specs.Uids.{uid_of_serial}
+use Rattle.kube_objects.specs.Bindings.{bind_completed, selected_node, yes}
 use Rattle.call_types.specs.declared.request.SeatKind.TheVariants as seats
 use Rattle.call_types.specs.declared.request.Request.{Request}
 use Rattle.call_types.specs.declared.request.Request.TheVariants as requests
 use Rattle.binder_model.specs.BindWrites.{taken_for, unbound_volume, write_reference}
-use Rattle.kube_types.specs.declared.objects.Pod.{Pod as PodData}
+use Rattle.kube_objects.specs.declared.objects.Pod.{Pod as PodData}
 use Rattle.binder_model.specs.Provisioning.{terms_for}
-use Rattle.model_examples.specs.Samples.{tells_pod, key_c, uid_p, node_1, volume_at, bound_a, bound_c, p, waiting_p, Allows, Refuses, Exchange, lists, tells_volume, tells_claim, tells_class, tells_node, tells_both, a, c, naming, taken_a, fast, late, n1, chosen_c, far_a, key_p, no_uid_c, tells_three}
+use Rattle.model_examples.specs.Samples.{
+  tells_pod,
+  key_c,
+  uid_p,
+  node_1,
+  volume_at,
+  bound_a,
+  bound_c,
+  p,
+  waiting_p,
+  Allows,
+  Refuses,
+  Exchange,
+  lists,
+  tells_volume,
+  tells_claim,
+  tells_class,
+  tells_node,
+  tells_both,
+  a,
+  c,
+  naming,
+  taken_a,
+  fast,
+  late,
+  n1,
+  chosen_c,
+  far_a,
+  key_p,
+  no_uid_c,
+  tells_three,
+}
 
 -- ClaimRef
 

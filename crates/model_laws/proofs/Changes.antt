@@ -1,14 +1,14 @@
 -- Whose place an outcome's object takes: none, or that of an object whose identity it keeps.
 use Rattle.std.proofs.Common.{sym, refl, ap, ◌∙◌, true≢false}
 use Rattle.std.specs.Prelude.{ℕ, ◌≡◌, Bool, true, false, List, Option, Some, None, is_some, option_map, ⊤}
-use Rattle.kube_types.specs.declared.uid.Uid.{Uid}
-use Rattle.kube_types.specs.declared.key.Key.{Key}
-use Rattle.kube_types.specs.declared.objects.Pod.{Pod as PodData}
-use Rattle.kube_types.specs.declared.objects.Object.{Object}
-use Rattle.kube_types.specs.declared.objects.Object.TheVariants.{Pod}
-use Rattle.kube_types.specs.Keys.{meta_of, key_of, row_at}
-use Rattle.kube_types.specs.Bindings.{is_deleting, is_uid}
-use Rattle.kube_types.proofs.KeyOrder.{row_at_key}
+use Rattle.kube_parts.specs.declared.uid.Uid.{Uid}
+use Rattle.kube_objects.specs.declared.key.Key.{Key}
+use Rattle.kube_objects.specs.declared.objects.Pod.{Pod as PodData}
+use Rattle.kube_objects.specs.declared.objects.Object.{Object}
+use Rattle.kube_objects.specs.declared.objects.Object.TheVariants.{Pod}
+use Rattle.kube_objects.specs.Keys.{meta_of, key_of, row_at}
+use Rattle.kube_objects.specs.Bindings.{is_deleting, is_uid}
+use Rattle.kube_objects.proofs.KeyOrder.{row_at_key}
 use Rattle.call_types.specs.declared.edit.Edit.{Edit}
 use Rattle.call_types.specs.declared.request.NewStatus.{NewStatus}
 use Rattle.call_types.specs.declared.request.SeatKind.{SeatKind}
@@ -17,7 +17,27 @@ use Rattle.call_types.specs.declared.request.Request.TheVariants as requests
 use Rattle.call_types.specs.declared.reply.Change.{Change}
 use Rattle.call_types.specs.declared.reply.Change.TheVariants.{Added}
 use Rattle.binder_model.specs.Store.{State, leaves}
-use Rattle.binder_model.specs.Answers.{Outcome, Says, Stores, Removes, write_outcome, create, update, written_if_fits, update_status, edit_to, edit, delete_of, delete, get, list, pod_with, bind, finish, outcome}
+use Rattle.binder_model.specs.Answers.{
+  Outcome,
+  Says,
+  Stores,
+  Removes,
+  write_outcome,
+  create,
+  update,
+  written_if_fits,
+  update_status,
+  edit_to,
+  edit,
+  delete_of,
+  delete,
+  get,
+  list,
+  pod_with,
+  bind,
+  finish,
+  outcome,
+}
 use Rattle.model_laws.proofs.OnOutcome.{OnOutcome, says, refused_or, field_or, rule_or, stale_or}
 use Rattle.model_laws.specs.Histories.{KeepsIdentity}
 use Rattle.model_laws.proofs.Identity.{key-created, key-updated, key-at_version, key-marked, updated_keeps, at_version_keeps, marked_keeps, IsKeyKept, IsVersionOf, status_kept, edit_kept}
@@ -83,7 +103,8 @@ unfolding edit
 edit_changes s kind key change None is = says (λ r. tt) _
 edit_changes s kind key change (Some old) is = edit_to_changes s kind key old _ is (edit_kept change old)
 
-delete_of_changes : (s : State) (moment : List ℕ) (key : Key) (old : Object) (at_once deleting : Bool) → row_at key s.rows ≡ Some old → is_deleting (meta_of old) ≡ deleting → IsChange s.rows (delete_of s moment old at_once deleting)
+delete_of_changes : (s : State) (moment : List ℕ) (key : Key) (old : Object) (at_once deleting : Bool) → row_at key s.rows ≡ Some old
+    → is_deleting (meta_of old) ≡ deleting → IsChange s.rows (delete_of s moment old at_once deleting)
 unfolding delete_of
 delete_of_changes s moment key old true deleting is d = record { holds = tt }
 delete_of_changes s moment key old false true is d = says (λ r. tt) _

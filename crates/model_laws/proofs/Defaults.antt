@@ -9,15 +9,15 @@ use Rattle.std.proofs.lemmas.Cmp.{upto, tied_itself, nat_list_cmp_total}
 use Rattle.std.proofs.lemmas.Bool.{false_from_ne_true}
 use Rattle.plain_data.specs.Pairs.{text_cmp}
 use Rattle.plain_data.specs.Rows.{IsAfter}
-use Rattle.kube_types.specs.declared.objects.Class.{Class as ClassData}
-use Rattle.kube_types.specs.declared.objects.Object.{Object}
-use Rattle.kube_types.specs.declared.objects.Object.TheVariants.{Class, Node, Volume, Claim, Pod}
-use Rattle.kube_types.specs.Keys.{AreRows, key_cmp, key_of, row_at}
-use Rattle.kube_types.specs.declared.key.Key.{Key}
-use Rattle.kube_types.proofs.KeyOrder.{equal_keys}
+use Rattle.kube_objects.specs.declared.objects.Class.{Class as ClassData}
+use Rattle.kube_objects.specs.declared.objects.Object.{Object}
+use Rattle.kube_objects.specs.declared.objects.Object.TheVariants.{Class, Node, Volume, Claim, Pod}
+use Rattle.kube_objects.specs.Keys.{AreRows, key_cmp, key_of, row_at}
+use Rattle.kube_objects.specs.declared.key.Key.{Key}
+use Rattle.kube_objects.proofs.KeyOrder.{equal_keys}
 use Rattle.kube_types.specs.Defaults.{IsDefault, StandsIn, class_cmp, is_default}
 use Rattle.kube_types.proofs.DefaultScan.{class_cmp_total}
-use Rattle.kube_types.proofs.Scans.{not_greater}
+use Rattle.volume_index.proofs.Scans.{not_greater}
 use Rattle.binder_model.specs.Store.{text_lt, newer_class, default_class}
 use Rattle.model_laws.specs.Defaults.{DefaultIsOne}
 use Rattle.model_laws.proofs.Lists.{IsIn}

@@ -12,7 +12,24 @@ use Rattle.call_types.specs.declared.request.Request.TheVariants as requests
 use Rattle.call_types.specs.declared.reply.Reply.{Reply}
 use Rattle.call_types.specs.declared.reply.Reply.TheVariants.{Epoch}
 use Rattle.binder_model.specs.Answers.{Outcome, is_user, reply_of}
-use Rattle.binder_model.specs.Devices.{Data, Devices, DeviceAnswer, epoch_of, after_call, provision_new, provision, erase, unless_planned, unless_stale, take_node, with_mounts, device_answer, data_named, is_planned, epoch_if_stale}
+use Rattle.binder_model.specs.Devices.{
+  Data,
+  Devices,
+  DeviceAnswer,
+  epoch_of,
+  after_call,
+  provision_new,
+  provision,
+  erase,
+  unless_planned,
+  unless_stale,
+  take_node,
+  with_mounts,
+  device_answer,
+  data_named,
+  is_planned,
+  epoch_if_stale,
+}
 use Rattle.binder_model.specs.Watching.{oldest}
 use Rattle.binder_model.specs.World.{base, World, Effect, OnStore, OnDevices, SetsMoment, world, effect, reply_to, world_after, on_devices, set_time, watch, refused_rule}
 use Rattle.model_laws.specs.Reads.{EpochsRise}

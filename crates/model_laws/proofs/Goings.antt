@@ -6,9 +6,9 @@ use Rattle.std.proofs.lemmas.List.Elements.{filter-append}
 use Rattle.std.proofs.lemmas.Grind.{reverse_onto}
 use Rattle.std.specs.Prelude.{ℕ, zero, suc, ◌≡◌, ◌≤◌, ◌<◌, ◌+◌, ◌==◌, Bool, true, false, ◌&&◌, List, [], ◌∷◌, ◌++◌, Option, Some, None, nat_lt, cond, filter, reverse, take, drop, length, ⊤}
 use Rattle.plain_data.specs.Rows.{IsAfter}
-use Rattle.kube_types.specs.declared.parts.Kind.{Kind}
-use Rattle.kube_types.specs.declared.objects.Object.{Object}
-use Rattle.kube_types.specs.Keys.{AreRows, key_cmp, key_of, is_of_kind, rows_of}
+use Rattle.kube_parts.specs.declared.parts.Kind.{Kind}
+use Rattle.kube_objects.specs.declared.objects.Object.{Object}
+use Rattle.kube_objects.specs.Keys.{AreRows, key_cmp, key_of, is_of_kind, rows_of}
 use Rattle.call_types.specs.declared.entry.Entry.{Entry}
 use Rattle.call_types.specs.declared.setup.Setup.{Setup}
 use Rattle.call_types.specs.declared.request.SeatKind.{SeatKind}
@@ -272,7 +272,8 @@ goes_on setup past k from told is =
     let es = events_after k from w.log in
     let sifted : es ≡ filter (is_later k from) (reverse w.log) = filter-reverse (is_later k from) w.log in
     let below = is.below in
-    let c = cut from w.store.version es (grind (arith, nat_tests, below)) (subst (Climbs from w.store.version) (sym sifted) (climbs_later k from 0 w.store.version (reverse w.log) (log_climbs setup past))) in
+    let c = cut from w.store.version es (grind (arith, nat_tests, below))
+    (subst (Climbs from w.store.version) (sym sifted) (climbs_later k from 0 w.store.version (reverse w.log) (log_climbs setup past))) in
     let upto = reached_version w.store.version (take most_events es) in
     let rest : events_after k upto w.log ≡ filter (above upto) es =
     filter-reverse (is_later k upto) w.log ∙ narrow k from upto c.reaches (reverse w.log) ∙ ap (filter (above upto)) (sym sifted) in

@@ -1,9 +1,9 @@
 -- Rows stand in order in every world.
 use Rattle.std.specs.Prelude.{Bool, true, false, cond, List, [], ◌∷◌}
 use Rattle.plain_data.proofs.RowFacts.{rising_put, rising_without}
-use Rattle.kube_types.specs.declared.objects.Object.{Object}
-use Rattle.kube_types.specs.Keys.{AreRows, key_of, put_row}
-use Rattle.kube_types.proofs.KeyOrder.{key_cmp_total}
+use Rattle.kube_objects.specs.declared.objects.Object.{Object}
+use Rattle.kube_objects.specs.Keys.{AreRows, key_of, put_row}
+use Rattle.kube_objects.proofs.KeyOrder.{key_cmp_total}
 use Rattle.binder_model.specs.Store.{State}
 use Rattle.binder_model.specs.Imports.{rows_of_imports, is_dropped, imported_object}
 use Rattle.binder_model.specs.Answers.{Outcome, Says, Stores, Removes, after}

@@ -4,20 +4,39 @@ use Rattle.std.proofs.lemmas.Bool.Decides.{nat_tests}
 use Rattle.std.specs.Prelude.{ℕ, ◌≡◌, ◌≢◌, ◌≤◌, ◌<◌, ◌-◌, nat_lt, nat_le, Bool, true, false, List, [], ◌∷◌, ◌++◌, Option, Some, None, is_none, unwrap_or}
 use Rattle.std.specs.List.{list_any}
 use Rattle.std.proofs.lemmas.Bool.{or_parts}
-use Rattle.kube_types.specs.declared.uid.Uid.{Uid}
-use Rattle.kube_types.specs.declared.names.Field.{Field}
-use Rattle.kube_types.specs.declared.names.ImportFault.{ImportFault}
-use Rattle.kube_types.specs.declared.key.Key.{Key}
-use Rattle.kube_types.specs.declared.objects.Object.{Object}
-use Rattle.kube_types.specs.declared.objects.Object.TheVariants.{Class, Node, Volume, Claim, Pod}
-use Rattle.kube_types.specs.Keys.{meta_of, key_of, row_at, put_row, same_key}
-use Rattle.kube_types.specs.Bindings.{ref_uid}
-use Rattle.kube_types.specs.Uids.{uid_of_serial}
-use Rattle.kube_types.proofs.KeyOrder.{row_at-put_row, row_at-put_row_other}
+use Rattle.kube_parts.specs.declared.uid.Uid.{Uid}
+use Rattle.kube_parts.specs.declared.names.Field.{Field}
+use Rattle.kube_parts.specs.declared.names.ImportFault.{ImportFault}
+use Rattle.kube_objects.specs.declared.key.Key.{Key}
+use Rattle.kube_objects.specs.declared.objects.Object.{Object}
+use Rattle.kube_objects.specs.declared.objects.Object.TheVariants.{Class, Node, Volume, Claim, Pod}
+use Rattle.kube_objects.specs.Keys.{meta_of, key_of, row_at, put_row, same_key}
+use Rattle.kube_objects.specs.Bindings.{ref_uid}
+use Rattle.kube_parts.specs.Uids.{uid_of_serial}
+use Rattle.kube_objects.proofs.KeyOrder.{row_at-put_row, row_at-put_row_other}
 use Rattle.binder_model.specs.Fields.{create_fault}
-use Rattle.binder_model.specs.Imports.{most_imported, most_serials, serial_of, serial_or_zero, reference_of, greatest_number, base_of, imported_object, is_dropped, rows_of_imports, fault_if, fault_of_field, shares_uid, import_fault, holds_of_pair, refers_to_another, is_ended_for, PassAfter}
+use Rattle.binder_model.specs.Imports.{
+  most_imported,
+  most_serials,
+  serial_of,
+  serial_or_zero,
+  reference_of,
+  greatest_number,
+  base_of,
+  imported_object,
+  is_dropped,
+  rows_of_imports,
+  fault_if,
+  fault_of_field,
+  shares_uid,
+  import_fault,
+  holds_of_pair,
+  refers_to_another,
+  is_ended_for,
+  PassAfter,
+}
 use Rattle.model_laws.proofs.Lists.{IsIn, one, none_some, some_left, some_right}
-use Rattle.kube_types.proofs.SameKeys.{key_tells}
+use Rattle.kube_objects.proofs.SameKeys.{key_tells}
 
 -- what an import keeps
 record KeepsMeta (x o : Object) : Type 0 where
@@ -51,7 +70,13 @@ import_row imports (x ∷ os) k o is = by (is_dropped x) refl (import_row import
     by false e f =
         let at : row_at k (put_row (imported_object imports x) (rows_of_imports imports os)) ≡ Some o = rw e at is in
         elim (key_tells (key_of (imported_object imports x)) k) [
-          | inl same ↦ record { import = x; given = inl refl; is = one o (imported_object imports x) (sym at ∙ ap (λ j. row_at j (put_row (imported_object imports x) (rows_of_imports imports os))) (sym same) ∙ row_at-put_row (imported_object imports x) (rows_of_imports imports os)) }
+          | inl same ↦ record {
+            import = x;
+            given = inl refl;
+            is =
+                one o (imported_object imports x) (sym at ∙ ap (λ j. row_at j (put_row (imported_object imports x) (rows_of_imports imports os)))
+                (sym same) ∙ row_at-put_row (imported_object imports x) (rows_of_imports imports os));
+          }
           | inr other ↦ more (f (sym (row_at-put_row_other k (imported_object imports x) (rows_of_imports imports os) other) ∙ at))
         ]
 
@@ -168,7 +193,8 @@ shares_own a b uid ea eb = rw (ea, eb) (grind (arith, nat_tests))
 before_apart : (before os : List Object) → PassAfter before os → (x y : Object) (uid : Uid) → IsIn x os → IsIn y before → (meta_of x).uid ≡ Some uid → (meta_of y).uid ≡ Some uid → ⊥
 before_apart before [] p x y uid hx hy ex ey = absurd hx
 before_apart before (z ∷ os) p x y uid hx hy ex ey = elim hx [
-  | inl is ↦ true≢false (sym (shares_own (meta_of x).uid (meta_of y).uid uid ex ey) ∙ none_shares (meta_of x).uid before y (ap (λ (w : Object). list_any (λ other. shares_uid (meta_of w).uid (meta_of other).uid) before) (sym is) ∙ (passed before z p.0).new_uid) hy)
+  | inl is ↦ true≢false (sym (shares_own (meta_of x).uid (meta_of y).uid uid ex ey) ∙ none_shares (meta_of x).uid before y
+      (ap (λ (w : Object). list_any (λ other. shares_uid (meta_of w).uid (meta_of other).uid) before) (sym is) ∙ (passed before z p.0).new_uid) hy)
   | inr more ↦ before_apart (before ++ z ∷ []) os p.1 x y uid more (some_left (λ w. w ≡ y) before (z ∷ []) hy) ex ey
 ]
 

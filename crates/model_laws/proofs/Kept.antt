@@ -1,13 +1,13 @@
 -- What stands under a key before a call and after it keeps its identity.
 use Rattle.std.proofs.Common.{sym, refl, subst, inl, inr, ap, ◌∙◌, true≢false}
 use Rattle.std.specs.Prelude.{◌≡◌, ◌≢◌, ◌⊎◌, List, Option, Some, None, is_some, unwrap_or}
-use Rattle.kube_types.specs.declared.key.Key.{Key}
-use Rattle.kube_types.specs.declared.objects.Object.{Object}
+use Rattle.kube_objects.specs.declared.key.Key.{Key}
+use Rattle.kube_objects.specs.declared.objects.Object.{Object}
 use Rattle.call_types.specs.declared.reply.Change.{Change}
 use Rattle.call_types.specs.declared.reply.Change.TheVariants.{Added, Modified, Deleted}
-use Rattle.kube_types.specs.Keys.{AreRows, key_of, row_at, put_row, without_row}
-use Rattle.kube_types.proofs.SameKeys.{key_tells}
-use Rattle.kube_types.proofs.KeyOrder.{row_at-put_row, row_at-put_row_other, row_at-without_row, row_at-without_row_other}
+use Rattle.kube_objects.specs.Keys.{AreRows, key_of, row_at, put_row, without_row}
+use Rattle.kube_objects.proofs.SameKeys.{key_tells}
+use Rattle.kube_objects.proofs.KeyOrder.{row_at-put_row, row_at-put_row_other, row_at-without_row, row_at-without_row_other}
 use Rattle.binder_model.specs.Store.{State}
 use Rattle.binder_model.specs.Answers.{Outcome, Says, Stores, Removes, after}
 use Rattle.binder_model.specs.World.{World, Effect, OnStore, OnDevices, SetsMoment, world_after}
@@ -64,4 +64,5 @@ effect_keeps w (OnDevices a) k rows key old new was is = keeps old new (one old 
 effect_keeps w (SetsMoment at) k rows key old new was is = keeps old new (one old new (sym was ∙ is))
 
 pub calls_keep_identity : CallsKeepIdentity
-calls_keep_identity setup w kind request key old new rows was is = effect_keeps w _ (on_effects (λ r. tt) setup w kind request (outcome_changes w.store kind request w.moment)).on rows key old new was is
+calls_keep_identity setup w kind request key old new rows was is =
+    effect_keeps w _ (on_effects (λ r. tt) setup w kind request (outcome_changes w.store kind request w.moment)).on rows key old new was is

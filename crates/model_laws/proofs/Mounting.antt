@@ -2,11 +2,11 @@
 use Rattle.std.proofs.Common.{sym, refl, subst, inl, inr, ◌∙◌}
 use Rattle.std.proofs.lemmas.List.{append_assoc, append-nil}
 use Rattle.std.specs.Prelude.{ℕ, ◌≡◌, true, false, List, [], ◌∷◌, ◌++◌, Some}
-use Rattle.kube_types.specs.declared.uid.Uid.{Uid}
-use Rattle.kube_types.specs.declared.objects.Pod.{Pod as PodData}
-use Rattle.kube_types.specs.declared.objects.Object.{Object}
-use Rattle.kube_types.specs.declared.objects.Object.TheVariants.{Class, Node, Volume, Claim, Pod}
-use Rattle.kube_types.specs.Bindings.{is_deleting}
+use Rattle.kube_parts.specs.declared.uid.Uid.{Uid}
+use Rattle.kube_objects.specs.declared.objects.Pod.{Pod as PodData}
+use Rattle.kube_objects.specs.declared.objects.Object.{Object}
+use Rattle.kube_objects.specs.declared.objects.Object.TheVariants.{Class, Node, Volume, Claim, Pod}
+use Rattle.kube_objects.specs.Bindings.{is_deleting}
 use Rattle.call_types.specs.declared.entry.Entry.{Entry}
 use Rattle.binder_model.specs.ObjectKeys.{pod_key}
 use Rattle.binder_model.specs.Told.{SomeOf, TellsObject, IsPodWith, IsNewest, objects_in}
@@ -102,7 +102,8 @@ shown_at : (mine : List Entry) (node : List ℕ) (pod : Uid) (claims : List Uid)
 shown_at mine node pod claims front [] teller earlier listed told =
     inl (listed, subst (λ (l : List Entry). TellsObject (IsPodWith (IsReadyPod mine l node pod claims)) teller) (append-nil front) told)
 shown_at mine node pod claims front (e ∷ recent) teller earlier listed told =
-    inr (shown_at mine node pod claims (front ++ e ∷ []) recent teller earlier listed (subst (λ (l : List Entry). TellsObject (IsPodWith (IsReadyPod mine l node pod claims)) teller) (sym (append_assoc front (e ∷ []) recent)) told))
+    inr (shown_at mine node pod claims (front ++ e ∷ []) recent teller earlier listed
+    (subst (λ (l : List Entry). TellsObject (IsPodWith (IsReadyPod mine l node pod claims)) teller) (sym (append_assoc front (e ∷ []) recent)) told))
 
 pub mount_joined : (mine : List Entry) (node : List ℕ) (epoch : ℕ) (pod : Uid) (claims : List Uid) → MountSplit mine node epoch pod claims → MayMount mine node epoch pod claims
 mount_joined mine node epoch pod claims m =

@@ -1,12 +1,12 @@
 -- The newest told object of a key was told.
 use Rattle.std.proofs.Common.{refl, sym, subst, inl, inr, ◌∙◌}
 use Rattle.std.specs.Prelude.{ℕ, ◌≡◌, ◌⊎◌, Bool, true, false, List, [], ◌∷◌, Option, Some, None, nat_lt, if◌then◌else◌}
-use Rattle.kube_types.specs.declared.key.Key.{Key}
-use Rattle.kube_types.specs.declared.objects.Volume.{Volume as VolumeData}
-use Rattle.kube_types.specs.declared.objects.Claim.{Claim as ClaimData}
-use Rattle.kube_types.specs.declared.objects.Object.{Object}
-use Rattle.kube_types.specs.declared.objects.Object.TheVariants.{Volume, Claim}
-use Rattle.kube_types.specs.Keys.{meta_of, row_at}
+use Rattle.kube_objects.specs.declared.key.Key.{Key}
+use Rattle.kube_objects.specs.declared.objects.Volume.{Volume as VolumeData}
+use Rattle.kube_objects.specs.declared.objects.Claim.{Claim as ClaimData}
+use Rattle.kube_objects.specs.declared.objects.Object.{Object}
+use Rattle.kube_objects.specs.declared.objects.Object.TheVariants.{Volume, Claim}
+use Rattle.kube_objects.specs.Keys.{meta_of, row_at}
 use Rattle.call_types.specs.declared.entry.Entry.{Entry}
 use Rattle.call_types.specs.declared.request.Request.{Request}
 use Rattle.call_types.specs.declared.reply.Change.{Change}
@@ -14,7 +14,28 @@ use Rattle.call_types.specs.declared.reply.Change.TheVariants as changes
 use Rattle.call_types.specs.declared.reply.Event.{Event}
 use Rattle.call_types.specs.declared.reply.Reply.{Reply}
 use Rattle.call_types.specs.declared.reply.Reply.TheVariants.{Done, Left, Listed, Events}
-use Rattle.binder_model.specs.Told.{ToldObject, ToldVolume, ToldClaim, IsVolumeWith, IsClaimWith, TellsObject, Telling, presence, later, listing, of_event, told_by_events, tells_of, told_of, newest, object_of, IsNewest, objects_in, objects_of_event, objects_of_events}
+use Rattle.binder_model.specs.Told.{
+  ToldObject,
+  ToldVolume,
+  ToldClaim,
+  IsVolumeWith,
+  IsClaimWith,
+  TellsObject,
+  Telling,
+  presence,
+  later,
+  listing,
+  of_event,
+  told_by_events,
+  tells_of,
+  told_of,
+  newest,
+  object_of,
+  IsNewest,
+  objects_in,
+  objects_of_event,
+  objects_of_events,
+}
 use Rattle.model_laws.proofs.Evidence.{told_map}
 use Rattle.model_laws.proofs.Readings.{found_stands}
 use Rattle.model_laws.proofs.Lists.{IsIn, one, none_some, some_left, some_right}

@@ -1,8 +1,8 @@
 -- A fact of outcomes that holds of every answer passes the refusals that come before it.
 use Rattle.std.specs.Prelude.{ℕ, ◌≡◌, Bool, true, false, Option, Some, None}
 use Rattle.std.proofs.Common.{refl}
-use Rattle.kube_types.specs.declared.names.Field.{Field}
-use Rattle.kube_types.specs.declared.names.Rule.{Rule}
+use Rattle.kube_parts.specs.declared.names.Field.{Field}
+use Rattle.kube_parts.specs.declared.names.Rule.{Rule}
 use Rattle.call_types.specs.declared.reply.Refusal.{Refusal}
 use Rattle.call_types.specs.declared.reply.Reply.{Reply}
 use Rattle.binder_model.specs.Answers.{Outcome, Says, refuse, refuse_field, refuse_rule, refuse_stale}

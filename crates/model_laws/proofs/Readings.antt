@@ -5,16 +5,16 @@ use Rattle.std.specs.declared.cmp.Ordering.TheVariants.{Less, Equal}
 use Rattle.std.specs.Ordering.{is_eq}
 use Rattle.std.proofs.lemmas.Cmp.{tied_itself}
 use Rattle.plain_data.specs.Rows.{IsAfter}
-use Rattle.kube_types.specs.declared.key.Key.{Key}
-use Rattle.kube_types.specs.declared.objects.Object.{Object}
-use Rattle.kube_types.specs.Keys.{AreRows, key_cmp, key_of, row_at, rows_of, is_of_kind}
-use Rattle.kube_types.proofs.KeyOrder.{key_cmp_total}
+use Rattle.kube_objects.specs.declared.key.Key.{Key}
+use Rattle.kube_objects.specs.declared.objects.Object.{Object}
+use Rattle.kube_objects.specs.Keys.{AreRows, key_cmp, key_of, row_at, rows_of, is_of_kind}
+use Rattle.kube_objects.proofs.KeyOrder.{key_cmp_total}
 use Rattle.binder_model.specs.Answers.{is_in_namespace, listed_rows, get, list, outcome, reply_of}
 use Rattle.binder_model.specs.Devices.{device_answer}
 use Rattle.binder_model.specs.Told.{SomeOf}
 use Rattle.binder_model.specs.World.{effect, on_devices, reply_to}
 use Rattle.model_laws.specs.Reads.{found, fits_namespace, GetsTellWhatStands, ListsTellWhatStands}
-use Rattle.kube_types.specs.declared.parts.Kind.{Kind}
+use Rattle.kube_parts.specs.declared.parts.Kind.{Kind}
 
 abbrev IsIn : {X : Type 0} → X → List X → Type 0
 IsIn x xs = SomeOf (λ y. y ≡ x) xs

@@ -10,7 +10,23 @@ use Rattle.call_types.specs.declared.reply.Refusal.{Refusal}
 use Rattle.call_types.specs.declared.reply.Reply.{Reply}
 use Rattle.call_types.specs.declared.reply.Reply.TheVariants.{Refused}
 use Rattle.binder_model.specs.Answers.{is_user}
-use Rattle.binder_model.specs.Devices.{Data, Devices, DeviceAnswer, provision_new, provision, erase, unless_planned, unless_stale, take_node, with_mounts, device_answer, data_named, first_fit, is_planned, epoch_if_stale}
+use Rattle.binder_model.specs.Devices.{
+  Data,
+  Devices,
+  DeviceAnswer,
+  provision_new,
+  provision,
+  erase,
+  unless_planned,
+  unless_stale,
+  take_node,
+  with_mounts,
+  device_answer,
+  data_named,
+  first_fit,
+  is_planned,
+  epoch_if_stale,
+}
 use Rattle.binder_model.specs.Watching.{oldest}
 use Rattle.binder_model.specs.World.{base, World, Effect, OnStore, OnDevices, SetsMoment, effect, reply_to, world_after, watch, on_devices, set_time, is_time}
 use Rattle.model_laws.specs.Calls.{is_of_back_end, IsCalled, OnlyTheBackEndCounts}
@@ -46,7 +62,8 @@ unfolding unless_stale
 not_stale d None next k = k
 not_stale d (Some current) next k = λ r e. inl refl
 
-provision_counts : (setup : Setup) (d : Devices) (name provisioner : List ℕ) (bytes : ℕ) (labels : Option (List Pair)) (x : Option Data) → Counts d (provision setup.pools d name provisioner bytes labels x)
+provision_counts : (setup : Setup) (d : Devices) (name provisioner : List ℕ) (bytes : ℕ) (labels : Option (List Pair)) (x : Option Data)
+    → Counts d (provision setup.pools d name provisioner bytes labels x)
 unfolding provision provision_new
 provision_counts setup d name provisioner bytes labels (Some x) = other d _ _ tt
 provision_counts setup d name provisioner bytes labels None = new (first_fit provisioner bytes labels d.stored 0 setup.pools)

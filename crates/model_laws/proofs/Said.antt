@@ -2,15 +2,15 @@
 use Rattle.std.proofs.Common.{refl}
 use Rattle.std.specs.Prelude.{ℕ, ◌≡◌, ◌+◌, Bool, true, false, List, Option, Some, None, nat_lt, if◌then◌else◌, ⊤}
 use Rattle.plain_data.specs.Pairs.{Pair}
-use Rattle.kube_types.specs.declared.uid.Uid.{Uid}
-use Rattle.kube_types.specs.declared.names.Field.{Field}
-use Rattle.kube_types.specs.declared.names.Rule.{Rule}
-use Rattle.kube_types.specs.declared.key.Key.{Key}
-use Rattle.kube_types.specs.declared.parts.Kind.{Kind}
-use Rattle.kube_types.specs.declared.objects.Pod.{Pod as PodData}
-use Rattle.kube_types.specs.declared.objects.Object.{Object}
-use Rattle.kube_types.specs.Keys.{rows_of, meta_of, row_at}
-use Rattle.kube_types.specs.Bindings.{is_deleting}
+use Rattle.kube_parts.specs.declared.uid.Uid.{Uid}
+use Rattle.kube_parts.specs.declared.names.Field.{Field}
+use Rattle.kube_parts.specs.declared.names.Rule.{Rule}
+use Rattle.kube_objects.specs.declared.key.Key.{Key}
+use Rattle.kube_parts.specs.declared.parts.Kind.{Kind}
+use Rattle.kube_objects.specs.declared.objects.Pod.{Pod as PodData}
+use Rattle.kube_objects.specs.declared.objects.Object.{Object}
+use Rattle.kube_objects.specs.Keys.{rows_of, meta_of, row_at}
+use Rattle.kube_objects.specs.Bindings.{is_deleting}
 use Rattle.call_types.specs.declared.edit.Edit.{Edit}
 use Rattle.call_types.specs.declared.setup.Setup.{Setup}
 use Rattle.call_types.specs.declared.request.NewStatus.{NewStatus}
@@ -21,8 +21,49 @@ use Rattle.call_types.specs.declared.reply.Refusal.{Refusal}
 use Rattle.call_types.specs.declared.reply.Reply.{Reply}
 use Rattle.call_types.specs.declared.reply.Reply.TheVariants as replies
 use Rattle.binder_model.specs.Store.{State, leaves, leaves_at_once}
-use Rattle.binder_model.specs.Answers.{Outcome, Says, Stores, Removes, is_user, refuse, refuse_field, refuse_rule, refuse_stale, write_outcome, create, update, written_if_fits, update_status, edit_to, edit, delete_of, delete, get, list, listed_rows, bind, finish, outcome}
-use Rattle.binder_model.specs.Devices.{Devices, Data, DeviceAnswer, data_named, first_fit, is_planned, epoch_if_stale, provision_new, provision, erase, unless_planned, unless_stale, take_node, with_mounts, device_answer}
+use Rattle.binder_model.specs.Answers.{
+  Outcome,
+  Says,
+  Stores,
+  Removes,
+  is_user,
+  refuse,
+  refuse_field,
+  refuse_rule,
+  refuse_stale,
+  write_outcome,
+  create,
+  update,
+  written_if_fits,
+  update_status,
+  edit_to,
+  edit,
+  delete_of,
+  delete,
+  get,
+  list,
+  listed_rows,
+  bind,
+  finish,
+  outcome,
+}
+use Rattle.binder_model.specs.Devices.{
+  Devices,
+  Data,
+  DeviceAnswer,
+  data_named,
+  first_fit,
+  is_planned,
+  epoch_if_stale,
+  provision_new,
+  provision,
+  erase,
+  unless_planned,
+  unless_stale,
+  take_node,
+  with_mounts,
+  device_answer,
+}
 use Rattle.binder_model.specs.Watching.{oldest, told_events}
 use Rattle.binder_model.specs.World.{base, World, Effect, OnStore, OnDevices, SetsMoment, effect, watch, on_devices, set_time, is_time}
 use Rattle.model_laws.specs.Calls.{IsSecondDelete}
@@ -124,7 +165,8 @@ module _ {P : Reply → Type 0} (refusal : (r : Refusal) → P (replies.Refused 
   edit_said s kind change None = no_more _
   edit_said s kind change (Some old) = edit_to_said s kind old _
 
-  delete_said : (s : State) (moment : List ℕ) (given : Option Uid) (x : Option Object) → ((old : Object) → x ≡ Some old → is_deleting (meta_of old) ≡ true → P (replies.Done old)) → IsSaid P (delete s moment given x)
+  delete_said : (s : State) (moment : List ℕ) (given : Option Uid) (x : Option Object)
+      → ((old : Object) → x ≡ Some old → is_deleting (meta_of old) ≡ true → P (replies.Done old)) → IsSaid P (delete s moment given x)
   unfolding delete delete_of
   delete_said s moment given None again = no_more _
   delete_said s moment given (Some old) again = refused_or _ _ _ (by (leaves_at_once old) (is_deleting (meta_of old)) refl)
@@ -178,7 +220,8 @@ unfolding unless_stale
 stale_is d None next k = k
 stale_is d (Some current) next k = tt
 
-provision_is : (setup : Setup) (d : Devices) (name provisioner : List ℕ) (bytes : ℕ) (labels : Option (List Pair)) (x : Option Data) → IsOfDevices (provision setup.pools d name provisioner bytes labels x).reply
+provision_is : (setup : Setup) (d : Devices) (name provisioner : List ℕ) (bytes : ℕ) (labels : Option (List Pair)) (x : Option Data)
+    → IsOfDevices (provision setup.pools d name provisioner bytes labels x).reply
 unfolding provision provision_new
 provision_is setup d name provisioner bytes labels (Some x) = tt
 provision_is setup d name provisioner bytes labels None = new (first_fit provisioner bytes labels d.stored 0 setup.pools)

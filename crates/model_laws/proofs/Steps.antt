@@ -2,8 +2,8 @@
 use Rattle.std.proofs.Common.{refl, subst}
 use Rattle.std.specs.Prelude.{ℕ, ◌≡◌, ◌+◌, Bool, true, false, List, Option, Some, None, nat_lt, if◌then◌else◌, ⊤}
 use Rattle.plain_data.specs.Pairs.{Pair}
-use Rattle.kube_types.specs.declared.parts.Kind.{Kind}
-use Rattle.kube_types.specs.declared.objects.DataId.{DataId}
+use Rattle.kube_parts.specs.declared.parts.Kind.{Kind}
+use Rattle.kube_objects.specs.declared.objects.DataId.{DataId}
 use Rattle.call_types.specs.declared.setup.Setup.{Setup}
 use Rattle.call_types.specs.declared.setup.Pool.{Pool}
 use Rattle.call_types.specs.declared.request.SeatKind.{SeatKind}
@@ -13,7 +13,26 @@ use Rattle.call_types.specs.declared.reply.Refusal.{Refusal}
 use Rattle.call_types.specs.declared.reply.Reply.{Reply}
 use Rattle.call_types.specs.declared.reply.Reply.TheVariants.{Refused}
 use Rattle.binder_model.specs.Answers.{Outcome, Says, Stores, Removes, is_user, reply_of, after}
-use Rattle.binder_model.specs.Devices.{Data, Devices, DeviceAnswer, MountAt, after_call, provision_new, provision, erase, unless_planned, unless_stale, take_node, with_mounts, device_answer, data_named, is_planned, epoch_if_stale, with_mount, without_mount}
+use Rattle.binder_model.specs.Devices.{
+  Data,
+  Devices,
+  DeviceAnswer,
+  MountAt,
+  after_call,
+  provision_new,
+  provision,
+  erase,
+  unless_planned,
+  unless_stale,
+  take_node,
+  with_mounts,
+  device_answer,
+  data_named,
+  is_planned,
+  epoch_if_stale,
+  with_mount,
+  without_mount,
+}
 use Rattle.binder_model.specs.Watching.{oldest}
 use Rattle.binder_model.specs.World.{base, World, Effect, OnStore, OnDevices, SetsMoment, effect, reply_to, world_after, log_after, watch, on_devices, set_time, is_time}
 use Rattle.model_laws.specs.Steps.{AreSameButCalls, IsSameButCalls, RefusalsChangeNothing}

@@ -1,13 +1,13 @@
 -- One version, one object; one UID, one key; told is true.
 use Rattle.std.proofs.Common.{sym, refl, subst, inl, inr, ap, ◌∙◌, arith}
 use Rattle.std.specs.Prelude.{ℕ, ◌≡◌, ◌≢◌, ◌⊎◌, ◌≤◌, ◌<◌, ◌+◌, List, [], ◌∷◌, Option, Some, None, length}
-use Rattle.kube_types.specs.declared.uid.Uid.{Uid}
-use Rattle.kube_types.specs.declared.key.Key.{Key}
-use Rattle.kube_types.specs.declared.objects.Object.{Object}
-use Rattle.kube_types.specs.Keys.{AreRows, meta_of, key_of, row_at, put_row, without_row}
-use Rattle.kube_types.specs.Uids.{uid_of_serial}
-use Rattle.kube_types.proofs.UidTexts.{serials_apart}
-use Rattle.kube_types.proofs.KeyOrder.{row_at_key, row_at-put_row, row_at-put_row_other, row_at-without_row, row_at-without_row_other}
+use Rattle.kube_parts.specs.declared.uid.Uid.{Uid}
+use Rattle.kube_objects.specs.declared.key.Key.{Key}
+use Rattle.kube_objects.specs.declared.objects.Object.{Object}
+use Rattle.kube_objects.specs.Keys.{AreRows, meta_of, key_of, row_at, put_row, without_row}
+use Rattle.kube_parts.specs.Uids.{uid_of_serial}
+use Rattle.kube_parts.proofs.UidTexts.{serials_apart}
+use Rattle.kube_objects.proofs.KeyOrder.{row_at_key, row_at-put_row, row_at-put_row_other, row_at-without_row, row_at-without_row_other}
 use Rattle.call_types.specs.declared.entry.Entry.{Entry}
 use Rattle.call_types.specs.declared.setup.Setup.{Setup}
 use Rattle.call_types.specs.declared.reply.Change.{Change}
@@ -19,7 +19,7 @@ use Rattle.binder_model.specs.World.{World, Effect, OnStore, OnDevices, SetsMome
 use Rattle.model_laws.specs.Steps.{KeepsStore, WritesOnce}
 use Rattle.model_laws.specs.Stood.{Stands, Stood, OneVersionOneObject, OneUidOneKey}
 use Rattle.model_laws.proofs.Lists.{one, none_some}
-use Rattle.kube_types.proofs.SameKeys.{key_tells}
+use Rattle.kube_objects.proofs.SameKeys.{key_tells}
 use Rattle.model_laws.proofs.Changes.{IsOver, IsInPlace, ChangeOf, outcome_changes}
 use Rattle.model_laws.proofs.Givings.{Gives, outcome_gives}
 use Rattle.model_laws.proofs.Versions.{NextOf, outcome_next, versions_count_writes}
@@ -87,7 +87,8 @@ stood_or setup e past o (inr now) =
     ]
 
 -- the version after one call more
-version_step : (setup : Setup) (e : Entry) (past : List Entry) → ((world setup (e ∷ past)).store.version ≡ (world setup past).store.version) ⊎ ((world setup (e ∷ past)).store.version ≡ (world setup past).store.version + 1)
+version_step : (setup : Setup) (e : Entry) (past : List Entry) → ((world setup (e ∷ past)).store.version ≡ (world setup past).store.version)
+    ⊎ ((world setup (e ∷ past)).store.version ≡ (world setup past).store.version + 1)
 version_step setup e past = by (versions_count_writes setup (world setup past) e.kind e.request)
   where
     by : KeepsStore (world setup past) (world setup (e ∷ past)) ⊎ WritesOnce (world setup past) (world setup (e ∷ past)) (reply_to (EffectAt setup e past))
@@ -147,15 +148,18 @@ stood_uid setup (e ∷ past) o uid s its n above small = elim (stood_or setup e 
   | inr new ↦ by (λ a sa ea. let counted = new.counted in stood_uid setup past a uid sa ea n (omega (arith, counted, above)) small) new.whence new.counted
 ]
   where
-    by : ((a : Object) → Stood setup past a → (meta_of a).uid ≡ Some uid → uid ≢ uid_of_serial n) → Whence (world setup past) o → (world setup (e ∷ past)).store.version ≡ (world setup past).store.version + 1 → uid ≢ uid_of_serial n
+    by : ((a : Object) → Stood setup past a → (meta_of a).uid ≡ Some uid → uid ≢ uid_of_serial n) → Whence (world setup past) o
+        → (world setup (e ∷ past)).store.version ≡ (world setup past).store.version + 1 → uid ≢ uid_of_serial n
     by old (inl fresh) counted is =
         let same = serials_apart n ((world setup past).store.version + 1) (sym is ∙ one uid _ (sym its ∙ fresh)) in
         absurd (omega (arith, same, counted, above))
     by old (inr over) counted is =
-        old over.0 (stood setup past over.0 (ap (λ k. row_at k (world setup past).store.rows) (row_at_key (key_of o) over.0 (world setup past).store.rows over.1.0) ∙ over.1.0)) (sym over.1.1.uid ∙ its) is
+        old over.0 (stood setup past over.0 (ap (λ k. row_at k (world setup past).store.rows)
+        (row_at_key (key_of o) over.0 (world setup past).store.rows over.1.0) ∙ over.1.0)) (sym over.1.1.uid ∙ its) is
 
 same_key_of : (setup : Setup) (past : List Entry) (o p : Object) (uid : Uid) → (world setup past).store.version + 1 < most_serials
-    → ((a : Object) → Stood setup past a → (meta_of a).uid ≡ Some uid → key_of a ≡ key_of p) → Stood setup past p → (meta_of o).uid ≡ Some uid → (meta_of p).uid ≡ Some uid → Whence (world setup past) o → key_of o ≡ key_of p
+    → ((a : Object) → Stood setup past a → (meta_of a).uid ≡ Some uid → key_of a ≡ key_of p) → Stood setup past p → (meta_of o).uid ≡ Some uid
+    → (meta_of p).uid ≡ Some uid → Whence (world setup past) o → key_of o ≡ key_of p
 same_key_of setup past o p uid small known sp eo ep (inl fresh) =
     absurd (stood_uid setup past p uid sp ep ((world setup past).store.version + 1) (omega arith) small (one uid _ (sym eo ∙ fresh)))
 same_key_of setup past o p uid small known sp eo ep (inr over) =

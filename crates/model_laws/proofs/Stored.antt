@@ -3,7 +3,7 @@ use Rattle.std.proofs.Common.{sym, refl, inl, inr, ap, ◌∙◌, arith}
 use Rattle.std.specs.Prelude.{ℕ, ◌≡◌, ◌⊎◌, ◌≤◌, ◌+◌, suc, Bool, true, false, List, [], ◌∷◌, ◌++◌, Option, Some, None, length, nat_lt, drop, if◌then◌else◌, ⊤}
 use Rattle.std.proofs.lemmas.Fmt.{decimal_injective}
 use Rattle.plain_data.specs.Pairs.{Pair}
-use Rattle.kube_types.specs.declared.objects.DataId.{DataId}
+use Rattle.kube_objects.specs.declared.objects.DataId.{DataId}
 use Rattle.call_types.specs.declared.entry.Entry.{Entry}
 use Rattle.call_types.specs.declared.setup.Setup.{Setup}
 use Rattle.call_types.specs.declared.setup.Pool.{Pool}
@@ -11,7 +11,25 @@ use Rattle.call_types.specs.declared.request.SeatKind.{SeatKind}
 use Rattle.call_types.specs.declared.request.Request.{Request}
 use Rattle.call_types.specs.declared.request.Request.TheVariants as requests
 use Rattle.binder_model.specs.Answers.{Outcome, is_user}
-use Rattle.binder_model.specs.Devices.{Data, Devices, DeviceAnswer, after_call, data_after_erase, fresh_id, provision_new, provision, erase, unless_planned, unless_stale, take_node, with_mounts, device_answer, data_named, is_planned, epoch_if_stale}
+use Rattle.binder_model.specs.Devices.{
+  Data,
+  Devices,
+  DeviceAnswer,
+  after_call,
+  data_after_erase,
+  fresh_id,
+  provision_new,
+  provision,
+  erase,
+  unless_planned,
+  unless_stale,
+  take_node,
+  with_mounts,
+  device_answer,
+  data_named,
+  is_planned,
+  epoch_if_stale,
+}
 use Rattle.binder_model.specs.Watching.{oldest}
 use Rattle.binder_model.specs.World.{base, World, Effect, OnStore, OnDevices, SetsMoment, world, effect, world_after, on_devices, set_time, watch, is_time}
 use Rattle.model_laws.specs.Reads.{DataIdsAreGivenOnce}
@@ -158,5 +176,6 @@ data_ids_are_given_once setup newer between older past id short f s =
     let grown = one_at_most _ _ (effect_grown setup (world setup past) older.kind older.request).on in
     let e : length (stored_of setup (older ∷ past)) ≡ length (f.given ∷ stored_of setup past) = ap length f.added in
     let g : length (f.given ∷ stored_of setup past) ≡ length (stored_of setup past) + 1 = omega arith in
-    let same = decimal_injective (length (stored_of setup past) + 1) (length (stored_of setup (between ++ older ∷ past)) + 1) (omega (arith, short, low, count, e, g)) (omega (arith, short, count)) texts in
+    let same = decimal_injective (length (stored_of setup past) + 1) (length (stored_of setup (between ++ older ∷ past)) + 1)
+    (omega (arith, short, low, count, e, g)) (omega (arith, short, count)) texts in
     absurd (omega (arith, same, low, e, g))

@@ -1,11 +1,11 @@
 -- Told is true: what an answer tells stands in the store, or stood there and is in the log.
 use Rattle.std.proofs.Common.{subst, inl, inr, ap, ◌∙◌}
 use Rattle.std.specs.Prelude.{ℕ, ◌≡◌, ◌⊎◌, ◌==◌, Bool, true, false, List, [], ◌∷◌, ◌++◌, Some, take, if◌then◌else◌}
-use Rattle.kube_types.specs.declared.key.Key.{Key}
-use Rattle.kube_types.specs.declared.parts.Kind.{Kind}
-use Rattle.kube_types.specs.declared.objects.Object.{Object}
-use Rattle.kube_types.specs.Keys.{AreRows, meta_of, key_of, row_at, put_row}
-use Rattle.kube_types.proofs.KeyOrder.{row_at_key, row_at-put_row}
+use Rattle.kube_objects.specs.declared.key.Key.{Key}
+use Rattle.kube_parts.specs.declared.parts.Kind.{Kind}
+use Rattle.kube_objects.specs.declared.objects.Object.{Object}
+use Rattle.kube_objects.specs.Keys.{AreRows, meta_of, key_of, row_at, put_row}
+use Rattle.kube_objects.proofs.KeyOrder.{row_at_key, row_at-put_row}
 use Rattle.call_types.specs.declared.entry.Entry.{Entry}
 use Rattle.call_types.specs.declared.setup.Setup.{Setup}
 use Rattle.call_types.specs.declared.request.Request.{Request}
@@ -94,7 +94,8 @@ tells w (SetsMoment at) s = record { true_of = λ o h. absurd h }
 record LogGrows (w : World) (x : Effect) : Type 0 where
   logged : (o : Object) → IsIn o (objects_of_events (world_after w x).log) → IsIn o (objects_of_events w.log) ⊎ Stands (world_after w x) o
 
-event_of : (rows : List Object) (change : Change) (new o : Object) (log : List Event) → IsIn o (objects_of_events ((record { change = change; object = new; version = (meta_of new).version }) ∷ log)) → IsIn o (objects_of_events log) ⊎ (row_at (key_of o) (put_row new rows) ≡ Some o)
+event_of : (rows : List Object) (change : Change) (new o : Object) (log : List Event)
+    → IsIn o (objects_of_events ((record { change = change; object = new; version = (meta_of new).version }) ∷ log)) → IsIn o (objects_of_events log) ⊎ (row_at (key_of o) (put_row new rows) ≡ Some o)
 event_of rows change new o log h = by change h
   where
     here : new ≡ o → row_at (key_of o) (put_row new rows) ≡ Some o

@@ -1,12 +1,12 @@
 -- Each write is at the next version.
 use Rattle.std.proofs.Common.{refl, inl, inr, ap}
 use Rattle.std.specs.Prelude.{ℕ, ◌≡◌, ◌⊎◌, ◌+◌, Bool, true, false, List, Option, Some, None, nat_lt, if◌then◌else◌, ⊤}
-use Rattle.kube_types.specs.declared.uid.Uid.{Uid}
-use Rattle.kube_types.specs.declared.objects.Meta.{Meta}
-use Rattle.kube_types.specs.declared.objects.Pod.{Pod as PodData}
-use Rattle.kube_types.specs.declared.objects.Object.{Object}
-use Rattle.kube_types.specs.declared.objects.Object.TheVariants.{Class, Node, Volume, Claim, Pod}
-use Rattle.kube_types.specs.Keys.{meta_of}
+use Rattle.kube_parts.specs.declared.uid.Uid.{Uid}
+use Rattle.kube_objects.specs.declared.objects.Meta.{Meta}
+use Rattle.kube_objects.specs.declared.objects.Pod.{Pod as PodData}
+use Rattle.kube_objects.specs.declared.objects.Object.{Object}
+use Rattle.kube_objects.specs.declared.objects.Object.TheVariants.{Class, Node, Volume, Claim, Pod}
+use Rattle.kube_objects.specs.Keys.{meta_of}
 use Rattle.call_types.specs.declared.edit.Edit.{Edit}
 use Rattle.call_types.specs.declared.setup.Setup.{Setup}
 use Rattle.call_types.specs.declared.request.NewStatus.{NewStatus}
@@ -16,7 +16,29 @@ use Rattle.call_types.specs.declared.request.Request.TheVariants as requests
 use Rattle.call_types.specs.declared.reply.Reply.{Reply}
 use Rattle.binder_model.specs.Store.{State, with_meta, at_version, marked_object, created_object, updated_object, admitted_object, without_status, with_status_of, leaves}
 use Rattle.binder_model.specs.Edits.{edited_object}
-use Rattle.binder_model.specs.Answers.{Outcome, Says, Stores, Removes, is_user, write_outcome, create, update, written_if_fits, update_status, edit_to, edit, delete_of, delete, get, list, bind, finish, outcome, reply_of, after}
+use Rattle.binder_model.specs.Answers.{
+  Outcome,
+  Says,
+  Stores,
+  Removes,
+  is_user,
+  write_outcome,
+  create,
+  update,
+  written_if_fits,
+  update_status,
+  edit_to,
+  edit,
+  delete_of,
+  delete,
+  get,
+  list,
+  bind,
+  finish,
+  outcome,
+  reply_of,
+  after,
+}
 use Rattle.binder_model.specs.Devices.{DeviceAnswer}
 use Rattle.binder_model.specs.Watching.{oldest}
 use Rattle.binder_model.specs.World.{base, World, Effect, OnStore, OnDevices, SetsMoment, effect, reply_to, world_after, log_after, watch, on_devices, set_time, is_time}

@@ -4,8 +4,8 @@ use Rattle.std.proofs.lemmas.Bool.Decides.{nat_tests}
 use Rattle.std.proofs.lemmas.List.{append_assoc}
 use Rattle.std.proofs.lemmas.List.Elements.{filter-append}
 use Rattle.std.specs.Prelude.{ℕ, ◌≡◌, ◌≤◌, ◌<◌, ◌+◌, true, false, List, [], ◌∷◌, ◌++◌, nat_lt, filter, reverse, take, ⊤}
-use Rattle.kube_types.specs.declared.parts.Kind.{Kind}
-use Rattle.kube_types.specs.Keys.{is_of_kind}
+use Rattle.kube_parts.specs.declared.parts.Kind.{Kind}
+use Rattle.kube_objects.specs.Keys.{is_of_kind}
 use Rattle.call_types.specs.declared.entry.Entry.{Entry}
 use Rattle.call_types.specs.declared.setup.Setup.{Setup}
 use Rattle.call_types.specs.declared.reply.Event.{Event}
@@ -64,7 +64,8 @@ since setup (e ∷ newer) past =
     let l = left_of setup e (newer ++ past) in
     record {
       between = joined _ _ _ _ (between_wider _ _ _ _ _ (rises setup newer past) (omega arith) l.between) (between_wider _ _ _ _ _ (omega arith) l.up s.between);
-      log = l.log ∙ ap (λ xs. left_by (effect_of setup e (newer ++ past)) ++ xs) s.log ∙ sym (append_assoc (left_by (effect_of setup e (newer ++ past))) (events_by setup newer past) (world setup past).log);
+      log = l.log ∙ ap (λ xs. left_by (effect_of setup e (newer ++ past)) ++ xs) s.log
+          ∙ sym (append_assoc (left_by (effect_of setup e (newer ++ past))) (events_by setup newer past) (world setup past).log);
     }
 
 -- all events of a log are at most at the world's version

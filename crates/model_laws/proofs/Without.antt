@@ -2,8 +2,8 @@
 use Rattle.std.proofs.Common.{sym, subst, ap, ◌∙◌, true≢false, arith}
 use Rattle.std.specs.Prelude.{ℕ, ◌≡◌, ◌-◌, max, false, List, [], Option}
 use Rattle.std.specs.List.{list_any}
-use Rattle.kube_types.specs.declared.uid.Uid.{Uid}
-use Rattle.kube_types.specs.declared.objects.Object.{Object}
+use Rattle.kube_parts.specs.declared.uid.Uid.{Uid}
+use Rattle.kube_objects.specs.declared.objects.Object.{Object}
 use Rattle.binder_model.specs.Store.{first_moment}
 use Rattle.binder_model.specs.Devices.{no_devices}
 use Rattle.binder_model.specs.Imports.{ImportsPass, base_of, rows_of_imports}

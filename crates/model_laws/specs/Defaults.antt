@@ -1,9 +1,9 @@
 -- The default class of rows is one class, and the scan of the rows finds it.
 -- A choice of this project, as the definitions are; their sources stand in `binder_model`.
 use Rattle.std.specs.Prelude.{◌≡◌, List}
-use Rattle.kube_types.specs.declared.objects.Class.{Class as ClassData}
-use Rattle.kube_types.specs.declared.objects.Object.{Object}
-use Rattle.kube_types.specs.Keys.{AreRows}
+use Rattle.kube_objects.specs.declared.objects.Class.{Class as ClassData}
+use Rattle.kube_objects.specs.declared.objects.Object.{Object}
+use Rattle.kube_objects.specs.Keys.{AreRows}
 use Rattle.kube_types.specs.Defaults.{IsDefault, IsDefaultOf, StandsIn}
 use Rattle.binder_model.specs.Store.{default_class}
 

@@ -1,9 +1,9 @@
 -- A binder may write Released only where it read the claim gone after it was told the volume with its UID.
 -- A choice of this project, as the definitions are; their sources stand in `binder_model`.
 use Rattle.std.specs.Prelude.{true, [], ◌∷◌, Some, None, codes}
-use Rattle.kube_types.specs.declared.parts.Kind.TheVariants as kinds
-use Rattle.kube_types.specs.declared.parts.VolumePhase.TheVariants as volumes
-use Rattle.kube_types.specs.declared.objects.Object.TheVariants.{Volume}
+use Rattle.kube_parts.specs.declared.parts.Kind.TheVariants as kinds
+use Rattle.kube_parts.specs.declared.parts.VolumePhase.TheVariants as volumes
+use Rattle.kube_objects.specs.declared.objects.Object.TheVariants.{Volume}
 use Rattle.call_types.specs.declared.entry.Entry.{Entry}
 use Rattle.call_types.specs.declared.request.NewStatus.TheVariants as statuses
 use Rattle.call_types.specs.declared.request.SeatKind.TheVariants.{Binder}

@@ -1,7 +1,7 @@
 -- What one call does to a world.
 -- A choice of this project, as the definitions are; their sources stand in `binder_model`.
 use Rattle.std.specs.Prelude.{◌≡◌, ◌+◌, ◌⊎◌, ◌∷◌}
-use Rattle.kube_types.specs.Keys.{meta_of}
+use Rattle.kube_objects.specs.Keys.{meta_of}
 use Rattle.call_types.specs.declared.setup.Setup.{Setup}
 use Rattle.call_types.specs.declared.request.SeatKind.{SeatKind}
 use Rattle.call_types.specs.declared.request.Request.{Request}

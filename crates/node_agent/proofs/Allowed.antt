@@ -2,10 +2,10 @@
 use Rattle.std.proofs.Common.{◌≡◌, ◌∙◌, ℕ, suc, zero, List, [], ◌∷◌, Bool, true, false, Some, None, inl, inr, refl, sym, ap, subst, length, slice_get}
 use Rattle.std.specs.Prelude.{◌||◌, IfSome, bytes_eq, is_some}
 use Rattle.std.proofs.lemmas.Slice.Eq.{bytes_eq-Decides}
-use Rattle.kube_types.specs.declared.key.Key.{Key}
-use Rattle.kube_types.specs.declared.objects.Pod.{Pod as PodData}
-use Rattle.kube_types.specs.declared.objects.Object.TheVariants.{Pod}
-use Rattle.kube_types.specs.Bindings.{has_name}
+use Rattle.kube_objects.specs.declared.key.Key.{Key}
+use Rattle.kube_objects.specs.declared.objects.Pod.{Pod as PodData}
+use Rattle.kube_objects.specs.declared.objects.Object.TheVariants.{Pod}
+use Rattle.kube_objects.specs.Bindings.{has_name}
 use Rattle.call_types.specs.declared.entry.Entry.{Entry}
 use Rattle.call_types.specs.declared.request.Request.{Request}
 use Rattle.call_types.specs.declared.request.Request.TheVariants as requests
@@ -50,11 +50,13 @@ reads_claim : (op : AgentOp) (name : List ℕ) (mine : List Entry) → MayReadCl
 reads_claim op name mine kept =
     let m = kept.pod in
     let taken : is_some (last_epoch op.pod.node mine) ≡ true = ap (λ (n : List ℕ). is_some (last_epoch n mine)) m.on_node.placed ∙ ap is_some m.current in
-    let names : NamesClaim mine (claim_key op.pod.meta.namespace name) op.pod = record { taken = taken; scheduled = m.on_node.scheduled; placed = refl; kind = refl; named = named_at op.pod.claims (length op.ready) name kept.next.place } in
+    let names : NamesClaim mine (claim_key op.pod.meta.namespace name) op.pod =
+    record { taken = taken; scheduled = m.on_node.scheduled; placed = refl; kind = refl; named = named_at op.pod.claims (length op.ready) name kept.next.place } in
     inl (newest_pod (NamesClaim mine (claim_key op.pod.meta.namespace name)) mine (pod_key op.pod.meta.namespace op.pod.meta.name) op.pod m.newest names)
 
 -- each claim was counted
-whole : (recent : List Entry) (namespace : List ℕ) (ready : List ReadyClaim) (names : List (List ℕ)) → AreFoundReady recent namespace ready names → slice_get names (length ready) ≡ None → AreReadReady recent namespace names (uids_of ready)
+whole : (recent : List Entry) (namespace : List ℕ) (ready : List ReadyClaim) (names : List (List ℕ)) → AreFoundReady recent namespace ready names
+    → slice_get names (length ready) ≡ None → AreReadReady recent namespace names (uids_of ready)
 whole recent namespace [] [] all e = tt
 whole recent namespace [] (n ∷ names) all e = none_some (sym e)
 whole recent namespace (r ∷ ready) [] all e = absurd all

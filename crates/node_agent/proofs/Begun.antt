@@ -4,14 +4,14 @@ use Rattle.std.specs.Prelude.{◌++◌, ◌&&◌, bytes_eq, is_some}
 use Rattle.std.specs.List.{list_any}
 use Rattle.std.proofs.lemmas.Bool.{and_parts, or_parts}
 use Rattle.std.proofs.lemmas.Slice.Eq.{bytes_eq-Decides}
-use Rattle.kube_types.specs.declared.key.Key.{Key}
-use Rattle.kube_types.specs.declared.uid.Uid.{Uid}
-use Rattle.kube_types.specs.declared.objects.Pod.{Pod as PodData}
-use Rattle.kube_types.specs.declared.objects.Object.{Object}
-use Rattle.kube_types.specs.declared.objects.Object.TheVariants.{Class, Node, Volume, Claim, Pod}
-use Rattle.kube_types.specs.Bindings.{is_deleting, is_scheduled}
-use Rattle.kube_types.specs.Keys.{row_at}
-use Rattle.kube_types.proofs.KeyOrder.{row_at_key}
+use Rattle.kube_objects.specs.declared.key.Key.{Key}
+use Rattle.kube_parts.specs.declared.uid.Uid.{Uid}
+use Rattle.kube_objects.specs.declared.objects.Pod.{Pod as PodData}
+use Rattle.kube_objects.specs.declared.objects.Object.{Object}
+use Rattle.kube_objects.specs.declared.objects.Object.TheVariants.{Class, Node, Volume, Claim, Pod}
+use Rattle.kube_objects.specs.Bindings.{is_deleting, is_scheduled}
+use Rattle.kube_objects.specs.Keys.{row_at}
+use Rattle.kube_objects.proofs.KeyOrder.{row_at_key}
 use Rattle.call_types.specs.declared.entry.Entry.{Entry}
 use Rattle.call_types.specs.declared.reply.MountRow.{MountRow}
 use Rattle.binder_model.specs.AgentLicence.{IsEndingPod, IsPodOn, ListedPods, epoch_in, has_row, since_epoch}
@@ -48,7 +48,8 @@ cut : (p : PodData) (node : List ℕ) (mine : List Entry) → HasStarted node mi
 cut p node [] started h = absurd h
 cut p node (e ∷ mine) started h = by (is_some (epoch_in node e)) started h (cut p node mine)
   where
-    by : (b : Bool) → StartedBy b node e mine (HasStarted node mine) → ToldPod (λ q. q ≡ p) (e ∷ mine) → (HasStarted node mine → ToldPod (λ q. q ≡ p) mine → IsCut p (since_epoch node mine)) → IsCut p (if b then [] else e ∷ since_epoch node mine)
+    by : (b : Bool) → StartedBy b node e mine (HasStarted node mine) → ToldPod (λ q. q ≡ p) (e ∷ mine)
+        → (HasStarted node mine → ToldPod (λ q. q ≡ p) mine → IsCut p (since_epoch node mine)) → IsCut p (if b then [] else e ∷ since_epoch node mine)
     by true none told rest = absurd (none_told (λ q. q ≡ p) (e ∷ mine) none told)
     by false before (inl t) rest = record { recent = []; teller = e; earlier = since_epoch node mine; since = refl; listed = before.0 (telling (λ q. q ≡ p) e t); told = t }
     by false before (inr later) rest =
@@ -59,7 +60,8 @@ becomes : (a b : AgentOp) (mine : List Entry) → Some a ≡ Some b → AgentKee
 becomes a b mine e kept = subst (λ (k : AgentOp). AgentKeeps k mine) (one a b e) kept
 
 -- the pod stands on the node
-module _ (node : List ℕ) (epoch : ℕ) (p : PodData) (uid : Uid) (mine : List Entry) (row : Option Object) (at : row ≡ Some (Pod p)) (may : MayDecide node epoch row mine) (newest : IsNewest mine (pod_key p.meta.namespace p.meta.name) (Pod p)) (on_node : IsPodOn uid node p) where
+module _ (node : List ℕ) (epoch : ℕ) (p : PodData) (uid : Uid) (mine : List Entry) (row : Option Object) (at : row ≡ Some (Pod p))
+    (may : MayDecide node epoch row mine) (newest : IsNewest mine (pod_key p.meta.namespace p.meta.name) (Pod p)) (on_node : IsPodOn uid node p) where
   reading : is_deleting p.meta ≡ false → MayReadForPod (at_start node epoch p uid steps.Done) mine
   reading staying =
       let c = cut p node mine may.started (newest_pod (λ q. q ≡ p) mine (pod_key p.meta.namespace p.meta.name) p newest refl) in
@@ -84,12 +86,15 @@ module _ (node : List ℕ) (epoch : ℕ) (p : PodData) (uid : Uid) (mine : List 
   at_keeps : (mounted : Bool) (op : AgentOp) → agent_at node epoch p uid mounted ≡ Some op → AgentKeeps op mine
   at_keeps mounted op = by (is_deleting p.meta) mounted refl
     where
-      by : (deleting there : Bool) → is_deleting p.meta ≡ deleting → (if deleting then Some (at_start node epoch p uid steps.Unmounts) else if there then None else Some (at_start node epoch p uid (step_for p []))) ≡ Some op → AgentKeeps op mine
-      by true there d e = becomes (at_start node epoch p uid steps.Unmounts) op mine e (record { current = may.current; told = newest_pod (IsEndingPod uid node) mine (pod_key p.meta.namespace p.meta.name) p newest (ending d) })
+      by : (deleting there : Bool) → is_deleting p.meta ≡ deleting
+          → (if deleting then Some (at_start node epoch p uid steps.Unmounts) else if there then None else Some (at_start node epoch p uid (step_for p []))) ≡ Some op → AgentKeeps op mine
+      by true there d e = becomes (at_start node epoch p uid steps.Unmounts) op mine e
+          (record { current = may.current; told = newest_pod (IsEndingPod uid node) mine (pod_key p.meta.namespace p.meta.name) p newest (ending d) })
       by false true d e = none_some e
       by false false d e = becomes (at_start node epoch p uid (step_for p [])) op mine e (next_keeps (at_start node epoch p uid steps.Done) mine (reading d))
 
-pod_keeps : (node : List ℕ) (epoch : ℕ) (mounts : List MountRow) (p : PodData) (mine : List Entry) (row : Option Object) (op : AgentOp) → row ≡ Some (Pod p) → MayDecide node epoch row mine → IsNewest mine (pod_key p.meta.namespace p.meta.name) (Pod p) → agent_for node epoch mounts p ≡ Some op → AgentKeeps op mine
+pod_keeps : (node : List ℕ) (epoch : ℕ) (mounts : List MountRow) (p : PodData) (mine : List Entry) (row : Option Object) (op : AgentOp)
+    → row ≡ Some (Pod p) → MayDecide node epoch row mine → IsNewest mine (pod_key p.meta.namespace p.meta.name) (Pod p) → agent_for node epoch mounts p ≡ Some op → AgentKeeps op mine
 pod_keeps node epoch mounts p mine row op at may newest = by (is_scheduled p && bytes_eq p.node node) p.meta.uid refl refl
   where
     by : (b : Bool) (u : Option Uid) → (is_scheduled p && bytes_eq p.node node) ≡ b → p.meta.uid ≡ u → (if b then agent_known node epoch mounts p u else None) ≡ Some op → AgentKeeps op mine
@@ -99,7 +104,8 @@ pod_keeps node epoch mounts p mine row op at may newest = by (is_scheduled p && 
         let parts = and_parts (is_scheduled p) (bytes_eq p.node node) on in
         at_keeps node epoch p uid mine row at may newest (record { same = known; placed = (bytes_eq-Decides p.node node).0 parts.1; scheduled = parts.0 }) (has_row uid mounts) op e
 
-pub decisions : (caches : AllKnown) (mine : List Entry) (node : List ℕ) (epoch : ℕ) (mounts : List MountRow) (key : Key) (op : AgentOp) → AllStandFor caches mine → MayDecide node epoch (row_at key (all_objects caches)) mine → agent_begins node epoch mounts (row_at key (all_objects caches)) ≡ Some op → AgentKeeps op mine
+pub decisions : (caches : AllKnown) (mine : List Entry) (node : List ℕ) (epoch : ℕ) (mounts : List MountRow) (key : Key) (op : AgentOp)
+    → AllStandFor caches mine → MayDecide node epoch (row_at key (all_objects caches)) mine → agent_begins node epoch mounts (row_at key (all_objects caches)) ≡ Some op → AgentKeeps op mine
 decisions caches mine node epoch mounts key op stand may = by (row_at key (all_objects caches)) refl
   where
     newest : (p : PodData) → row_at key (all_objects caches) ≡ Some (Pod p) → IsNewest mine (pod_key p.meta.namespace p.meta.name) (Pod p)
@@ -126,7 +132,8 @@ at_calls node epoch p uid mounted op = by (is_deleting p.meta) mounted
     reads None = refl
     reads (Some name) = refl
 
-    by : (deleting there : Bool) → (if deleting then Some (at_start node epoch p uid steps.Unmounts) else if there then None else Some (at_start node epoch p uid (step_for p []))) ≡ Some op → is_some (agent_call op) ≡ true
+    by : (deleting there : Bool) → (if deleting then Some (at_start node epoch p uid steps.Unmounts) else if there then None else Some
+        (at_start node epoch p uid (step_for p []))) ≡ Some op → is_some (agent_call op) ≡ true
     by true there e = has_call (at_start node epoch p uid steps.Unmounts) op e refl
     by false true e = none_some e
     by false false e = has_call (at_start node epoch p uid (step_for p [])) op e (reads (slice_get p.claims 0))

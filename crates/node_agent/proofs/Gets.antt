@@ -4,11 +4,11 @@ use Rattle.std.specs.Prelude.{◌||◌, not, bytes_eq, is_some}
 use Rattle.std.specs.List.{list_any}
 use Rattle.std.proofs.lemmas.Slice.Eq.{bytes_eq-Decides}
 use Rattle.std.proofs.lemmas.Bool.{and_from, and_right, or_parts}
-use Rattle.kube_types.specs.declared.key.Key.{Key}
-use Rattle.kube_types.specs.declared.uid.Uid.{Uid}
-use Rattle.kube_types.specs.declared.objects.Object.{Object}
-use Rattle.kube_types.specs.Keys.{same_key}
-use Rattle.kube_types.proofs.SameKeys.{same_key-Decides, same_key_itself}
+use Rattle.kube_objects.specs.declared.key.Key.{Key}
+use Rattle.kube_parts.specs.declared.uid.Uid.{Uid}
+use Rattle.kube_objects.specs.declared.objects.Object.{Object}
+use Rattle.kube_objects.specs.Keys.{same_key}
+use Rattle.kube_objects.proofs.SameKeys.{same_key-Decides, same_key_itself}
 use Rattle.call_types.specs.declared.entry.Entry.{Entry}
 use Rattle.call_types.specs.declared.request.Request.{Request}
 use Rattle.call_types.specs.declared.request.Request.TheVariants as requests
@@ -70,7 +70,8 @@ claim_asked namespace name volume e is = ap (is_get_of (volume_key volume)) is
 volume_asked : (namespace name volume : List ℕ) (e : Entry) → e.request ≡ requests.Get (volume_key volume) → is_get_of (claim_key namespace name) e.request ≡ false
 volume_asked namespace name volume e is = ap (is_get_of (claim_key namespace name)) is
 
-read_past : (e : Entry) (recent : List Entry) (namespace name : List ℕ) (r : ReadyClaim) → (f : IsFoundReady recent namespace name r) → is_get_of (claim_key namespace name) e.request ≡ false → is_get_of (volume_key r.volume) e.request ≡ false → IsFoundReady (e ∷ recent) namespace name r
+read_past : (e : Entry) (recent : List Entry) (namespace name : List ℕ) (r : ReadyClaim) → (f : IsFoundReady recent namespace name r)
+    → is_get_of (claim_key namespace name) e.request ≡ false → is_get_of (volume_key r.volume) e.request ≡ false → IsFoundReady (e ∷ recent) namespace name r
 read_past e recent namespace name r f claim_other volume_other =
     let k = f.read in
     let other : is_get_of (volume_key k.claim.volume_name) e.request ≡ false = ap (λ (n : List ℕ). is_get_of (volume_key n) e.request) f.of ∙ volume_other in
@@ -94,7 +95,8 @@ read_past e recent namespace name r f claim_other volume_other =
     }
 
 -- a read of a claim that was not counted
-pub claims_past : (e : Entry) (recent : List Entry) (namespace new : List ℕ) (ready : List ReadyClaim) (names : List (List ℕ)) → e.request ≡ requests.Get (claim_key namespace new) → is_claim_read new ready ≡ false → AreFoundReady recent namespace ready names → AreFoundReady (e ∷ recent) namespace ready names
+pub claims_past : (e : Entry) (recent : List Entry) (namespace new : List ℕ) (ready : List ReadyClaim) (names : List (List ℕ))
+    → e.request ≡ requests.Get (claim_key namespace new) → is_claim_read new ready ≡ false → AreFoundReady recent namespace ready names → AreFoundReady (e ∷ recent) namespace ready names
 claims_past e recent namespace new [] names is unread all = tt
 claims_past e recent namespace new (r ∷ ready) [] is unread all = absurd all
 claims_past e recent namespace new (r ∷ ready) (name ∷ names) is unread all =
@@ -105,7 +107,8 @@ claims_past e recent namespace new (r ∷ ready) (name ∷ names) is unread all 
     )
 
 -- a read of a volume that was not counted
-pub volumes_past : (e : Entry) (recent : List Entry) (namespace new : List ℕ) (ready : List ReadyClaim) (names : List (List ℕ)) → e.request ≡ requests.Get (volume_key new) → is_volume_read new ready ≡ false → AreFoundReady recent namespace ready names → AreFoundReady (e ∷ recent) namespace ready names
+pub volumes_past : (e : Entry) (recent : List Entry) (namespace new : List ℕ) (ready : List ReadyClaim) (names : List (List ℕ))
+    → e.request ≡ requests.Get (volume_key new) → is_volume_read new ready ≡ false → AreFoundReady recent namespace ready names → AreFoundReady (e ∷ recent) namespace ready names
 volumes_past e recent namespace new [] names is unread all = tt
 volumes_past e recent namespace new (r ∷ ready) [] is unread all = absurd all
 volumes_past e recent namespace new (r ∷ ready) (name ∷ names) is unread all =
@@ -115,7 +118,9 @@ volumes_past e recent namespace new (r ∷ ready) (name ∷ names) is unread all
     )
 
 -- the claim whose volume was found carrying it
-pub claim_past : (e : Entry) (recent : List Entry) (namespace name volume : List ℕ) → e.request ≡ requests.Get (volume_key volume) → (last_get (claim_key namespace name) (e ∷ recent) ≡ last_get (claim_key namespace name) recent) × (since_get (claim_key namespace name) (e ∷ recent) ≡ e ∷ since_get (claim_key namespace name) recent)
+pub claim_past : (e : Entry) (recent : List Entry) (namespace name volume : List ℕ) → e.request ≡ requests.Get (volume_key volume)
+    → (last_get (claim_key namespace name) (e ∷ recent) ≡ last_get (claim_key namespace name) recent)
+    × (since_get (claim_key namespace name) (e ∷ recent) ≡ e ∷ since_get (claim_key namespace name) recent)
 claim_past e recent namespace name volume is =
     let other = volume_asked namespace name volume e is in
     (last_past (claim_key namespace name) e recent other, since_past (claim_key namespace name) e recent other)

@@ -5,12 +5,12 @@ use Rattle.std.specs.Prelude.{◌||◌, ◌⊎◌, not, is_some, if◌then◌els
 use Rattle.std.specs.List.{list_any}
 use Rattle.std.proofs.lemmas.Bool.{and_parts}
 use Rattle.std.proofs.lemmas.Bool.Decides.{Decides-eqb}
-use Rattle.kube_types.specs.declared.uid.Uid.{Uid}
-use Rattle.kube_types.specs.declared.parts.Kind.TheVariants as kinds
-use Rattle.kube_types.specs.declared.objects.Pod.{Pod as PodData}
-use Rattle.kube_types.specs.declared.objects.Object.{Object}
-use Rattle.kube_types.specs.declared.objects.Object.TheVariants.{Class, Node, Volume, Claim, Pod}
-use Rattle.kube_types.specs.Keys.{same_kind}
+use Rattle.kube_parts.specs.declared.uid.Uid.{Uid}
+use Rattle.kube_parts.specs.declared.parts.Kind.TheVariants as kinds
+use Rattle.kube_objects.specs.declared.objects.Pod.{Pod as PodData}
+use Rattle.kube_objects.specs.declared.objects.Object.{Object}
+use Rattle.kube_objects.specs.declared.objects.Object.TheVariants.{Class, Node, Volume, Claim, Pod}
+use Rattle.kube_objects.specs.Keys.{same_kind}
 use Rattle.call_types.specs.declared.entry.Entry.{Entry}
 use Rattle.call_types.specs.declared.request.Request.{Request}
 use Rattle.call_types.specs.declared.request.Request.TheVariants as requests
@@ -62,7 +62,8 @@ untold_is_unfinished uid (e ∷ mine) licensed none = by (is_finish_of uid e.req
 
 -- the pods may be watched only where a list of all of them was told
 
-step_listed : (request : Request) (reply : Reply) (f : Following) (L : Type 0) (from : ℕ) → ((n : ℕ) → IsFrom n f → L) → IsFrom from (follow_on request reply kinds.Pod f) → (is_pod_list request reply ≡ true) ⊎ L
+step_listed : (request : Request) (reply : Reply) (f : Following) (L : Type 0) (from : ℕ) → ((n : ℕ) → IsFrom n f → L)
+    → IsFrom from (follow_on request reply kinds.Pod f) → (is_pod_list request reply ≡ true) ⊎ L
 step_listed (requests.List kinds.Pod None) (replies.Listed items version) f L from rest h = inl refl
 step_listed (requests.List kinds.Node None) (replies.Listed items version) f L from rest h = inr (rest from h)
 step_listed (requests.List kinds.StorageClass None) (replies.Listed items version) f L from rest h = inr (rest from h)
@@ -84,7 +85,8 @@ listed_in : (mine : List Entry) (from : ℕ) → IsFrom from (following_of mine 
 listed_in [] from h = absurd h
 listed_in (e ∷ mine) from h = by e.told refl h (λ n x. listed_in mine n x)
   where
-    by : (b : Bool) → e.told ≡ b → IsFrom from (if b then follow_on e.request e.reply kinds.Pod (following_of mine kinds.Pod) else following_of mine kinds.Pod) → ((n : ℕ) → IsFrom n (following_of mine kinds.Pod) → ListedPods mine) → ListedPods (e ∷ mine)
+    by : (b : Bool) → e.told ≡ b → IsFrom from (if b then follow_on e.request e.reply kinds.Pod (following_of mine kinds.Pod) else following_of mine
+        kinds.Pod) → ((n : ℕ) → IsFrom n (following_of mine kinds.Pod) → ListedPods mine) → ListedPods (e ∷ mine)
     by false told x rest = inr (rest from x)
     by true told x rest = elim (step_listed e.request e.reply (following_of mine kinds.Pod) (ListedPods mine) from rest x) [ inl list ↦ inl (told, list) | inr before ↦ inr before ]
 
@@ -93,7 +95,8 @@ since : (node : List ℕ) (mine : List Entry) → TookFirst node mine → Listed
 since node [] took listed = absurd listed
 since node (e ∷ mine) took listed = by (is_some (epoch_in node e)) took listed (since node mine)
   where
-    by : (b : Bool) → TakenBy b (e ∷ mine) (TookFirst node mine) → ListedPods (e ∷ mine) → (TookFirst node mine → ListedPods mine → ListedPods (since_epoch node mine)) → ListedPods (if b then [] else e ∷ since_epoch node mine)
+    by : (b : Bool) → TakenBy b (e ∷ mine) (TookFirst node mine) → ListedPods (e ∷ mine)
+        → (TookFirst node mine → ListedPods mine → ListedPods (since_epoch node mine)) → ListedPods (if b then [] else e ∷ since_epoch node mine)
     by true untold list rest = absurd (untold.unlisted list)
     by false before (inl here) rest = inl here
     by false before (inr later) rest = inr (rest before later)

@@ -1,7 +1,7 @@
 -- Each machine that begins has a next call; and no call lists or watches a whole kind, so that none
 -- counts as a read of the actor's own. A choice of this project.
 use Rattle.std.specs.Prelude.{ℕ, ◌≡◌, true, List, Option, Some, is_some}
-use Rattle.kube_types.specs.declared.objects.Object.{Object}
+use Rattle.kube_objects.specs.declared.objects.Object.{Object}
 use Rattle.call_types.specs.declared.request.Request.{Request}
 use Rattle.call_types.specs.Kinds.{ReadsNoKind}
 use Rattle.call_types.specs.declared.reply.MountRow.{MountRow}

@@ -1,12 +1,12 @@
 -- The evidence that a machine of a node agent keeps, in the entries of its seat, the newest first. A choice of this project.
 use Rattle.std.specs.Prelude.{ℕ, ◌≡◌, Bool, true, false, List, [], ◌∷◌, ◌++◌, Option, Some, None, is_some, length, slice_get, ⊤}
 use Rattle.std.specs.List.{list_any}
-use Rattle.kube_types.specs.declared.uid.Uid.{Uid}
-use Rattle.kube_types.specs.declared.objects.Claim.{Claim as ClaimData}
-use Rattle.kube_types.specs.declared.objects.Pod.{Pod as PodData}
-use Rattle.kube_types.specs.declared.objects.Object.{Object}
-use Rattle.kube_types.specs.declared.objects.Object.TheVariants.{Claim, Pod}
-use Rattle.kube_types.specs.Bindings.{is_deleting}
+use Rattle.kube_parts.specs.declared.uid.Uid.{Uid}
+use Rattle.kube_objects.specs.declared.objects.Claim.{Claim as ClaimData}
+use Rattle.kube_objects.specs.declared.objects.Pod.{Pod as PodData}
+use Rattle.kube_objects.specs.declared.objects.Object.{Object}
+use Rattle.kube_objects.specs.declared.objects.Object.TheVariants.{Claim, Pod}
+use Rattle.kube_objects.specs.Bindings.{is_deleting}
 use Rattle.call_types.specs.declared.entry.Entry.{Entry}
 use Rattle.call_types.specs.declared.reply.Reply.TheVariants.{Found}
 use Rattle.binder_model.specs.AgentLicence.{IsEndingPod, IsPodOn, IsReadReady, ListedPods, epoch_in, last_epoch, last_get, never_finished, since_epoch, was_told_unmounted}

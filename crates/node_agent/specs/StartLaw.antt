@@ -1,7 +1,7 @@
 -- How what a decision stands on comes about and goes on: what an actor may rely on. A choice of this project.
 use Rattle.std.specs.Prelude.{ℕ, ◌≡◌, Bool, true, false, List, [], ◌∷◌, None, is_some, ⊤}
 use Rattle.std.specs.List.{list_any}
-use Rattle.kube_types.specs.declared.uid.Uid.{Uid}
+use Rattle.kube_parts.specs.declared.uid.Uid.{Uid}
 use Rattle.call_types.specs.declared.entry.Entry.{Entry}
 use Rattle.call_types.specs.declared.request.SeatKind.TheVariants.{Agent}
 use Rattle.binder_model.specs.AgentLicence.{ListedPods, epoch_in, never_finished, since_epoch}

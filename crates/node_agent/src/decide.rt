@@ -1,7 +1,7 @@
 //! What begins on the key of a pod, on a look-up alone.
 
 ghost use Rattle.std.specs.Prelude.{◌≡◌, IfOk};
-ghost use Rattle.kube_types.specs.Keys.{row_at};
+ghost use Rattle.kube_objects.specs.Keys.{row_at};
 ghost use Rattle.node_agent.specs.Agents.{agent_begins, agent_for};
 
 use crate::agent::{AgentOp, has_row};

@@ -3,7 +3,7 @@ use Rattle.std.proofs.Common.{ℕ, ◌+◌, List, [], ◌∷◌, ◌++◌, lengt
 use Rattle.std.specs.List.{All}
 use Rattle.std.proofs.lemmas.List.Elements.{All-nil, All-cons, All-head, All-tail}
 use Rattle.serde_json.specs.Data.{Data, Items, no_items, item}
-use Rattle.kube_types.specs.declared.objects.Object.{Object}
+use Rattle.kube_objects.specs.declared.objects.Object.{Object}
 use Rattle.object_text.specs.declared.errors.Member.TheVariants as members
 use Rattle.object_text.specs.declared.errors.ObjectError.{ObjectError}
 use Rattle.object_text.specs.declared.errors.ObjectError.TheVariants.{TooLong}
@@ -42,7 +42,8 @@ item_utf8 : (d : Data) → HasUtf8 d → IfOk (item_of d) ObjectUtf8
 unfolding item_of
 item_utf8 d h = if_ok ObjectUtf8 (is_long d) (Err TooLong) (object_of d) (λ e. tt) (λ e. object_read_utf8 d h)
 
-next_utf8 : (n : ℕ) (r : Result Object ObjectError) (next : Object → Result (List Object) ListError) → IfOk r ObjectUtf8 → ((o : Object) → ObjectUtf8 o → IfOk (next o) AreUtf8) → IfOk (with_item n r next) AreUtf8
+next_utf8 : (n : ℕ) (r : Result Object ObjectError) (next : Object → Result (List Object) ListError) → IfOk r ObjectUtf8
+    → ((o : Object) → ObjectUtf8 o → IfOk (next o) AreUtf8) → IfOk (with_item n r next) AreUtf8
 next_utf8 n (Ok o) next h k = k o h
 next_utf8 n (Err e) next h k = tt
 
@@ -62,7 +63,8 @@ list_in_utf8 : (d : Data) → HasUtf8 d → IfOk (list_in d) AreUtf8
 unfolding list_in
 list_in_utf8 d h =
     if_ok AreUtf8 (is_object d) _ _ (λ e.
-    if_ok AreUtf8 (is_list d) (list_items (needed_items members.Items (Some d))) (one_item (item_of d)) (λ f. list_items_utf8 (needed_items members.Items (Some d)) (needed_items_read_utf8 members.Items (Some d) h))
+    if_ok AreUtf8 (is_list d) (list_items (needed_items members.Items (Some d))) (one_item (item_of d))
+    (λ f. list_items_utf8 (needed_items members.Items (Some d)) (needed_items_read_utf8 members.Items (Some d) h))
     (λ f. one_item_utf8 (item_of d) (item_utf8 d h))) (λ e. tt)
 
 list_from_utf8 : (r : Result Data ObjectError) → IfOk r HasUtf8 → IfOk (list_from r) AreUtf8

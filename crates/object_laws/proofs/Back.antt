@@ -4,17 +4,17 @@ use Rattle.serde_json.specs.Data.{Data, string, no_members}
 use Rattle.serde_json.specs.Find.{get}
 use Rattle.serde_json.specs.Written.{has_float}
 use Rattle.json_text.proofs.PutAll.{get-put_all}
-use Rattle.kube_types.specs.Keys.{kind_of}
-use Rattle.kube_types.specs.Words.{kind_word}
-use Rattle.kube_types.specs.declared.parts.Kind.{Kind}
-use Rattle.kube_types.specs.declared.parts.Kind.TheVariants as kinds
-use Rattle.kube_types.specs.declared.objects.Class.{Class}
-use Rattle.kube_types.specs.declared.objects.Node.{Node}
-use Rattle.kube_types.specs.declared.objects.Volume.{Volume}
-use Rattle.kube_types.specs.declared.objects.Claim.{Claim}
-use Rattle.kube_types.specs.declared.objects.Pod.{Pod}
-use Rattle.kube_types.specs.declared.objects.Object.{Object}
-use Rattle.kube_types.specs.declared.objects.Object.TheVariants as objects
+use Rattle.kube_objects.specs.Keys.{kind_of}
+use Rattle.kube_parts.specs.Words.{kind_word}
+use Rattle.kube_parts.specs.declared.parts.Kind.{Kind}
+use Rattle.kube_parts.specs.declared.parts.Kind.TheVariants as kinds
+use Rattle.kube_objects.specs.declared.objects.Class.{Class}
+use Rattle.kube_objects.specs.declared.objects.Node.{Node}
+use Rattle.kube_objects.specs.declared.objects.Volume.{Volume}
+use Rattle.kube_objects.specs.declared.objects.Claim.{Claim}
+use Rattle.kube_objects.specs.declared.objects.Pod.{Pod}
+use Rattle.kube_objects.specs.declared.objects.Object.{Object}
+use Rattle.kube_objects.specs.declared.objects.Object.TheVariants as objects
 use Rattle.object_print.specs.Volumes.{volume_pairs, volume_data}
 use Rattle.object_print.specs.Claims.{claim_pairs, claim_data}
 use Rattle.object_print.specs.Objects.{class_data, pod_pairs, pod_data, node_pairs, node_data, object_data}

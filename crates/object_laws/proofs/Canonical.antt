@@ -3,16 +3,16 @@ use Rattle.std.proofs.Common.{ℕ, ◌≤◌, List, [], ◌∷◌, ◌++◌, fal
 use Rattle.serde_json.specs.Data.{Members, string}
 use Rattle.json_text.specs.Build.{Good, GoodMembers, GoodOption}
 use Rattle.json_text.proofs.Good.{good_put_all, good_object, good_string, good_object_of}
-use Rattle.kube_types.specs.Words.{mode_words}
-use Rattle.kube_types.specs.declared.parts.Modes.{Modes}
-use Rattle.kube_types.specs.declared.objects.Amount.{Amount}
-use Rattle.kube_types.specs.declared.objects.Volume.{Volume}
-use Rattle.kube_types.specs.declared.objects.Claim.{Claim}
-use Rattle.kube_types.specs.declared.objects.Class.{Class}
-use Rattle.kube_types.specs.declared.objects.Node.{Node}
-use Rattle.kube_types.specs.declared.objects.Pod.{Pod}
-use Rattle.kube_types.specs.declared.objects.Object.{Object}
-use Rattle.kube_types.specs.declared.objects.Object.TheVariants as objects
+use Rattle.kube_parts.specs.Words.{mode_words}
+use Rattle.kube_parts.specs.declared.parts.Modes.{Modes}
+use Rattle.kube_objects.specs.declared.objects.Amount.{Amount}
+use Rattle.kube_objects.specs.declared.objects.Volume.{Volume}
+use Rattle.kube_objects.specs.declared.objects.Claim.{Claim}
+use Rattle.kube_objects.specs.declared.objects.Class.{Class}
+use Rattle.kube_objects.specs.declared.objects.Node.{Node}
+use Rattle.kube_objects.specs.declared.objects.Pod.{Pod}
+use Rattle.kube_objects.specs.declared.objects.Object.{Object}
+use Rattle.kube_objects.specs.declared.objects.Object.TheVariants as objects
 use Rattle.json_text.specs.Members.{filled, extra_members}
 use Rattle.object_print.specs.Metadata.{head_pairs}
 use Rattle.object_print.specs.Parts.{storage_data, ref_data, node_terms_data, selector_data}
@@ -22,7 +22,22 @@ use Rattle.object_print.specs.Objects.{class_back, class_data, pod_spec, pod_pai
 use Rattle.object_text.specs.declared.extra.Listed.{Listed}
 use Rattle.object_laws.specs.Given.{AreExtra, IsVolume, IsClaim, IsClass, IsNode, IsPod, IsGivenObject}
 use Rattle.object_laws.proofs.ExtraBack.{extra_back}
-use Rattle.object_laws.proofs.CanonicalParts.{good_filled, good_option, good_texts, good_filled_array, good_filled_pairs, good_filled_object, good_meta, good_modes, good_storage, good_requests, good_ref, good_source, good_node_terms, good_selector}
+use Rattle.object_laws.proofs.CanonicalParts.{
+  good_filled,
+  good_option,
+  good_texts,
+  good_filled_array,
+  good_filled_pairs,
+  good_filled_object,
+  good_meta,
+  good_modes,
+  good_storage,
+  good_requests,
+  good_ref,
+  good_source,
+  good_node_terms,
+  good_selector,
+}
 
 good_extra : (n : ℕ) (known : Listed) (kept : List ℕ) (ms : Members) → n ≤ 126 → AreExtra n known kept ms → GoodMembers n (extra_members kept)
 good_extra n known kept ms le h = rw (extra_back n known kept ms le h) h.good
@@ -34,8 +49,16 @@ good_kept known kept ms h = good_extra 125 known kept ms (omega arith) h
 good_volume_spec : (v : Volume) → IsVolume v → Good 126 (volume_spec v)
 unfolding volume_spec
 good_volume_spec v h =
-    good_object (good_put_all {n = 125} (volume_front v ++ volume_back v) (extra_members v.extra)
-    (good_modes 124 v.modes, (good_storage 124 v.amount, (good_option 125 ref_data v.claim_ref (good_ref 124), (good_source 124 v.source, (good_option 125 node_terms_data v.terms (good_node_terms 118), (good_string, (good_filled 125 v.class, (good_string, tt))))))))
+    good_object (good_put_all {n = 125} (volume_front v ++ volume_back v) (extra_members v.extra) (
+      good_modes 124 v.modes,
+      (
+        good_storage 124 v.amount,
+        (
+          good_option 125 ref_data v.claim_ref (good_ref 124),
+          (good_source 124 v.source, (good_option 125 node_terms_data v.terms (good_node_terms 118), (good_string, (good_filled 125 v.class, (good_string, tt))))),
+        ),
+      ),
+    )
     (good_kept _ v.extra h.extra.0 h.extra.1.extra))
 
 good_volume_status : (v : Volume) → Good 126 (volume_status v)
@@ -49,8 +72,13 @@ good_volume v h = good_object_of 126 (volume_pairs v) (good_string, (good_string
 good_claim_spec : (c : Claim) → IsClaim c → Good 126 (claim_spec c)
 unfolding claim_spec
 good_claim_spec c h =
-    good_object (good_put_all {n = 125} (claim_front c ++ claim_back c) (extra_members c.extra)
-    (good_modes 124 c.modes, (good_requests 123 c.amount, (good_option 125 selector_data c.selector (good_selector 121), (good_option 125 string c.class (good_texts 125), (good_string, (good_filled 125 c.volume_name, tt))))))
+    good_object (good_put_all {n = 125} (claim_front c ++ claim_back c) (extra_members c.extra) (
+      good_modes 124 c.modes,
+      (
+        good_requests 123 c.amount,
+        (good_option 125 selector_data c.selector (good_selector 121), (good_option 125 string c.class (good_texts 125), (good_string, (good_filled 125 c.volume_name, tt)))),
+      ),
+    )
     (good_kept _ c.extra h.extra.0 h.extra.1))
 
 good_got_modes : (got : Option Amount) (m : Modes) → GoodOption 125 (got_modes got m)
@@ -81,7 +109,8 @@ good_pod p h = good_object_of 126 (pod_pairs p) (good_string, (good_string, (goo
 
 good_node : (n : Node) → IsNode n → Good 127 (node_data n)
 unfolding node_data
-good_node n h = good_object_of 126 (node_pairs n) (good_string, (good_string, (good_meta 124 false n.meta, (good_filled_object 125 (extra_members n.extra) (good_kept _ n.extra h.extra.0 h.extra.1), tt))))
+good_node n h = good_object_of 126 (node_pairs n)
+    (good_string, (good_string, (good_meta 124 false n.meta, (good_filled_object 125 (extra_members n.extra) (good_kept _ n.extra h.extra.0 h.extra.1), tt))))
 
 pub object_good : (o : Object) → IsGivenObject o → Good 127 (object_data o)
 unfolding object_data

@@ -4,14 +4,30 @@ use Rattle.serde_json.specs.Data.{Data, string, Members, no_members, member}
 use Rattle.json_text.specs.Build.{put_some, Good, GoodItems, GoodMembers, GoodOption, GoodPairs}
 use Rattle.json_text.proofs.Good.{good_none, good_put_some, good_object, good_object_of, good_string, good_item, good_items, good_array}
 use Rattle.plain_data.specs.Pairs.{Pair}
-use Rattle.kube_types.specs.Words.{mode_words}
-use Rattle.kube_types.specs.declared.uid.Uid.{Uid}
-use Rattle.kube_types.specs.declared.parts.SourceKind.{SourceKind}
-use Rattle.kube_types.specs.declared.parts.SourceKind.TheVariants.{Csi, Nfs, Local, HostPath}
-use Rattle.kube_types.specs.declared.objects.Meta.{Meta}
+use Rattle.kube_parts.specs.Words.{mode_words}
+use Rattle.kube_parts.specs.declared.uid.Uid.{Uid}
+use Rattle.kube_parts.specs.declared.parts.SourceKind.{SourceKind}
+use Rattle.kube_parts.specs.declared.parts.SourceKind.TheVariants.{Csi, Nfs, Local, HostPath}
+use Rattle.kube_objects.specs.declared.objects.Meta.{Meta}
 use Rattle.json_text.specs.Members.{text, filled, counted, items_data, array_data, filled_array, put_pairs, filled_pairs, filled_object, within}
 use Rattle.object_print.specs.Metadata.{uid_data, filled_or_always, front_pairs, back_pairs, meta_data}
-use Rattle.object_print.specs.Parts.{modes_data, storage_pairs, storage_data, requests_data, ref_pairs, ref_data, source_pairs, source_data, expr_pairs, expr_data, term_pairs, term_data, node_terms_data, selector_pairs, selector_data}
+use Rattle.object_print.specs.Parts.{
+  modes_data,
+  storage_pairs,
+  storage_data,
+  requests_data,
+  ref_pairs,
+  ref_data,
+  source_pairs,
+  source_data,
+  expr_pairs,
+  expr_data,
+  term_pairs,
+  term_data,
+  node_terms_data,
+  selector_pairs,
+  selector_data,
+}
 
 -- each value is good
 abbrev pub AllGood : {X : Type 0} → ℕ → (X → Data) → Type 0
@@ -78,8 +94,19 @@ good_namespace n false s = good_filled n s
 pub good_meta : (n : ℕ) (b : Bool) (m : Meta) → Good (suc (suc n)) (meta_data b m)
 unfolding meta_data
 good_meta n b m =
-    good_object_of (suc n) (front_pairs m ++ back_pairs b m)
-    (good_filled_pairs n m.annotations, (good_filled (suc n) m.created, (good_option (suc n) string m.deleted (good_texts (suc n)), (good_filled_array n string m.finalizers (good_texts n), (good_filled_pairs n m.labels, (good_string, (good_namespace (suc n) b m.namespace, (good_counted (suc n) m.version, (good_some_uid (suc n) m.uid, tt)))))))))
+    good_object_of (suc n) (front_pairs m ++ back_pairs b m) (
+      good_filled_pairs n m.annotations,
+      (
+        good_filled (suc n) m.created,
+        (
+          good_option (suc n) string m.deleted (good_texts (suc n)),
+          (
+            good_filled_array n string m.finalizers (good_texts n),
+            (good_filled_pairs n m.labels, (good_string, (good_namespace (suc n) b m.namespace, (good_counted (suc n) m.version, (good_some_uid (suc n) m.uid, tt))))),
+          ),
+        ),
+      ),
+    )
 
 -- ---- parts
 

@@ -4,15 +4,15 @@ use Rattle.serde_json.specs.Data.{Data, string, object, Members, no_members, mem
 use Rattle.serde_json.specs.Find.{get, get_member}
 use Rattle.json_text.specs.Build.{put_some, put_all, pick}
 use Rattle.json_text.proofs.PutAll.{get-put_all}
-use Rattle.kube_types.specs.Words.{mode_words, claim_phase_word}
-use Rattle.kube_types.specs.Named.{claim_phase_named}
-use Rattle.kube_types.proofs.NamedWords.{claim_phases_inverse}
-use Rattle.kube_types.specs.declared.parts.Modes.{Modes}
-use Rattle.kube_types.specs.declared.parts.ClaimPhase.{ClaimPhase}
-use Rattle.kube_types.specs.declared.parts.ClaimPhase.TheVariants.{Pending}
-use Rattle.kube_types.specs.declared.objects.Amount.{Amount}
-use Rattle.kube_types.specs.declared.objects.Selector.{Selector}
-use Rattle.kube_types.specs.declared.objects.Claim.{Claim}
+use Rattle.kube_parts.specs.Words.{mode_words, claim_phase_word}
+use Rattle.kube_parts.specs.Named.{claim_phase_named}
+use Rattle.kube_parts.proofs.NamedWords.{claim_phases_inverse}
+use Rattle.kube_parts.specs.declared.parts.Modes.{Modes}
+use Rattle.kube_parts.specs.declared.parts.ClaimPhase.{ClaimPhase}
+use Rattle.kube_parts.specs.declared.parts.ClaimPhase.TheVariants.{Pending}
+use Rattle.kube_objects.specs.declared.objects.Amount.{Amount}
+use Rattle.kube_objects.specs.declared.objects.Selector.{Selector}
+use Rattle.kube_objects.specs.declared.objects.Claim.{Claim}
 use Rattle.json_text.specs.Members.{MemberList, items_data, filled_array}
 use Rattle.object_print.specs.Parts.{modes_data, storage_data, requests_data, selector_pairs, selector_data}
 use Rattle.object_print.specs.Claims.{claim_front, claim_back as back_pairs, claim_spec, got_modes, claim_status_pairs, claim_status, claim_pairs, claim_data}
@@ -46,7 +46,10 @@ members_back : (s : Selector) → IsSelector s → selector_of (Some (object (pu
 unfolding selector_of
 members_back s h =
     let place : Option Data = Some (object (put_all (selector_pairs s) no_members)) in
-    rw (pairs_back members.MatchLabels place s.labels h (get-put_all (codes "matchLabels") (selector_pairs s) no_members), exprs_back place s.exprs (get-put_all (codes "matchExpressions") (selector_pairs s) no_members)) refl
+    rw (
+      pairs_back members.MatchLabels place s.labels h (get-put_all (codes "matchLabels") (selector_pairs s) no_members),
+      exprs_back place s.exprs (get-put_all (codes "matchExpressions") (selector_pairs s) no_members),
+    ) refl
 
 selector_back : (place : Option Data) (o : Option Selector) → IfSome o IsSelector → at members.Selector place ≡ option_map selector_data o → selector_at place ≡ Ok o
 unfolding selector_at
@@ -61,7 +64,8 @@ phase_back place p h =
 
 -- ---- the modes of what a claim got
 
-words_read : (words : List (List ℕ)) (m : Modes) → modes_from (items_data string words) no_modes ≡ Ok m → (optional_items_from members.AccessModes (filled_array string words) >>= λ o. modes_or_none o) ≡ Ok m
+words_read : (words : List (List ℕ)) (m : Modes) → modes_from (items_data string words) no_modes ≡ Ok m
+    → (optional_items_from members.AccessModes (filled_array string words) >>= λ o. modes_or_none o) ≡ Ok m
 words_read [] m h = h
 words_read (w ∷ ws) m h = h
 
@@ -111,21 +115,33 @@ spec_is : (c : Claim) (ms : Members) → AreExtra 125 listed.Claim c.extra ms �
 unfolding claim_spec
 spec_is c ms h = ap (λ es. object (put_all (spec_pairs c) es)) (extra_back 125 listed.Claim c.extra ms (omega arith) h)
 
-spec_names : (c : Claim) (ms : Members) → AreExtra 125 listed.Claim c.extra ms → (k : List ℕ) → is_listed_member listed.Claim k ≡ true → get_member k (put_all (spec_pairs c) ms) ≡ pick k (spec_pairs c) None
+spec_names : (c : Claim) (ms : Members) → AreExtra 125 listed.Claim c.extra ms → (k : List ℕ) → is_listed_member listed.Claim k ≡ true
+    → get_member k (put_all (spec_pairs c) ms) ≡ pick k (spec_pairs c) None
 spec_names c ms h k is = spec_has listed.Claim (spec_pairs c) ms k h.others is
 
 shape_back : (c : Claim) (ms : Members) → IsAmount c.amount → AreExtra 125 listed.Claim c.extra ms → claim_shape (spec_place c ms) ≡ Ok (record { modes = c.modes; block = c.block; amount = c.amount })
 unfolding claim_shape
 shape_back c ms ha h =
     let has = spec_names c ms h in
-    rw (modes_back (spec_place c ms) c.modes (has (codes "accessModes") refl), block_back (spec_place c ms) c.block (has (codes "volumeMode") refl), has (codes "resources") refl, requests_are c.amount, storage_is c.amount)
+    rw (
+      modes_back (spec_place c ms) c.modes (has (codes "accessModes") refl),
+      block_back (spec_place c ms) c.block (has (codes "volumeMode") refl),
+      has (codes "resources") refl,
+      requests_are c.amount,
+      storage_is c.amount,
+    )
     (rw (quantity_back members.Storage (Some (object (member (codes "storage") (string c.amount.text) no_members))) c.amount ha refl) refl)
 
-ties_back : (c : Claim) (ms : Members) → IfSome c.selector IsSelector → AreExtra 125 listed.Claim c.extra ms → claim_ties (spec_place c ms) ≡ Ok (record { class = c.class; selector = c.selector; volume_name = c.volume_name })
+ties_back : (c : Claim) (ms : Members) → IfSome c.selector IsSelector → AreExtra 125 listed.Claim c.extra ms
+    → claim_ties (spec_place c ms) ≡ Ok (record { class = c.class; selector = c.selector; volume_name = c.volume_name })
 unfolding claim_ties
 ties_back c ms hs h =
     let has = spec_names c ms h in
-    rw (optional_text_back members.StorageClassName (spec_place c ms) c.class (has (codes "storageClassName") refl), selector_back (spec_place c ms) c.selector hs (has (codes "selector") refl), text_back members.VolumeName (spec_place c ms) c.volume_name (has (codes "volumeName") refl)) refl
+    rw (
+      optional_text_back members.StorageClassName (spec_place c ms) c.class (has (codes "storageClassName") refl),
+      selector_back (spec_place c ms) c.selector hs (has (codes "selector") refl),
+      text_back members.VolumeName (spec_place c ms) c.volume_name (has (codes "volumeName") refl),
+    ) refl
 
 pub claim_back : (c : Claim) → IsClaim c → claim_of (claim_data c) ≡ Ok c
 unfolding claim_of

@@ -34,6 +34,7 @@ pub spec_has : (known : Listed) (ps : MemberList) (ms : Members) (k : List ℕ) 
 spec_has known ps ms k h is = get-put_all k ps ms ∙ ap (pick k ps) (not_other (is_listed_member known) k ms is h)
 
 -- the members are kept again
-pub kept_back : (n : ℕ) (known : Listed) (ps : MemberList) (kept : List ℕ) (ms : Members) → AreExtra n known kept ms → are_known (is_listed_member known) ps ≡ true → extra_at known (Some (object (put_all ps ms))) ≡ kept
+pub kept_back : (n : ℕ) (known : Listed) (ps : MemberList) (kept : List ℕ) (ms : Members) → AreExtra n known kept ms
+    → are_known (is_listed_member known) ps ≡ true → extra_at known (Some (object (put_all ps ms))) ≡ kept
 unfolding extra_at
 kept_back n known ps kept ms h is = ap extra_text (others-put_all (is_listed_member known) ps ms is ∙ others_all (is_listed_member known) ms h.others) ∙ sym h.text

@@ -3,8 +3,8 @@ use Rattle.std.proofs.Common.{◌≡◌, false, if◌then◌else◌, Ok, Err, If
 use Rattle.serde_json.specs.Data.{Data}
 use Rattle.serde_json.specs.Written.{has_float}
 use Rattle.json_text.specs.Build.{Good}
-use Rattle.kube_types.specs.declared.parts.Kind.{Kind}
-use Rattle.kube_types.specs.declared.parts.Kind.TheVariants as kinds
+use Rattle.kube_parts.specs.declared.parts.Kind.{Kind}
+use Rattle.kube_parts.specs.declared.parts.Kind.TheVariants as kinds
 use Rattle.object_text.specs.declared.errors.ObjectError.TheVariants.{NotObject, NotWhole}
 use Rattle.object_text.specs.Reading.{is_object, whole_object, kind_at, object_of_kind, object_of}
 use Rattle.object_text.specs.KindReaders.{volume_of, claim_of, class_of, node_of, pod_of}

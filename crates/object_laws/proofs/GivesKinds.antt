@@ -10,8 +10,8 @@ use Rattle.json_text.proofs.Good.{good_none, good_member, good_members, good_oth
 use Rattle.json_text.proofs.PutAll.{others_are}
 use Rattle.json_text.proofs.MembersKept.{member_kept}
 use Rattle.plain_data.specs.Pairs.{ArePairs}
-use Rattle.kube_types.specs.declared.parts.SourceKind.{SourceKind}
-use Rattle.kube_types.specs.declared.parts.SourceKind.TheVariants.{Csi, Nfs, Local, HostPath}
+use Rattle.kube_parts.specs.declared.parts.SourceKind.{SourceKind}
+use Rattle.kube_parts.specs.declared.parts.SourceKind.TheVariants.{Csi, Nfs, Local, HostPath}
 use Rattle.object_text.specs.declared.errors.Member.{Member}
 use Rattle.object_text.specs.declared.errors.Member.TheVariants as members
 use Rattle.object_text.specs.declared.extra.Listed.{Listed}
@@ -26,11 +26,42 @@ use Rattle.object_text.specs.Answers.{◌>>=◌}
 use Rattle.object_text.specs.MemberWords.{member_word}
 use Rattle.object_text.specs.MemberReaders.{at, needed_text, way_from, needed_way, some_object_at, text_or, optional_text, optional_items_from, pairs_at}
 use Rattle.object_text.specs.MetaReaders.{meta_of}
-use Rattle.object_text.specs.PartReaders.{quantity_at, optional_quantity, modes_at, optional_modes, block_at, policy_at, class_policy_at, delayed_at, claim_phase_at, claim_ref_at, there, source_at, terms_at, selector_at, claims_or_none, claims_at}
+use Rattle.object_text.specs.PartReaders.{
+  quantity_at,
+  optional_quantity,
+  modes_at,
+  optional_modes,
+  block_at,
+  policy_at,
+  class_policy_at,
+  delayed_at,
+  claim_phase_at,
+  claim_ref_at,
+  there,
+  source_at,
+  terms_at,
+  selector_at,
+  claims_or_none,
+  claims_at,
+}
 use Rattle.object_text.specs.ExtraMembers.{is_listed_member, place_members, extra_at}
 use Rattle.object_text.specs.KindReaders.{volume_shape, volume_ties, volume_spec_of, volume_status_of, volume_of, claim_shape, claim_ties, claim_status_of, claim_of, class_of, node_of, pod_of}
 use Rattle.object_laws.specs.Given.{IsMeta, IsAmount, IsRef, IsSource, IsSelector, IsClassPolicy, AreExtra, IsFree, NoneBefore, AreVolumeExtra, IsVolume, IsClaim, IsClass, IsNode, IsPod}
-use Rattle.object_laws.proofs.GivesParts.{step, past, itself, pairs_given, meta_given, quantity_given, optional_quantity_given, class_policy_given, claim_ref_given, NoneThere, IsFirst, source_given, selector_given}
+use Rattle.object_laws.proofs.GivesParts.{
+  step,
+  past,
+  itself,
+  pairs_given,
+  meta_given,
+  quantity_given,
+  optional_quantity_given,
+  class_policy_given,
+  claim_ref_given,
+  NoneThere,
+  IsFirst,
+  source_given,
+  selector_given,
+}
 
 -- ---- places: a member's value nests less deep than the object
 
@@ -98,10 +129,12 @@ extra_given : (n : ℕ) (known : Listed) (place : Option Data) → IsGoodPlace n
 unfolding extra_at
 extra_given n known place h = record { text = refl; others = others_are (is_listed_member known) (place_members place); good = good_others (is_listed_member known) (place_members place) h }
 
-same_at : (known : Listed) (m : Member) (place : Option Data) → is_listed_member known (member_word m) ≡ false → AreMembers (place_members place) → get_member (member_word m) (kept_members known place) ≡ at m place
+same_at : (known : Listed) (m : Member) (place : Option Data) → is_listed_member known (member_word m) ≡ false → AreMembers (place_members place)
+    → get_member (member_word m) (kept_members known place) ≡ at m place
 same_at known m place free h = member_kept (is_listed_member known) (member_word m) (place_members place) free h ∙ sym (at_is m place)
 
-free_at : (known : Listed) (m : Member) (place : Option Data) → is_listed_member known (member_word m) ≡ false → AreMembers (place_members place) → there m place ≡ None → IsFree (member_word m) (kept_members known place)
+free_at : (known : Listed) (m : Member) (place : Option Data) → is_listed_member known (member_word m) ≡ false → AreMembers (place_members place)
+    → there m place ≡ None → IsFree (member_word m) (kept_members known place)
 free_at known m place free h none = ap unless_null (same_at known m place free h) ∙ none
 
 none_before_given : (kind : SourceKind) (place : Option Data) → AreMembers (place_members place) → NoneThere kind (there members.Csi place) (there members.Nfs place) (there members.Local place)
@@ -109,8 +142,11 @@ none_before_given : (kind : SourceKind) (place : Option Data) → AreMembers (pl
 none_before_given Csi place h none = tt
 none_before_given Nfs place h none = free_at (listed.Volume Nfs) members.Csi place refl h none
 none_before_given Local place h none = (free_at (listed.Volume Local) members.Csi place refl h none.0, free_at (listed.Volume Local) members.Nfs place refl h none.1)
-none_before_given HostPath place h none =
-    (free_at (listed.Volume HostPath) members.Csi place refl h none.0, free_at (listed.Volume HostPath) members.Nfs place refl h none.1, free_at (listed.Volume HostPath) members.Local place refl h none.2)
+none_before_given HostPath place h none = (
+  free_at (listed.Volume HostPath) members.Csi place refl h none.0,
+  free_at (listed.Volume HostPath) members.Nfs place refl h none.1,
+  free_at (listed.Volume HostPath) members.Local place refl h none.2,
+)
 
 -- ---- volumes
 
@@ -153,7 +189,10 @@ volume_spec_given d h =
       amount = is_shape;
       claim_ref = are_ties.0;
       source = are_ties.1.0;
-      extra = (kept_members (listed.Volume ties.source.kind) spec, record { extra = extra_given 125 (listed.Volume ties.source.kind) spec good; free = none_before_given ties.source.kind spec good.canonical are_ties.1.1 });
+      extra = (
+        kept_members (listed.Volume ties.source.kind) spec,
+        record { extra = extra_given 125 (listed.Volume ties.source.kind) spec good; free = none_before_given ties.source.kind spec good.canonical are_ties.1.1 },
+      );
     })))
 
 pub volume_given : (d : Data) → Good 127 d → IfOk (volume_of d) IsVolume

@@ -1,5 +1,32 @@
 -- What the readers of metadata and of the parts of a spec give meets what is asked of parts that a manifest can give.
-use Rattle.std.proofs.Common.{◌≡◌, ℕ, ◌^◌, ◌≤◌, ◌==◌, List, [], ◌∷◌, length, codes, bytes_eq, Bool, true, false, if◌then◌else◌, Option, Some, None, IfSome, unwrap_or, Result, Ok, Err, IfOk, refl, subst}
+use Rattle.std.proofs.Common.{
+  ◌≡◌,
+  ℕ,
+  ◌^◌,
+  ◌≤◌,
+  ◌==◌,
+  List,
+  [],
+  ◌∷◌,
+  length,
+  codes,
+  bytes_eq,
+  Bool,
+  true,
+  false,
+  if◌then◌else◌,
+  Option,
+  Some,
+  None,
+  IfSome,
+  unwrap_or,
+  Result,
+  Ok,
+  Err,
+  IfOk,
+  refl,
+  subst,
+}
 use Rattle.std.specs.Str.Parse.{digits_value}
 use Rattle.std.specs.Bool.{⊤}
 use Rattle.std.proofs.lemmas.Bool.{and_parts, eqb-true, leb-true}
@@ -10,14 +37,14 @@ use Rattle.plain_data.specs.Pairs.{Pair, ArePairs, put_pair, pair_key}
 use Rattle.plain_data.proofs.RowFacts.{rising_put}
 use Rattle.quantity_text.specs.declared.errors.AmountError.{AmountError}
 use Rattle.quantity_text.specs.Quantity.{amount_of}
-use Rattle.kube_types.specs.Uids.{uid_of_text}
-use Rattle.kube_types.proofs.UidFits.{uid_fits}
-use Rattle.kube_types.specs.Words.{policy_word}
-use Rattle.kube_types.specs.declared.uid.Uid.{Uid}
-use Rattle.kube_types.specs.declared.parts.Policy.TheVariants.{Retain, Delete}
-use Rattle.kube_types.specs.declared.parts.SourceKind.{SourceKind}
-use Rattle.kube_types.specs.declared.parts.SourceKind.TheVariants.{Csi, Nfs, Local, HostPath}
-use Rattle.kube_types.specs.declared.objects.Source.{Source}
+use Rattle.kube_parts.specs.Uids.{uid_of_text}
+use Rattle.kube_parts.proofs.UidFits.{uid_fits}
+use Rattle.kube_parts.specs.Words.{policy_word}
+use Rattle.kube_parts.specs.declared.uid.Uid.{Uid}
+use Rattle.kube_parts.specs.declared.parts.Policy.TheVariants.{Retain, Delete}
+use Rattle.kube_parts.specs.declared.parts.SourceKind.{SourceKind}
+use Rattle.kube_parts.specs.declared.parts.SourceKind.TheVariants.{Csi, Nfs, Local, HostPath}
+use Rattle.kube_objects.specs.declared.objects.Source.{Source}
 use Rattle.object_text.specs.declared.errors.Member.{Member}
 use Rattle.object_text.specs.declared.errors.Member.TheVariants as members
 use Rattle.object_text.specs.declared.errors.ObjectError.{ObjectError}
@@ -25,9 +52,55 @@ use Rattle.object_text.specs.declared.errors.ObjectError.TheVariants.{WrongType}
 use Rattle.object_text.specs.declared.meta_readers.Identity.{Identity}
 use Rattle.object_text.specs.declared.meta_readers.Marks.{Marks}
 use Rattle.object_text.specs.Answers.{◌>>=◌}
-use Rattle.object_text.specs.MemberReaders.{at, as_text, as_object, needed, needed_text, needed_object, some_object_at, text_or, optional_text, texts_at, pairs_from, pairs_in, pairs_or_none, pairs_at, uid_from, uid_named, uid_or_none, uid_at, stamp_named, stamp_from, stamp_at, stamp_or_empty, is_version, version_at}
+use Rattle.object_text.specs.MemberReaders.{
+  at,
+  as_text,
+  as_object,
+  needed,
+  needed_text,
+  needed_object,
+  some_object_at,
+  text_or,
+  optional_text,
+  texts_at,
+  pairs_from,
+  pairs_in,
+  pairs_or_none,
+  pairs_at,
+  uid_from,
+  uid_named,
+  uid_or_none,
+  uid_at,
+  stamp_named,
+  stamp_from,
+  stamp_at,
+  stamp_or_empty,
+  is_version,
+  version_at,
+}
 use Rattle.object_text.specs.MetaReaders.{namespace_at, identity_at, marks_at, meta_of}
-use Rattle.object_text.specs.PartReaders.{quantity_text, amount_from, amount_in, quantity_at, amount_or_none, optional_quantity, known, class_policy_at, ref_at, ref_or_none, claim_ref_at, two_texts, one_text, source_from, there, source_at, exprs_at, selector_of, selector_or_none, selector_at}
+use Rattle.object_text.specs.PartReaders.{
+  quantity_text,
+  amount_from,
+  amount_in,
+  quantity_at,
+  amount_or_none,
+  optional_quantity,
+  known,
+  class_policy_at,
+  ref_at,
+  ref_or_none,
+  claim_ref_at,
+  two_texts,
+  one_text,
+  source_from,
+  there,
+  source_at,
+  exprs_at,
+  selector_of,
+  selector_or_none,
+  selector_at,
+}
 use Rattle.object_laws.specs.Given.{IsUid, IsStamp, IsStampOrEmpty, IsNamespace, IsMeta, IsAmount, IsRef, IsSource, IsSelector, IsClassPolicy}
 
 -- ---- steps of a reader
@@ -215,7 +288,8 @@ NoneThere HostPath csi nfs local = (csi ≡ None) × (nfs ≡ None) × (local �
 abbrev pub IsFirst : Option Data → Option Data → Option Data → Source → Type 0
 IsFirst csi nfs local s = IsSource s × NoneThere s.kind csi nfs local
 
-two_given : (P : Source → Type 0) (kind : SourceKind) (m one two : Member) (d : Data) → ((first second : List ℕ) → P (record { kind = kind; first = first; second = second })) → IfOk (two_texts kind m one two d) P
+two_given : (P : Source → Type 0) (kind : SourceKind) (m one two : Member) (d : Data)
+    → ((first second : List ℕ) → P (record { kind = kind; first = first; second = second })) → IfOk (two_texts kind m one two d) P
 two_given P kind m one two d h =
     past P (as_object m d) _ (λ source. past P (needed_text one (Some source)) _ (λ first. past P (needed_text two (Some source)) _ (λ second. h first second)))
 

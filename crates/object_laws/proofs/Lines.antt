@@ -8,10 +8,10 @@ use Rattle.json_text.specs.Canonical.{IsLine}
 use Rattle.json_text.proofs.Deep.{one_value_of}
 use Rattle.json_text.proofs.ReadBack.{read-compact_text}
 use Rattle.json_text.proofs.Good.{no_float_good}
-use Rattle.kube_types.specs.Keys.{kind_of}
-use Rattle.kube_types.specs.declared.parts.Kind.{Kind}
-use Rattle.kube_types.specs.declared.parts.Kind.TheVariants as kinds
-use Rattle.kube_types.specs.declared.objects.Object.{Object}
+use Rattle.kube_objects.specs.Keys.{kind_of}
+use Rattle.kube_parts.specs.declared.parts.Kind.{Kind}
+use Rattle.kube_parts.specs.declared.parts.Kind.TheVariants as kinds
+use Rattle.kube_objects.specs.declared.objects.Object.{Object}
 use Rattle.object_print.specs.Objects.{object_data, object_line}
 use Rattle.object_print.proofs.LineLaws.{objects_are_lines}
 use Rattle.object_text.specs.declared.errors.ObjectError.{ObjectError}
@@ -55,4 +55,12 @@ unfolding object_line list_of list_in item_of
 line_is_listed o h utf8 short =
     let good = object_good o h in
     let tells = object_tells o h in
-    rw (utf8, read-compact_text (object_data o) good.canonical good.shallow, tells.members, no_list (kind_of o) (object_data o) tells, least_whole (object_data o) (no_float_good good), le-ltb most_bytes (length (compact_text (object_data o))) short, object_back o h) refl
+    rw (
+      utf8,
+      read-compact_text (object_data o) good.canonical good.shallow,
+      tells.members,
+      no_list (kind_of o) (object_data o) tells,
+      least_whole (object_data o) (no_float_good good),
+      le-ltb most_bytes (length (compact_text (object_data o))) short,
+      object_back o h,
+    ) refl

@@ -1,5 +1,34 @@
 -- What is printed of metadata is read again.
-use Rattle.std.proofs.Common.{◌≡◌, ℕ, ◌^◌, ◌<◌, ◌≤◌, ◌==◌, List, [], ◌∷◌, ◌++◌, length, nat_le, Bool, true, false, if◌then◌else◌, Option, Some, None, Ok, codes, decimal, refl, sym, ap, ◌∙◌, arith, rules}
+use Rattle.std.proofs.Common.{
+  ◌≡◌,
+  ℕ,
+  ◌^◌,
+  ◌<◌,
+  ◌≤◌,
+  ◌==◌,
+  List,
+  [],
+  ◌∷◌,
+  ◌++◌,
+  length,
+  nat_le,
+  Bool,
+  true,
+  false,
+  if◌then◌else◌,
+  Option,
+  Some,
+  None,
+  Ok,
+  codes,
+  decimal,
+  refl,
+  sym,
+  ap,
+  ◌∙◌,
+  arith,
+  rules,
+}
 use Rattle.std.specs.Prelude.{IfSome, option_map, unwrap_or}
 use Rattle.std.specs.List.{list_all}
 use Rattle.std.specs.Char.{is_ascii_digit}
@@ -11,7 +40,7 @@ use Rattle.std.proofs.lemmas.Str.Parse.{IsNumeralModel, numerals_by_value}
 use Rattle.serde_json.specs.Data.{Data, string}
 use Rattle.serde_json.specs.Find.{get}
 use Rattle.json_text.specs.Look.{unless_null}
-use Rattle.kube_types.specs.declared.objects.Meta.{Meta}
+use Rattle.kube_objects.specs.declared.objects.Meta.{Meta}
 use Rattle.json_text.specs.Members.{MemberList, filled, counted, object_of}
 use Rattle.object_print.specs.Metadata.{filled_or_always, front_pairs, back_pairs, meta_data}
 use Rattle.object_text.specs.declared.errors.Member.{Member}
@@ -75,12 +104,18 @@ namespace_back false place s is h = ap (λ p. text_from members.Namespace (codes
 abbrev meta_pairs : Bool → Meta → MemberList
 meta_pairs namespaced m = front_pairs m ++ back_pairs namespaced m
 
-identity_back : (namespaced : Bool) (m : Meta) → IsMeta namespaced m → identity_at namespaced (Some (object_of (meta_pairs namespaced m))) ≡ Ok (record { name = m.name; namespace = m.namespace; uid = m.uid; version = m.version })
+identity_back : (namespaced : Bool) (m : Meta) → IsMeta namespaced m
+    → identity_at namespaced (Some (object_of (meta_pairs namespaced m))) ≡ Ok (record { name = m.name; namespace = m.namespace; uid = m.uid; version = m.version })
 unfolding identity_at
 identity_back namespaced m h =
     let place : Option Data = Some (object_of (meta_pairs namespaced m)) in
     let ps : MemberList = meta_pairs namespaced m in
-    rw (needed_text_back members.Name place m.name (object_has members.Name ps), namespace_back namespaced place m.namespace h.namespace (object_has members.Namespace ps), uid_back members.Uid place m.uid h.uid (object_has members.Uid ps), version_back members.ResourceVersion place m.version h.version (object_has members.ResourceVersion ps)) refl
+    rw (
+      needed_text_back members.Name place m.name (object_has members.Name ps),
+      namespace_back namespaced place m.namespace h.namespace (object_has members.Namespace ps),
+      uid_back members.Uid place m.uid h.uid (object_has members.Uid ps),
+      version_back members.ResourceVersion place m.version h.version (object_has members.ResourceVersion ps),
+    ) refl
 
 marks_back : (namespaced : Bool) (m : Meta) → IsMeta namespaced m
     → marks_at (Some (object_of (meta_pairs namespaced m))) ≡ Ok (record { created = m.created; deleted = m.deleted; labels = m.labels; annotations = m.annotations; finalizers = m.finalizers })
@@ -88,7 +123,13 @@ unfolding marks_at
 marks_back namespaced m h =
     let place : Option Data = Some (object_of (meta_pairs namespaced m)) in
     let ps : MemberList = meta_pairs namespaced m in
-    rw (created_back members.CreationTimestamp place m.created h.created (object_has members.CreationTimestamp ps), stamp_back members.DeletionTimestamp place m.deleted h.deleted (object_has members.DeletionTimestamp ps), pairs_back members.Labels place m.labels h.labels (object_has members.Labels ps), pairs_back members.Annotations place m.annotations h.annotations (object_has members.Annotations ps), texts_back members.Finalizers place m.finalizers (object_has members.Finalizers ps)) refl
+    rw (
+      created_back members.CreationTimestamp place m.created h.created (object_has members.CreationTimestamp ps),
+      stamp_back members.DeletionTimestamp place m.deleted h.deleted (object_has members.DeletionTimestamp ps),
+      pairs_back members.Labels place m.labels h.labels (object_has members.Labels ps),
+      pairs_back members.Annotations place m.annotations h.annotations (object_has members.Annotations ps),
+      texts_back members.Finalizers place m.finalizers (object_has members.Finalizers ps),
+    ) refl
 
 pub meta_back : (namespaced : Bool) (m : Meta) (d : Data) → IsMeta namespaced m → get (codes "metadata") d ≡ Some (meta_data namespaced m) → meta_of namespaced d ≡ Ok m
 unfolding meta_of meta_data

@@ -10,15 +10,15 @@ use Rattle.json_text.proofs.ReadBack.{join, join-nil, join-one, Parted, parted_m
 use Rattle.json_text.proofs.PutAll.{get-put_all}
 use Rattle.plain_data.specs.Pairs.{Pair, ArePairs, put_pair, text_cmp, pair_key}
 use Rattle.plain_data.specs.Rows.{IsAfter}
-use Rattle.kube_types.specs.declared.uid.Uid.{Uid}
-use Rattle.kube_types.specs.declared.parts.Modes.{Modes}
-use Rattle.kube_types.specs.declared.parts.Op.{Op}
-use Rattle.kube_types.specs.declared.objects.Amount.{Amount}
-use Rattle.kube_types.specs.declared.objects.Expr.{Expr}
-use Rattle.kube_types.specs.Words.{op_word, volume_mode, mode_words}
-use Rattle.kube_types.specs.Named.{block_named, op_named}
-use Rattle.kube_types.proofs.NamedWords.{blocks_inverse, ops_inverse}
-use Rattle.kube_types.proofs.UidTexts.{reads_back}
+use Rattle.kube_parts.specs.declared.uid.Uid.{Uid}
+use Rattle.kube_parts.specs.declared.parts.Modes.{Modes}
+use Rattle.kube_parts.specs.declared.parts.Op.{Op}
+use Rattle.kube_objects.specs.declared.objects.Amount.{Amount}
+use Rattle.kube_objects.specs.declared.objects.Expr.{Expr}
+use Rattle.kube_parts.specs.Words.{op_word, volume_mode, mode_words}
+use Rattle.kube_parts.specs.Named.{block_named, op_named}
+use Rattle.kube_parts.proofs.NamedWords.{blocks_inverse, ops_inverse}
+use Rattle.kube_parts.proofs.UidTexts.{reads_back}
 use Rattle.json_text.specs.Members.{MemberList, filled, filled_array, items_data, put_pairs, filled_pairs, object_of}
 use Rattle.object_print.specs.Metadata.{uid_data}
 use Rattle.object_print.specs.Parts.{modes_data, expr_pairs, expr_data}
@@ -27,7 +27,30 @@ use Rattle.object_text.specs.declared.errors.Member.TheVariants as members
 use Rattle.object_text.specs.declared.errors.ObjectError.{ObjectError}
 use Rattle.object_text.specs.Answers.{◌>>=◌}
 use Rattle.object_text.specs.MemberWords.{member_word}
-use Rattle.object_text.specs.MemberReaders.{at, as_text, as_items, needed_from, needed_text, needed_way, way_from, some_object_at, text_from, text_or, optional_from, optional_text, optional_items_from, texts_from, texts_or_none, texts_at, pairs_from, pairs_or_none, pairs_at, uid_from, uid_or_none, uid_at}
+use Rattle.object_text.specs.MemberReaders.{
+  at,
+  as_text,
+  as_items,
+  needed_from,
+  needed_text,
+  needed_way,
+  way_from,
+  some_object_at,
+  text_from,
+  text_or,
+  optional_from,
+  optional_text,
+  optional_items_from,
+  texts_from,
+  texts_or_none,
+  texts_at,
+  pairs_from,
+  pairs_or_none,
+  pairs_at,
+  uid_from,
+  uid_or_none,
+  uid_at,
+}
 use Rattle.object_text.specs.PartReaders.{amount_from, amount_in, quantity_at, no_modes, modes_from, modes_at, known, block_at, op_at, expr_of, exprs_from, exprs_or_none, exprs_at}
 use Rattle.object_laws.specs.Given.{IsUid, IsAmount}
 
@@ -210,7 +233,11 @@ expr_back : (e : Expr) → expr_of (expr_data e) ≡ Ok e
 unfolding expr_of expr_data
 expr_back e =
     let place : Option Data = Some (object_of (expr_pairs e)) in
-    rw (needed_text_back members.Key place e.key (object_has members.Key (expr_pairs e)), op_back place e.op (object_has members.Operator (expr_pairs e)), texts_back members.Values place e.values (object_has members.Values (expr_pairs e))) refl
+    rw (
+      needed_text_back members.Key place e.key (object_has members.Key (expr_pairs e)),
+      op_back place e.op (object_has members.Operator (expr_pairs e)),
+      texts_back members.Values place e.values (object_has members.Values (expr_pairs e)),
+    ) refl
 
 exprs_items : (es found : List Expr) → exprs_from (items_data expr_data es) found ≡ Ok (found ++ es)
 exprs_items [] found = ap Ok (sym (append-nil found))

@@ -1,5 +1,31 @@
 -- What stands in a value that was read is what some text gives, too.
-use Rattle.std.proofs.Common.{◌≡◌, ℕ, suc, ◌≤◌, List, [], ◌∷◌, Option, Some, None, IfSome, option_map, option_and_then, Ordering, Less, Equal, Greater, nat_cmp, refl, ap, ◌∙◌, subst, arith, append-nil, sym}
+use Rattle.std.proofs.Common.{
+  ◌≡◌,
+  ℕ,
+  suc,
+  ◌≤◌,
+  List,
+  [],
+  ◌∷◌,
+  Option,
+  Some,
+  None,
+  IfSome,
+  option_map,
+  option_and_then,
+  Ordering,
+  Less,
+  Equal,
+  Greater,
+  nat_cmp,
+  refl,
+  ap,
+  ◌∙◌,
+  subst,
+  arith,
+  append-nil,
+  sym,
+}
 use Rattle.std.specs.Bool.{⊤}
 use Rattle.std.specs.Ordering.{match_ordering}
 use Rattle.std.specs.Cmp.Lexicographic.{slice_cmp}
@@ -47,7 +73,12 @@ read_taken text d e = by (json.value max_depth (tokens text)) refl e
   where
     by : (o : Option (json.Json × List Token)) → json.value max_depth (tokens text) ≡ o → option_and_then of_json (option_and_then (λ p. json.if_last p.0 p.1) o) ≡ Some d → IsTaken 127 d
     by None is value = cc
-    by (Some (j, [])) is value = record { source = j; numbers = value-HasNumbers max_depth (tokens text) [] j (ArePrintableOrBad-tokens text) is; shallow = value-depth max_depth (tokens text) [] j is; value = value }
+    by (Some (j, [])) is value = record {
+      source = j;
+      numbers = value-HasNumbers max_depth (tokens text) [] j (ArePrintableOrBad-tokens text) is;
+      shallow = value-depth max_depth (tokens text) [] j is;
+      value = value;
+    }
     by (Some (j, t ∷ ts)) is value = cc
 
 pub taken_reads : (n : ℕ) (d : Data) → n ≤ 127 → IsTaken n d → (text : List ℕ) × (read text ≡ Some d)
@@ -80,7 +111,8 @@ taken_members : (n : ℕ) (js : json.Members) (found : Members) → tree.Members
 taken_members n json.no_members found h shallow done = done
 taken_members n (json.member k j js) found h shallow done = by (of_json j) refl (λ d t. taken_members n js (put k d found) h.1 (omega arith) (taken_put n k d found t done))
   where
-    by : (o : Option Data) → of_json j ≡ o → ((d : Data) → IsTaken n d → IfSome (of_members js (put k d found)) (HasTaken n)) → IfSome (option_and_then (λ d. of_members js (put k d found)) o) (HasTaken n)
+    by : (o : Option Data) → of_json j ≡ o → ((d : Data) → IsTaken n d → IfSome (of_members js (put k d found)) (HasTaken n))
+        → IfSome (option_and_then (λ d. of_members js (put k d found)) o) (HasTaken n)
     by None e rest = tt
     by (Some d) e rest = rest d (record { source = j; numbers = h.0; shallow = omega arith; value = e })
 

@@ -4,8 +4,8 @@ use Rattle.serde_json.specs.Data.{Data, object, Members, no_members, member}
 use Rattle.serde_json.specs.Find.{get, get_member}
 use Rattle.json_text.specs.Build.{put_all, pick}
 use Rattle.json_text.proofs.PutAll.{get-put_all}
-use Rattle.kube_types.specs.declared.objects.Node.{Node}
-use Rattle.kube_types.specs.declared.objects.Pod.{Pod}
+use Rattle.kube_objects.specs.declared.objects.Node.{Node}
+use Rattle.kube_objects.specs.declared.objects.Pod.{Pod}
 use Rattle.json_text.specs.Members.{MemberList, filled, filled_object}
 use Rattle.object_print.specs.Objects.{pod_pairs, pod_data, node_pairs, node_data}
 use Rattle.object_text.specs.declared.errors.Member.{Member}
@@ -53,7 +53,13 @@ unfolding node_of
 node_back n h =
     let ms : Members = h.extra.0 in
     let kept : extra_at listed.Node (filled_object ms) ≡ n.extra = filled_extra listed.Node ms ∙ kept_back 125 listed.Node [] n.extra ms h.extra.1 refl in
-    rw (meta_back false n.meta (node_data n) h.meta (node_has (codes "metadata") n), node_has (codes "spec") n, extra_back 125 listed.Node n.extra ms (omega arith) h.extra.1, way_back members.Spec ms, kept) refl
+    rw (
+      meta_back false n.meta (node_data n) h.meta (node_has (codes "metadata") n),
+      node_has (codes "spec") n,
+      extra_back 125 listed.Node n.extra ms (omega arith) h.extra.1,
+      way_back members.Spec ms,
+      kept,
+    ) refl
 
 -- ---- pods
 
@@ -77,5 +83,10 @@ pod_back p h =
     let ms : Members = h.extra.0 in
     let place : Option Data = filled_object (put_all (spec_pairs p) ms) in
     let kept : extra_at listed.Pod place ≡ p.extra = filled_extra listed.Pod (put_all (spec_pairs p) ms) ∙ kept_back 125 listed.Pod (spec_pairs p) p.extra ms h.extra.1.extra refl in
-    rw (meta_back true p.meta (pod_data p) h.meta (pod_has (codes "metadata") p), pod_has (codes "spec") p, extra_back 125 listed.Pod p.extra ms (omega arith) h.extra.1.extra, way_back members.Spec (put_all (spec_pairs p) ms))
+    rw (
+      meta_back true p.meta (pod_data p) h.meta (pod_has (codes "metadata") p),
+      pod_has (codes "spec") p,
+      extra_back 125 listed.Pod p.extra ms (omega arith) h.extra.1.extra,
+      way_back members.Spec (put_all (spec_pairs p) ms),
+    )
     (rw (text_back members.NodeName place p.node (node_name_is p ms h.extra.1), claims_back p ms h.extra.1, kept) refl)

@@ -2,26 +2,130 @@
 use Rattle.std.proofs.Common.{◌≡◌, List, [], ◌∷◌, ◌++◌, map, Bool, true, false, codes, Option, Some, None, Result, Ok, Err, refl, sym, ap, ◌∙◌}
 use Rattle.serde_json.specs.Data.{Data, null, boolean, number, string, array, object}
 use Rattle.json_text.specs.Look.{unless_null}
-use Rattle.kube_types.specs.declared.parts.Kind.TheVariants as kinds
-use Rattle.kube_types.specs.declared.objects.Object.TheVariants as objects
-use Rattle.kube_types.specs.declared.objects.Amount.{Amount}
-use Rattle.kube_types.specs.declared.parts.Policy.TheVariants.{Retain}
-use Rattle.kube_types.specs.declared.parts.VolumePhase.TheVariants as volume_phases
-use Rattle.kube_types.specs.declared.parts.ClaimPhase.TheVariants as claim_phases
-use Rattle.kube_types.specs.Words.{policy_word, volume_mode, volume_phase_word, claim_phase_word}
-use Rattle.kube_types.specs.Named.{both, all_policies, all_volume_phases, all_claim_phases}
+use Rattle.kube_parts.specs.declared.parts.Kind.TheVariants as kinds
+use Rattle.kube_objects.specs.declared.objects.Object.TheVariants as objects
+use Rattle.kube_objects.specs.declared.objects.Amount.{Amount}
+use Rattle.kube_parts.specs.declared.parts.Policy.TheVariants.{Retain}
+use Rattle.kube_parts.specs.declared.parts.VolumePhase.TheVariants as volume_phases
+use Rattle.kube_parts.specs.declared.parts.ClaimPhase.TheVariants as claim_phases
+use Rattle.kube_parts.specs.Words.{policy_word, volume_mode, volume_phase_word, claim_phase_word}
+use Rattle.kube_parts.specs.Named.{both, all_policies, all_volume_phases, all_claim_phases}
 use Rattle.object_text.specs.declared.kind_readers.VolumeShape.{VolumeShape}
 use Rattle.object_text.specs.declared.kind_readers.ClaimShape.{ClaimShape}
 use Rattle.object_text.specs.declared.errors.Member.{Member}
 use Rattle.object_text.specs.declared.errors.Member.TheVariants as members
 use Rattle.object_text.specs.declared.errors.ObjectError.{ObjectError}
 use Rattle.object_text.specs.Answers.{◌>>=◌}
-use Rattle.object_text.specs.MemberReaders.{at, as_object, needed_from, needed_text, needed_object, needed_way, way_from, some_object_at, text_or, optional_text, optional_items, pairs_at, texts_at, uid_at, stamp_at, stamp_or_empty, version_at}
+use Rattle.object_text.specs.MemberReaders.{
+  at,
+  as_object,
+  needed_from,
+  needed_text,
+  needed_object,
+  needed_way,
+  way_from,
+  some_object_at,
+  text_or,
+  optional_text,
+  optional_items,
+  pairs_at,
+  texts_at,
+  uid_at,
+  stamp_at,
+  stamp_or_empty,
+  version_at,
+}
 use Rattle.object_text.specs.MetaReaders.{namespace_at, identity_at, marks_at, meta_with, meta_of}
-use Rattle.object_text.specs.PartReaders.{quantity_at, optional_quantity, modes_at, optional_modes, block_at, policy_at, class_policy_at, delayed_at, volume_phase_at, claim_phase_at, claim_ref_at, source_at, terms_or_none, terms_at, selector_at, claims_at}
+use Rattle.object_text.specs.PartReaders.{
+  quantity_at,
+  optional_quantity,
+  modes_at,
+  optional_modes,
+  block_at,
+  policy_at,
+  class_policy_at,
+  delayed_at,
+  volume_phase_at,
+  claim_phase_at,
+  claim_ref_at,
+  source_at,
+  terms_or_none,
+  terms_at,
+  selector_at,
+  claims_at,
+}
 use Rattle.object_text.specs.KindReaders.{volume_shape, volume_ties, volume_spec_of, volume_status_of, volume_of, claim_shape, claim_ties, claim_status_of, claim_of, class_of, node_of, pod_of}
-use Rattle.object_laws.specs.Manifests.{Text, OneOf, Uuid, Version, Moment, Quantity, Modes, Texts, TextMap, Members, Reference, Terms, Selector, PodVolumes, Presence, Required, Optional, Default, Nullable, Row, meta_row, spec_row, status_row, meta_rows, class_rows, claim_rows, pod_rows, node_rows, volume_front, volume_back, fault, ◌then◌, member_fault, step_to, way_to, after, row_fault, rows_fault, source_fault, FollowsTable, TableExamples}
-use Rattle.object_laws.proofs.TableMembers.{mapped, needed_object_fault, needed_text_fault, quantity_fault, modes_fault, text_fault, namespace_fault, version_fault, optional_text_fault, uid_fault, stamp_fault, stamp_or_empty_fault, block_fault, policy_fault, class_policy_fault, delayed_fault, volume_phase_fault, claim_phase_fault, texts_fault, pairs_fault, optional_quantity_fault, optional_modes_fault, claim_ref_fault, selector_fault, claims_fault, terms_fault}
+use Rattle.object_laws.specs.Manifests.{
+  Text,
+  OneOf,
+  Uuid,
+  Version,
+  Moment,
+  Quantity,
+  Modes,
+  Texts,
+  TextMap,
+  Members,
+  Reference,
+  Terms,
+  Selector,
+  PodVolumes,
+  Presence,
+  Required,
+  Optional,
+  Default,
+  Nullable,
+  Row,
+  meta_row,
+  spec_row,
+  status_row,
+  meta_rows,
+  class_rows,
+  claim_rows,
+  pod_rows,
+  node_rows,
+  volume_front,
+  volume_back,
+  fault,
+  ◌then◌,
+  member_fault,
+  step_to,
+  way_to,
+  after,
+  row_fault,
+  rows_fault,
+  source_fault,
+  FollowsTable,
+  TableExamples,
+}
+use Rattle.object_laws.proofs.TableMembers.{
+  mapped,
+  needed_object_fault,
+  needed_text_fault,
+  quantity_fault,
+  modes_fault,
+  text_fault,
+  namespace_fault,
+  version_fault,
+  optional_text_fault,
+  uid_fault,
+  stamp_fault,
+  stamp_or_empty_fault,
+  block_fault,
+  policy_fault,
+  class_policy_fault,
+  delayed_fault,
+  volume_phase_fault,
+  claim_phase_fault,
+  texts_fault,
+  pairs_fault,
+  optional_quantity_fault,
+  optional_modes_fault,
+  claim_ref_fault,
+  selector_fault,
+  claims_fault,
+  terms_fault,
+}
 
 -- ---- one fault after another
 
@@ -121,20 +225,32 @@ identity_fault : (namespaced : Bool) (d metadata : Data) → needed_way members.
 unfolding identity_at
 identity_fault namespaced d metadata needed there =
     let place : Option Data = Some metadata in
-    seq (needed_text members.Name place) _ _ _ (row_is (meta_row members.Name Text Required) d place _ (one_step members.Metadata Required d place needed) (needed_text_fault members.Name place)) (λ name is_name.
-    seq (namespace_at namespaced place) _ _ _ (row_is (meta_row members.Namespace Text (Default (codes "default"))) d place _ (one_step members.Metadata (Default (codes "default")) d place there) (namespace_fault namespaced place)) (λ namespace is_namespace.
+    seq (needed_text members.Name place) _ _ _
+    (row_is (meta_row members.Name Text Required) d place _ (one_step members.Metadata Required d place needed) (needed_text_fault members.Name place)) (λ name is_name.
+    seq (namespace_at namespaced place) _ _ _
+    (row_is (meta_row members.Namespace Text (Default (codes "default"))) d place _
+    (one_step members.Metadata (Default (codes "default")) d place there) (namespace_fault namespaced place)) (λ namespace is_namespace.
     seq (uid_at members.Uid place) _ _ _ (row_is (meta_row members.Uid Uuid Optional) d place _ (one_step members.Metadata Optional d place there) (uid_fault members.Uid place)) (λ uid is_uid.
-    seq (version_at members.ResourceVersion place) _ _ None (row_is (meta_row members.ResourceVersion Version (Default (codes "0"))) d place _ (one_step members.Metadata (Default (codes "0")) d place there) (version_fault place)) (λ version is_version. refl))))
+    seq (version_at members.ResourceVersion place) _ _ None
+    (row_is (meta_row members.ResourceVersion Version (Default (codes "0"))) d place _
+    (one_step members.Metadata (Default (codes "0")) d place there) (version_fault place)) (λ version is_version. refl))))
 
 marks_fault : (d metadata : Data) → some_object_at members.Metadata (Some d) ≡ Ok (Some metadata) → fault (marks_at (Some metadata)) ≡ rows_fault marks_rows d
 unfolding marks_at
 marks_fault d metadata there =
     let place : Option Data = Some metadata in
-    seq (stamp_or_empty members.CreationTimestamp place) _ _ _ (row_is (meta_row members.CreationTimestamp Moment Nullable) d place _ (one_step members.Metadata Nullable d place there) (stamp_or_empty_fault members.CreationTimestamp place)) (λ created is_created.
-    seq (stamp_at members.DeletionTimestamp place) _ _ _ (row_is (meta_row members.DeletionTimestamp Moment Nullable) d place _ (one_step members.Metadata Nullable d place there) (stamp_fault members.DeletionTimestamp place)) (λ deleted is_deleted.
-    seq (pairs_at members.Labels place) _ _ _ (row_is (meta_row members.Labels TextMap Optional) d place _ (one_step members.Metadata Optional d place there) (pairs_fault members.Labels place)) (λ labels are_labels.
-    seq (pairs_at members.Annotations place) _ _ _ (row_is (meta_row members.Annotations TextMap Optional) d place _ (one_step members.Metadata Optional d place there) (pairs_fault members.Annotations place)) (λ annotations are_annotations.
-    seq (texts_at members.Finalizers place) _ _ None (row_is (meta_row members.Finalizers Texts Optional) d place _ (one_step members.Metadata Optional d place there) (texts_fault members.Finalizers place)) (λ finalizers are_finalizers. refl)))))
+    seq (stamp_or_empty members.CreationTimestamp place) _ _ _
+    (row_is (meta_row members.CreationTimestamp Moment Nullable) d place _ (one_step members.Metadata Nullable d place there)
+    (stamp_or_empty_fault members.CreationTimestamp place)) (λ created is_created.
+    seq (stamp_at members.DeletionTimestamp place) _ _ _
+    (row_is (meta_row members.DeletionTimestamp Moment Nullable) d place _ (one_step members.Metadata Nullable d place there) (stamp_fault members.DeletionTimestamp place)) (λ deleted is_deleted.
+    seq (pairs_at members.Labels place) _ _ _
+    (row_is (meta_row members.Labels TextMap Optional) d place _ (one_step members.Metadata Optional d place there) (pairs_fault members.Labels place)) (λ labels are_labels.
+    seq (pairs_at members.Annotations place) _ _ _
+    (row_is (meta_row members.Annotations TextMap Optional) d place _ (one_step members.Metadata Optional d place there) (pairs_fault members.Annotations place)) (λ annotations are_annotations.
+    seq (texts_at members.Finalizers place) _ _ None
+    (row_is (meta_row members.Finalizers Texts Optional) d place _ (one_step members.Metadata Optional d place there)
+    (texts_fault members.Finalizers place)) (λ finalizers are_finalizers. refl)))))
 
 meta_fault : (namespaced : Bool) (d : Data) → fault (meta_of namespaced d) ≡ rows_fault meta_rows d
 unfolding meta_of
@@ -168,7 +284,8 @@ unfolding pod_of
 pod_fault d =
     seq (meta_of true d) _ _ _ (meta_fault true d) (λ meta is_meta.
     way_seq (some_object_at members.Spec (Some d)) _ _ (λ spec is.
-    seq (text_or members.NodeName [] spec) _ _ _ (row_is (spec_row members.NodeName Text (Default [])) d spec _ (one_step members.Spec (Default []) d spec is) (text_fault members.NodeName [] spec)) (λ node is_node.
+    seq (text_or members.NodeName [] spec) _ _ _
+    (row_is (spec_row members.NodeName Text (Default [])) d spec _ (one_step members.Spec (Default []) d spec is) (text_fault members.NodeName [] spec)) (λ node is_node.
     seq (claims_at spec) _ _ None (row_is (spec_row members.Volumes PodVolumes Optional) d spec _ (one_step members.Spec Optional d spec is) (claims_fault spec)) (λ claims are_claims. refl)))
     (λ e is. first_row (spec_row members.NodeName Text (Default [])) (spec_row members.Volumes PodVolumes Optional ∷ []) d (Err e) (ap (λ r. r >>= λ next. Ok next) is)))
 
@@ -204,12 +321,16 @@ status_rows =
 
 -- the storage that is requested, below two more objects
 requests_seq : {B : Type 0} (d spec : Data) (g : Amount → B) → needed_way members.Spec (Some d) ≡ Ok (Some spec)
-    → fault (needed_way members.Resources (Some spec) >>= λ resources. needed_way members.Requests resources >>= λ requests. quantity_at members.Storage requests >>= λ amount. Ok (g amount)) ≡ row_fault requests_row d
+    → fault (needed_way members.Resources (Some spec) >>= λ resources. needed_way members.Requests resources >>= λ requests. quantity_at
+    members.Storage requests >>= λ amount. Ok (g amount)) ≡ row_fault requests_row d
 requests_seq {B} d spec g is =
     by (needed_way members.Resources (Some spec))
-    ∙ ap (λ r. after (r >>= λ s. needed_way members.Resources s >>= λ resources. needed_way members.Requests resources >>= λ requests. Ok requests) (λ p. member_fault Required Quantity members.Storage (at members.Storage p))) (sym is)
+    ∙ ap (λ r. after (r >>= λ s. needed_way members.Resources s >>= λ resources. needed_way members.Requests resources >>= λ requests. Ok requests)
+    (λ p. member_fault Required Quantity members.Storage (at members.Storage p))) (sym is)
   where
-    last : (q : Result (Option Data) ObjectError) → fault (q >>= λ requests. quantity_at members.Storage requests >>= λ amount. Ok (g amount)) ≡ after (q >>= λ requests. Ok requests) (λ p. member_fault Required Quantity members.Storage (at members.Storage p))
+    last : (q : Result (Option Data) ObjectError)
+        → fault (q >>= λ requests. quantity_at members.Storage requests >>= λ amount. Ok (g amount)) ≡ after (q >>= λ requests. Ok requests)
+        (λ p. member_fault Required Quantity members.Storage (at members.Storage p))
     last (Ok requests) = mapped (quantity_at members.Storage requests) g ∙ quantity_fault members.Storage requests
     last (Err e) = refl
 
@@ -224,16 +345,19 @@ claim_shape_fault d spec is =
     let place : Option Data = Some spec in
     let there = way_same members.Spec (Some d) spec is in
     seq (modes_at place) _ _ _ (row_is (spec_row members.AccessModes Modes Required) d place _ (one_step members.Spec Required d place is) (modes_fault place)) (λ modes are_modes.
-    seq (block_at place) _ _ _ (row_is (spec_row members.VolumeMode (OneOf (map volume_mode both)) (Default (volume_mode false))) d place _ (one_step members.Spec (Default (volume_mode false)) d place there) (block_fault place)) (λ block is_block.
+    seq (block_at place) _ _ _ (row_is (spec_row members.VolumeMode (OneOf (map volume_mode both)) (Default (volume_mode false))) d place _
+    (one_step members.Spec (Default (volume_mode false)) d place there) (block_fault place)) (λ block is_block.
     requests_seq d spec _ is ∙ sym (then_none (row_fault requests_row d))))
 
 claim_ties_fault : (d spec : Data) → some_object_at members.Spec (Some d) ≡ Ok (Some spec) → fault (claim_ties (Some spec)) ≡ rows_fault ties_rows d
 unfolding claim_ties
 claim_ties_fault d spec there =
     let place : Option Data = Some spec in
-    seq (optional_text members.StorageClassName place) _ _ _ (row_is (spec_row members.StorageClassName Text Optional) d place _ (one_step members.Spec Optional d place there) (optional_text_fault members.StorageClassName place)) (λ class is_class.
+    seq (optional_text members.StorageClassName place) _ _ _
+    (row_is (spec_row members.StorageClassName Text Optional) d place _ (one_step members.Spec Optional d place there) (optional_text_fault members.StorageClassName place)) (λ class is_class.
     seq (selector_at place) _ _ _ (row_is (spec_row members.Selector Selector Optional) d place _ (one_step members.Spec Optional d place there) (selector_fault place)) (λ selector is_selector.
-    seq (text_or members.VolumeName [] place) _ _ None (row_is (spec_row members.VolumeName Text (Default [])) d place _ (one_step members.Spec (Default []) d place there) (text_fault members.VolumeName [] place)) (λ name is_name. refl)))
+    seq (text_or members.VolumeName [] place) _ _ None
+    (row_is (spec_row members.VolumeName Text (Default [])) d place _ (one_step members.Spec (Default []) d place there) (text_fault members.VolumeName [] place)) (λ name is_name. refl)))
 
 -- what the claim got, below one more object
 got_seq : {B : Type 0} (d : Data) (status : Option Data) (g : Option Amount → B) → some_object_at members.Status (Some d) ≡ Ok status
@@ -254,8 +378,10 @@ claim_status_fault : (d : Data) → fault (claim_status_of d) ≡ rows_fault sta
 unfolding claim_status_of
 claim_status_fault d =
     way_seq (some_object_at members.Status (Some d)) _ _ (λ status is.
-    seq (claim_phase_at status) _ _ _ (row_is claim_phase_row d status _ (one_step members.Status (Default (claim_phase_word claim_phases.Pending)) d status is) (claim_phase_fault status)) (λ phase is_phase.
-    seq (optional_modes status) _ _ _ (row_is (status_row members.AccessModes Modes Optional) d status _ (one_step members.Status Optional d status is) (optional_modes_fault status)) (λ modes are_modes.
+    seq (claim_phase_at status) _ _ _ (row_is claim_phase_row d status _
+    (one_step members.Status (Default (claim_phase_word claim_phases.Pending)) d status is) (claim_phase_fault status)) (λ phase is_phase.
+    seq (optional_modes status) _ _ _ (row_is (status_row members.AccessModes Modes Optional) d status _
+    (one_step members.Status Optional d status is) (optional_modes_fault status)) (λ modes are_modes.
     got_seq d status _ is ∙ sym (then_none (row_fault got_row d)))))
     (λ e is. first_row claim_phase_row (status_row members.AccessModes Modes Optional ∷ got_row ∷ []) d (Err e) (ap (λ r. r >>= λ next. Ok next) is))
 
@@ -307,7 +433,8 @@ abbrev volume_phase_row : Row
 volume_phase_row = status_row members.Phase (OneOf (map volume_phase_word all_volume_phases)) (Default (volume_phase_word volume_phases.Pending))
 
 -- the storage of the capacity, below one more object, and what comes after it
-capacity_seq : {B : Type 0} (d spec : Data) (next : Amount → Result B ObjectError) (z : Option ObjectError) → needed_way members.Spec (Some d) ≡ Ok (Some spec) → ((amount : Amount) → fault (next amount) ≡ z)
+capacity_seq : {B : Type 0} (d spec : Data) (next : Amount → Result B ObjectError) (z : Option ObjectError)
+    → needed_way members.Spec (Some d) ≡ Ok (Some spec) → ((amount : Amount) → fault (next amount) ≡ z)
     → fault (needed_way members.Capacity (Some spec) >>= λ capacity. quantity_at members.Storage capacity >>= λ amount. next amount) ≡ (row_fault capacity_row d then z)
 capacity_seq {B} d spec next z is h =
     by (needed_way members.Capacity (Some spec))
@@ -325,22 +452,30 @@ volume_shape_fault d spec is =
     let there = way_same members.Spec (Some d) spec is in
     capacity_seq d spec _ (rows_fault volume_rest d) is (λ amount.
     seq (modes_at place) _ _ _ (row_is (spec_row members.AccessModes Modes Required) d place _ (one_step members.Spec Required d place is) (modes_fault place)) (λ modes are_modes.
-    seq (block_at place) _ _ _ (row_is (spec_row members.VolumeMode (OneOf (map volume_mode both)) (Default (volume_mode false))) d place _ (one_step members.Spec (Default (volume_mode false)) d place there) (block_fault place)) (λ block is_block.
-    seq (text_or members.StorageClassName [] place) _ _ _ (row_is (spec_row members.StorageClassName Text (Default [])) d place _ (one_step members.Spec (Default []) d place there) (text_fault members.StorageClassName [] place)) (λ class is_class.
-    seq (policy_at place) _ _ None (row_is (spec_row members.PersistentVolumeReclaimPolicy (OneOf (map policy_word all_policies)) (Default (policy_word Retain))) d place _ (one_step members.Spec (Default (policy_word Retain)) d place there) (policy_fault place)) (λ policy is_policy. refl)))))
+    seq (block_at place) _ _ _ (row_is (spec_row members.VolumeMode (OneOf (map volume_mode both)) (Default (volume_mode false))) d place _
+    (one_step members.Spec (Default (volume_mode false)) d place there) (block_fault place)) (λ block is_block.
+    seq (text_or members.StorageClassName [] place) _ _ _
+    (row_is (spec_row members.StorageClassName Text (Default [])) d place _ (one_step members.Spec (Default []) d place there) (text_fault members.StorageClassName [] place)) (λ class is_class.
+    seq (policy_at place) _ _ None (row_is
+    (spec_row members.PersistentVolumeReclaimPolicy (OneOf (map policy_word all_policies)) (Default (policy_word Retain))) d place _
+    (one_step members.Spec (Default (policy_word Retain)) d place there) (policy_fault place)) (λ policy is_policy. refl)))))
 
 -- the terms, below two more objects
 terms_are : (d spec : Data) → some_object_at members.Spec (Some d) ≡ Ok (Some spec) → fault (terms_at (Some spec)) ≡ row_fault terms_row d
 unfolding terms_at
 terms_are d spec there =
     by (some_object_at members.NodeAffinity (Some spec))
-    ∙ ap (λ r. after (r >>= λ s. some_object_at members.NodeAffinity s >>= λ affinity. some_object_at members.Required affinity >>= λ required. Ok required) (λ p. member_fault Optional Terms members.NodeSelectorTerms (at members.NodeSelectorTerms p))) (sym there)
+    ∙ ap (λ r. after (r >>= λ s. some_object_at members.NodeAffinity s >>= λ affinity. some_object_at members.Required affinity >>= λ required. Ok
+    required) (λ p. member_fault Optional Terms members.NodeSelectorTerms (at members.NodeSelectorTerms p))) (sym there)
   where
-    last : (q : Result (Option Data) ObjectError) → fault (q >>= λ required. optional_items members.NodeSelectorTerms required >>= λ listed. terms_or_none listed) ≡ after (q >>= λ required. Ok required) (λ p. member_fault Optional Terms members.NodeSelectorTerms (at members.NodeSelectorTerms p))
+    last : (q : Result (Option Data) ObjectError)
+        → fault (q >>= λ required. optional_items members.NodeSelectorTerms required >>= λ listed. terms_or_none listed) ≡ after
+        (q >>= λ required. Ok required) (λ p. member_fault Optional Terms members.NodeSelectorTerms (at members.NodeSelectorTerms p))
     last (Ok required) = terms_fault required
     last (Err e) = refl
 
-    by : (r : Result (Option Data) ObjectError) → fault (r >>= λ affinity. some_object_at members.Required affinity >>= λ required. optional_items members.NodeSelectorTerms required >>= λ listed. terms_or_none listed)
+    by : (r : Result (Option Data) ObjectError)
+        → fault (r >>= λ affinity. some_object_at members.Required affinity >>= λ required. optional_items members.NodeSelectorTerms required >>= λ listed. terms_or_none listed)
         ≡ after (r >>= λ affinity. some_object_at members.Required affinity >>= λ required. Ok required) (λ p. member_fault Optional Terms members.NodeSelectorTerms (at members.NodeSelectorTerms p))
     by (Ok affinity) = last (some_object_at members.Required affinity)
     by (Err e) = refl
@@ -363,10 +498,12 @@ volume_spec_fault d = whole _ (λ spec is shape. mapped (volume_ties (Some spec)
         → fault (needed_way members.Spec (Some d) >>= λ spec. volume_shape spec >>= λ shape. next spec shape) ≡ (rows_fault (capacity_row ∷ volume_rest) d then z)
     whole {B} next {z} h = by (needed_way members.Spec (Some d)) refl
       where
-        way_is : (r : Result (Option Data) ObjectError) → needed_way members.Spec (Some d) ≡ r → way_to Required (members.Spec ∷ members.Capacity ∷ []) (Some d) ≡ (r >>= λ s. needed_way members.Capacity s >>= λ capacity. Ok capacity)
+        way_is : (r : Result (Option Data) ObjectError) → needed_way members.Spec (Some d) ≡ r
+            → way_to Required (members.Spec ∷ members.Capacity ∷ []) (Some d) ≡ (r >>= λ s. needed_way members.Capacity s >>= λ capacity. Ok capacity)
         way_is r is = ap (λ q. q >>= λ s. needed_way members.Capacity s >>= λ capacity. Ok capacity) is
 
-        by : (r : Result (Option Data) ObjectError) → needed_way members.Spec (Some d) ≡ r → fault (r >>= λ spec. volume_shape spec >>= λ shape. next spec shape) ≡ (rows_fault (capacity_row ∷ volume_rest) d then z)
+        by : (r : Result (Option Data) ObjectError) → needed_way members.Spec (Some d) ≡ r
+            → fault (r >>= λ spec. volume_shape spec >>= λ shape. next spec shape) ≡ (rows_fault (capacity_row ∷ volume_rest) d then z)
         by (Err e) is = ap (λ o. o then z) (first_row capacity_row volume_rest d (Err e) (way_is (Err e) is))
         by (Ok None) is = ap (λ o. o then z) (first_row capacity_row volume_rest d (Ok None) (way_is (Ok None) is))
         by (Ok (Some spec)) is = seq (volume_shape (Some spec)) _ _ z (volume_shape_fault d spec is) (λ shape is_shape. h spec is shape)

@@ -4,20 +4,99 @@ use Rattle.std.specs.Prelude.{unwrap_or}
 use Rattle.std.specs.List.{list_any}
 use Rattle.serde_json.specs.Data.{Data}
 use Rattle.json_text.specs.Look.{unless_null}
-use Rattle.kube_types.specs.Words.{policy_word, volume_mode, binding_mode, volume_phase_word, claim_phase_word}
-use Rattle.kube_types.specs.Named.{value_named, both, all_policies, all_volume_phases, all_claim_phases}
-use Rattle.kube_types.specs.declared.parts.Policy.TheVariants.{Retain, Delete}
-use Rattle.kube_types.specs.declared.parts.VolumePhase.TheVariants as volume_phases
-use Rattle.kube_types.specs.declared.parts.ClaimPhase.TheVariants as claim_phases
+use Rattle.kube_parts.specs.Words.{policy_word, volume_mode, binding_mode, volume_phase_word, claim_phase_word}
+use Rattle.kube_parts.specs.Named.{value_named, both, all_policies, all_volume_phases, all_claim_phases}
+use Rattle.kube_parts.specs.declared.parts.Policy.TheVariants.{Retain, Delete}
+use Rattle.kube_parts.specs.declared.parts.VolumePhase.TheVariants as volume_phases
+use Rattle.kube_parts.specs.declared.parts.ClaimPhase.TheVariants as claim_phases
 use Rattle.object_text.specs.declared.errors.Member.{Member}
 use Rattle.object_text.specs.declared.errors.Member.TheVariants as members
 use Rattle.object_text.specs.declared.errors.ObjectError.{ObjectError}
 use Rattle.object_text.specs.declared.errors.ObjectError.TheVariants.{Missing, WrongType}
 use Rattle.object_text.specs.Answers.{◌>>=◌}
-use Rattle.object_text.specs.MemberReaders.{at, as_text, as_items, as_object, needed_from, needed_text, needed_object, way_from, text_from, text_or, optional_from, optional_text, optional_items_from, texts_or_none, texts_at, pairs_or_none, pairs_at, uid_or_none, uid_named, uid_at, stamp_from, stamp_named, stamp_at, stamp_or_empty, version_named, version_at}
+use Rattle.object_text.specs.MemberReaders.{
+  at,
+  as_text,
+  as_items,
+  as_object,
+  needed_from,
+  needed_text,
+  needed_object,
+  way_from,
+  text_from,
+  text_or,
+  optional_from,
+  optional_text,
+  optional_items_from,
+  texts_or_none,
+  texts_at,
+  pairs_or_none,
+  pairs_at,
+  uid_or_none,
+  uid_named,
+  uid_at,
+  stamp_from,
+  stamp_named,
+  stamp_at,
+  stamp_or_empty,
+  version_named,
+  version_at,
+}
 use Rattle.object_text.specs.MetaReaders.{kept_namespace, namespace_at}
-use Rattle.object_text.specs.PartReaders.{amount_in, quantity_at, amount_or_none, optional_quantity, no_modes, modes_from, modes_at, modes_or_none, optional_modes, known, block_at, policy_at, class_policies, class_policy_at, delayed_at, volume_phase_at, claim_phase_at, ref_at, ref_or_none, claim_ref_at, terms_from, terms_or_none, selector_of, selector_or_none, selector_at, claims_or_none, claims_at}
-use Rattle.object_laws.specs.Manifests.{Text, OneOf, Uuid, Version, Moment, Quantity, Modes, Texts, TextMap, Members, Reference, Terms, Selector, PodVolumes, Required, Optional, Default, Nullable, fault, one_of, on, shape_fault, member_fault}
+use Rattle.object_text.specs.PartReaders.{
+  amount_in,
+  quantity_at,
+  amount_or_none,
+  optional_quantity,
+  no_modes,
+  modes_from,
+  modes_at,
+  modes_or_none,
+  optional_modes,
+  known,
+  block_at,
+  policy_at,
+  class_policies,
+  class_policy_at,
+  delayed_at,
+  volume_phase_at,
+  claim_phase_at,
+  ref_at,
+  ref_or_none,
+  claim_ref_at,
+  terms_from,
+  terms_or_none,
+  selector_of,
+  selector_or_none,
+  selector_at,
+  claims_or_none,
+  claims_at,
+}
+use Rattle.object_laws.specs.Manifests.{
+  Text,
+  OneOf,
+  Uuid,
+  Version,
+  Moment,
+  Quantity,
+  Modes,
+  Texts,
+  TextMap,
+  Members,
+  Reference,
+  Terms,
+  Selector,
+  PodVolumes,
+  Required,
+  Optional,
+  Default,
+  Nullable,
+  fault,
+  one_of,
+  on,
+  shape_fault,
+  member_fault,
+}
 
 -- ---- results and their faults
 
@@ -31,7 +110,8 @@ alike (Ok a) f g h = h a
 alike (Err e) f g h = refl
 
 -- a step that only wraps the value leaves no trace
-wrapped : {A B C D : Type 0} (r : Result A ObjectError) (w : A → B) (f : B → Result C ObjectError) (g : A → Result D ObjectError) → ((a : A) → fault (f (w a)) ≡ fault (g a)) → fault ((r >>= λ a. Ok (w a)) >>= f) ≡ fault (r >>= g)
+wrapped : {A B C D : Type 0} (r : Result A ObjectError) (w : A → B) (f : B → Result C ObjectError) (g : A → Result D ObjectError)
+    → ((a : A) → fault (f (w a)) ≡ fault (g a)) → fault ((r >>= λ a. Ok (w a)) >>= f) ≡ fault (r >>= g)
 wrapped (Ok a) w f g h = h a
 wrapped (Err e) w f g h = refl
 
@@ -59,7 +139,8 @@ pub modes_fault : (place : Option Data) → fault (modes_at place) ≡ member_fa
 unfolding modes_at
 modes_fault place = by (unless_null (at members.AccessModes place))
   where
-    by : (o : Option Data) → fault ((needed_from members.AccessModes o >>= λ d. as_items members.AccessModes d) >>= λ ds. modes_from ds no_modes) ≡ on (Some (Missing members.AccessModes)) (shape_fault Modes members.AccessModes) o
+    by : (o : Option Data) → fault ((needed_from members.AccessModes o >>= λ d. as_items members.AccessModes d) >>= λ ds. modes_from ds no_modes) ≡
+        on (Some (Missing members.AccessModes)) (shape_fault Modes members.AccessModes) o
     by None = refl
     by (Some d) = refl
 
@@ -113,7 +194,8 @@ word_fault : {X : Type 0} (m : Member) (word : X → List ℕ) (xs : List X) (s 
 word_fault m word [] s = refl
 word_fault m word (x ∷ xs) s = by (bytes_eq s (word x)) (word_fault m word xs s)
   where
-    by : (b : Bool) → fault (known m (value_named word xs s)) ≡ fault (one_of m (map word xs) s) → fault (known m (if b then Some x else value_named word xs s)) ≡ fault (if (b || list_any (bytes_eq s) (map word xs)) then Ok s else Err (WrongType m))
+    by : (b : Bool) → fault (known m (value_named word xs s)) ≡ fault (one_of m (map word xs) s)
+        → fault (known m (if b then Some x else value_named word xs s)) ≡ fault (if (b || list_any (bytes_eq s) (map word xs)) then Ok s else Err (WrongType m))
     by true rest = refl
     by false rest = rest
 
@@ -121,7 +203,8 @@ words_fault : {X : Type 0} (m : Member) (other : List ℕ) (word : X → List �
     → fault (text_or m other place >>= λ s. known m (value_named word xs s)) ≡ member_fault (Default other) (OneOf (map word xs)) m (at m place)
 words_fault {X} m other word xs place = by (at m place)
   where
-    by : (o : Option Data) → fault (text_from m other o >>= λ s. known m (value_named word xs s)) ≡ on (fault (one_of m (map word xs) other)) (λ d. fault (as_text m d >>= λ s. one_of m (map word xs) s)) o
+    by : (o : Option Data) → fault (text_from m other o >>= λ s. known m (value_named word xs s)) ≡ on (fault (one_of m (map word xs) other)) (λ d.
+        fault (as_text m d >>= λ s. one_of m (map word xs) s)) o
     by None = word_fault m word xs other
     by (Some d) = alike (as_text m d) (λ s. known m (value_named word xs s)) (one_of m (map word xs)) (word_fault m word xs)
 
@@ -129,23 +212,29 @@ pub block_fault : (place : Option Data) → fault (block_at place) ≡ member_fa
 unfolding block_at
 block_fault place = words_fault members.VolumeMode (volume_mode false) volume_mode both place
 
-pub policy_fault : (place : Option Data) → fault (policy_at place) ≡ member_fault (Default (policy_word Retain)) (OneOf (map policy_word all_policies)) members.PersistentVolumeReclaimPolicy (at members.PersistentVolumeReclaimPolicy place)
+pub policy_fault : (place : Option Data)
+    → fault (policy_at place) ≡ member_fault (Default (policy_word Retain))
+    (OneOf (map policy_word all_policies)) members.PersistentVolumeReclaimPolicy (at members.PersistentVolumeReclaimPolicy place)
 unfolding policy_at
 policy_fault place = words_fault members.PersistentVolumeReclaimPolicy (policy_word Retain) policy_word all_policies place
 
-pub class_policy_fault : (place : Option Data) → fault (class_policy_at place) ≡ member_fault (Default (policy_word Delete)) (OneOf (map policy_word class_policies)) members.ReclaimPolicy (at members.ReclaimPolicy place)
+pub class_policy_fault : (place : Option Data)
+    → fault (class_policy_at place) ≡ member_fault (Default (policy_word Delete)) (OneOf (map policy_word class_policies)) members.ReclaimPolicy (at members.ReclaimPolicy place)
 unfolding class_policy_at
 class_policy_fault place = words_fault members.ReclaimPolicy (policy_word Delete) policy_word class_policies place
 
-pub delayed_fault : (place : Option Data) → fault (delayed_at place) ≡ member_fault (Default (binding_mode false)) (OneOf (map binding_mode both)) members.VolumeBindingMode (at members.VolumeBindingMode place)
+pub delayed_fault : (place : Option Data)
+    → fault (delayed_at place) ≡ member_fault (Default (binding_mode false)) (OneOf (map binding_mode both)) members.VolumeBindingMode (at members.VolumeBindingMode place)
 unfolding delayed_at
 delayed_fault place = words_fault members.VolumeBindingMode (binding_mode false) binding_mode both place
 
-pub volume_phase_fault : (place : Option Data) → fault (volume_phase_at place) ≡ member_fault (Default (volume_phase_word volume_phases.Pending)) (OneOf (map volume_phase_word all_volume_phases)) members.Phase (at members.Phase place)
+pub volume_phase_fault : (place : Option Data)
+    → fault (volume_phase_at place) ≡ member_fault (Default (volume_phase_word volume_phases.Pending)) (OneOf (map volume_phase_word all_volume_phases)) members.Phase (at members.Phase place)
 unfolding volume_phase_at
 volume_phase_fault place = words_fault members.Phase (volume_phase_word volume_phases.Pending) volume_phase_word all_volume_phases place
 
-pub claim_phase_fault : (place : Option Data) → fault (claim_phase_at place) ≡ member_fault (Default (claim_phase_word claim_phases.Pending)) (OneOf (map claim_phase_word all_claim_phases)) members.Phase (at members.Phase place)
+pub claim_phase_fault : (place : Option Data)
+    → fault (claim_phase_at place) ≡ member_fault (Default (claim_phase_word claim_phases.Pending)) (OneOf (map claim_phase_word all_claim_phases)) members.Phase (at members.Phase place)
 unfolding claim_phase_at
 claim_phase_fault place = words_fault members.Phase (claim_phase_word claim_phases.Pending) claim_phase_word all_claim_phases place
 
@@ -206,7 +295,9 @@ claims_fault place = by (at members.Volumes place)
     by (Some d) = wrapped (as_items members.Volumes d) Some claims_or_none (λ ds. claims_or_none (Some ds)) (λ ds. refl)
 
 -- the terms, below the objects on the way to them
-pub terms_fault : (place : Option Data) → fault (optional_items_from members.NodeSelectorTerms (at members.NodeSelectorTerms place) >>= λ i. terms_or_none i) ≡ member_fault Optional Terms members.NodeSelectorTerms (at members.NodeSelectorTerms place)
+pub terms_fault : (place : Option Data)
+    → fault (optional_items_from members.NodeSelectorTerms (at members.NodeSelectorTerms place) >>= λ i. terms_or_none i)
+    ≡ member_fault Optional Terms members.NodeSelectorTerms (at members.NodeSelectorTerms place)
 terms_fault place = by (at members.NodeSelectorTerms place)
   where
     by : (o : Option Data) → fault (optional_items_from members.NodeSelectorTerms o >>= λ i. terms_or_none i) ≡ on None (shape_fault Terms members.NodeSelectorTerms) o

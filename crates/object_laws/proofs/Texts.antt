@@ -10,7 +10,7 @@ use Rattle.serde_json.proofs.Nesting.{depth-read}
 use Rattle.json_text.specs.Look.{unless_null}
 use Rattle.json_text.proofs.Good.{good_read}
 use Rattle.json_text.proofs.ReadValues.{canonical-read}
-use Rattle.kube_types.specs.declared.objects.Object.{Object}
+use Rattle.kube_objects.specs.declared.objects.Object.{Object}
 use Rattle.object_text.specs.declared.errors.Member.{Member}
 use Rattle.object_text.specs.declared.errors.Member.TheVariants as members
 use Rattle.object_text.specs.declared.errors.ObjectError.{ObjectError}
@@ -51,7 +51,8 @@ value_given text = by (is_utf8 text) (read text) refl
 text_given : (text : List ℕ) → IfOk (read_text_of text) IsGivenObject
 unfolding read_text_of
 text_given text =
-    if_ok IsGivenObject (nat_lt most_bytes (length text)) (Err TooLong) _ (λ e. tt) (λ e. step (IsTaken 127) IsGivenObject (value_of text) _ (value_given text) (λ d h. sound_given d (sound_whole d h)))
+    if_ok IsGivenObject (nat_lt most_bytes (length text)) (Err TooLong) _ (λ e. tt)
+    (λ e. step (IsTaken 127) IsGivenObject (value_of text) _ (value_given text) (λ d h. sound_given d (sound_whole d h)))
 
 pub text_gives : TextGives
 text_gives text o e = of_ok IsGivenObject (read_text_of text) o (text_given text) e
@@ -112,7 +113,8 @@ item_given : (d : Data) → IsSound d → IfOk (item_of d) IsGivenObject
 unfolding item_of
 item_given d h = if_ok IsGivenObject (is_long d) (Err TooLong) (object_of d) (λ e. tt) (λ e. sound_given d h)
 
-next_given : (n : ℕ) (r : Result Object ObjectError) (next : Object → Result (List Object) ListError) → IfOk r IsGivenObject → ((o : Object) → IsGivenObject o → IfOk (next o) AreGiven) → IfOk (with_item n r next) AreGiven
+next_given : (n : ℕ) (r : Result Object ObjectError) (next : Object → Result (List Object) ListError) → IfOk r IsGivenObject
+    → ((o : Object) → IsGivenObject o → IfOk (next o) AreGiven) → IfOk (with_item n r next) AreGiven
 next_given n (Ok o) next h k = k o h
 next_given n (Err e) next h k = tt
 

@@ -5,8 +5,8 @@ use Rattle.std.proofs.lemmas.Str.{IsUtf8-nil, IsUtf8-from_is_utf8}
 use Rattle.serde_json.specs.Data.{Data}
 use Rattle.serde_json.specs.Read.{read}
 use Rattle.serde_json.specs.Written.{has_float}
-use Rattle.kube_types.specs.declared.parts.Kind.{Kind}
-use Rattle.kube_types.specs.declared.parts.Kind.TheVariants as kinds
+use Rattle.kube_parts.specs.declared.parts.Kind.{Kind}
+use Rattle.kube_parts.specs.declared.parts.Kind.TheVariants as kinds
 use Rattle.object_text.specs.declared.errors.Member.TheVariants as members
 use Rattle.object_text.specs.declared.errors.ObjectError.TheVariants.{NotObject, NotWhole}
 use Rattle.object_text.specs.declared.extra.Listed.TheVariants as listed
@@ -18,14 +18,46 @@ use Rattle.object_text.specs.declared.kind_readers.ClaimTies.{ClaimTies}
 use Rattle.object_text.specs.declared.kind_readers.ClaimStatus.{ClaimStatus}
 use Rattle.object_text.specs.MemberReaders.{needed_text, needed_way, some_object_at, text_or, optional_text, pairs_at}
 use Rattle.object_text.specs.MetaReaders.{meta_of}
-use Rattle.object_text.specs.PartReaders.{quantity_at, optional_quantity, modes_at, optional_modes, block_at, policy_at, class_policy_at, delayed_at, claim_phase_at, claim_ref_at, source_at, terms_at, selector_at, claims_at}
+use Rattle.object_text.specs.PartReaders.{
+  quantity_at,
+  optional_quantity,
+  modes_at,
+  optional_modes,
+  block_at,
+  policy_at,
+  class_policy_at,
+  delayed_at,
+  claim_phase_at,
+  claim_ref_at,
+  source_at,
+  terms_at,
+  selector_at,
+  claims_at,
+}
 use Rattle.object_text.specs.KindReaders.{volume_shape, volume_ties, volume_spec_of, volume_status_of, volume_of, claim_shape, claim_ties, claim_status_of, claim_of, class_of, node_of, pod_of}
 use Rattle.object_text.specs.Reading.{is_object, whole_object, kind_at, object_of_kind, object_of, value_in, value_of}
 use Rattle.object_laws.proofs.GivesParts.{step, past, if_ok}
 use Rattle.object_laws.proofs.Utf8Texts.{HasUtf8}
 use Rattle.object_laws.proofs.Utf8Read.{read_utf8}
 use Rattle.object_laws.proofs.Utf8Objects.{Each, PairUtf8, MetaUtf8, AmountUtf8, RefUtf8, SourceUtf8, TermsUtf8, SelectorUtf8, VolumeUtf8, ClaimUtf8, ClassUtf8, NodeUtf8, PodUtf8, ObjectUtf8}
-use Rattle.object_laws.proofs.Utf8Readers.{PlaceUtf8, TextIf, needed_text_read_utf8, needed_way_read_utf8, object_at_read_utf8, text_or_read_utf8, optional_text_read_utf8, pairs_read_utf8, meta_read_utf8, quantity_read_utf8, optional_quantity_read_utf8, claim_ref_read_utf8, source_read_utf8, terms_read_utf8, selector_read_utf8, extra_read_utf8}
+use Rattle.object_laws.proofs.Utf8Readers.{
+  PlaceUtf8,
+  TextIf,
+  needed_text_read_utf8,
+  needed_way_read_utf8,
+  object_at_read_utf8,
+  text_or_read_utf8,
+  optional_text_read_utf8,
+  pairs_read_utf8,
+  meta_read_utf8,
+  quantity_read_utf8,
+  optional_quantity_read_utf8,
+  claim_ref_read_utf8,
+  source_read_utf8,
+  terms_read_utf8,
+  selector_read_utf8,
+  extra_read_utf8,
+}
 
 -- ---- volumes
 
@@ -128,7 +160,16 @@ claim_read_utf8 d h =
     step ClaimShapeUtf8 ClaimUtf8 (claim_shape spec) _ (claim_shape_read_utf8 spec spec_utf8) (λ shape shape_utf8.
     step ClaimTiesUtf8 ClaimUtf8 (claim_ties spec) _ (claim_ties_read_utf8 spec spec_utf8) (λ ties ties_utf8.
     step ClaimStatusUtf8 ClaimUtf8 (claim_status_of d) _ (claim_status_read_utf8 d h) (λ status status_utf8.
-    record { meta = meta_utf8; amount = shape_utf8; class = ties_utf8.0; selector = ties_utf8.1; volume_name = ties_utf8.2; got = status_utf8; extra = extra_read_utf8 listed.Claim spec spec_utf8 })))))
+    record {
+      meta = meta_utf8;
+      amount = shape_utf8;
+      class = ties_utf8.0;
+      selector = ties_utf8.1;
+      volume_name = ties_utf8.2;
+      got =
+          status_utf8;
+      extra = extra_read_utf8 listed.Claim spec spec_utf8;
+    })))))
 
 -- ---- classes, nodes and pods
 
@@ -146,7 +187,8 @@ node_read_utf8 : (d : Data) → HasUtf8 d → IfOk (node_of d) NodeUtf8
 unfolding node_of
 node_read_utf8 d h =
     step MetaUtf8 NodeUtf8 (meta_of false d) _ (meta_read_utf8 false d h) (λ meta meta_utf8.
-    step PlaceUtf8 NodeUtf8 (some_object_at members.Spec (Some d)) _ (object_at_read_utf8 members.Spec (Some d) h) (λ spec spec_utf8. record { meta = meta_utf8; extra = extra_read_utf8 listed.Node spec spec_utf8 }))
+    step PlaceUtf8 NodeUtf8 (some_object_at members.Spec (Some d)) _ (object_at_read_utf8 members.Spec (Some d) h)
+    (λ spec spec_utf8. record { meta = meta_utf8; extra = extra_read_utf8 listed.Node spec spec_utf8 }))
 
 pod_read_utf8 : (d : Data) → HasUtf8 d → IfOk (pod_of d) PodUtf8
 unfolding pod_of
@@ -166,7 +208,8 @@ kind_read_utf8 kinds.PersistentVolumeClaim d h = step ClaimUtf8 ObjectUtf8 (clai
 kind_read_utf8 kinds.Pod d h = step PodUtf8 ObjectUtf8 (pod_of d) _ (pod_read_utf8 d h) (λ p u. u)
 
 whole_utf8 : (value : Data) → HasUtf8 value → IfOk (whole_object value) HasUtf8
-whole_utf8 value h = if_ok HasUtf8 (is_object value) (if has_float value then Err NotWhole else Ok value) (Err NotObject) (λ e. if_ok HasUtf8 (has_float value) (Err NotWhole) (Ok value) (λ f. tt) (λ f. h)) (λ e. tt)
+whole_utf8 value h = if_ok HasUtf8 (is_object value) (if has_float value then Err NotWhole else Ok value) (Err NotObject) (λ e. if_ok HasUtf8
+    (has_float value) (Err NotWhole) (Ok value) (λ f. tt) (λ f. h)) (λ e. tt)
 
 pub object_read_utf8 : (value : Data) → HasUtf8 value → IfOk (object_of value) ObjectUtf8
 unfolding object_of

@@ -14,38 +14,70 @@ use Rattle.uuid.specs.Text.{lower}
 use Rattle.uuid.proofs.TextLemmas.{hyphenated_ascii}
 use Rattle.json_text.specs.Build.{put_some, put_all}
 use Rattle.plain_data.specs.Pairs.{Pair}
-use Rattle.kube_types.specs.Uids.{uid_text}
-use Rattle.kube_types.specs.Words.{volume_mode, binding_mode, words_if, mode_words, policy_word, volume_phase_word, claim_phase_word, source_word, op_word}
-use Rattle.kube_types.specs.declared.uid.Uid.{Uid}
-use Rattle.kube_types.specs.declared.parts.Modes.{Modes}
-use Rattle.kube_types.specs.declared.parts.Policy.{Policy}
-use Rattle.kube_types.specs.declared.parts.Policy.TheVariants as policies
-use Rattle.kube_types.specs.declared.parts.VolumePhase.{VolumePhase}
-use Rattle.kube_types.specs.declared.parts.VolumePhase.TheVariants as volume_phases
-use Rattle.kube_types.specs.declared.parts.ClaimPhase.{ClaimPhase}
-use Rattle.kube_types.specs.declared.parts.ClaimPhase.TheVariants as claim_phases
-use Rattle.kube_types.specs.declared.parts.SourceKind.{SourceKind}
-use Rattle.kube_types.specs.declared.parts.SourceKind.TheVariants.{Csi, Nfs, Local, HostPath}
-use Rattle.kube_types.specs.declared.parts.Op.{Op}
-use Rattle.kube_types.specs.declared.parts.Op.TheVariants as ops
-use Rattle.kube_types.specs.declared.objects.Meta.{Meta}
-use Rattle.kube_types.specs.declared.objects.Amount.{Amount}
-use Rattle.kube_types.specs.declared.objects.Ref.{Ref}
-use Rattle.kube_types.specs.declared.objects.Source.{Source}
-use Rattle.kube_types.specs.declared.objects.Expr.{Expr}
-use Rattle.kube_types.specs.declared.objects.Selector.{Selector}
-use Rattle.kube_types.specs.declared.objects.NodeTerms.{NodeTerms}
-use Rattle.kube_types.specs.declared.objects.Volume.{Volume}
-use Rattle.kube_types.specs.declared.objects.Claim.{Claim}
-use Rattle.kube_types.specs.declared.objects.Class.{Class}
-use Rattle.kube_types.specs.declared.objects.Node.{Node}
-use Rattle.kube_types.specs.declared.objects.Pod.{Pod}
-use Rattle.kube_types.specs.declared.objects.Object.{Object}
-use Rattle.kube_types.specs.declared.objects.Object.TheVariants as objects
+use Rattle.kube_parts.specs.Uids.{uid_text}
+use Rattle.kube_parts.specs.Words.{volume_mode, binding_mode, words_if, mode_words, policy_word, volume_phase_word, claim_phase_word, source_word, op_word}
+use Rattle.kube_parts.specs.declared.uid.Uid.{Uid}
+use Rattle.kube_parts.specs.declared.parts.Modes.{Modes}
+use Rattle.kube_parts.specs.declared.parts.Policy.{Policy}
+use Rattle.kube_parts.specs.declared.parts.Policy.TheVariants as policies
+use Rattle.kube_parts.specs.declared.parts.VolumePhase.{VolumePhase}
+use Rattle.kube_parts.specs.declared.parts.VolumePhase.TheVariants as volume_phases
+use Rattle.kube_parts.specs.declared.parts.ClaimPhase.{ClaimPhase}
+use Rattle.kube_parts.specs.declared.parts.ClaimPhase.TheVariants as claim_phases
+use Rattle.kube_parts.specs.declared.parts.SourceKind.{SourceKind}
+use Rattle.kube_parts.specs.declared.parts.SourceKind.TheVariants.{Csi, Nfs, Local, HostPath}
+use Rattle.kube_parts.specs.declared.parts.Op.{Op}
+use Rattle.kube_parts.specs.declared.parts.Op.TheVariants as ops
+use Rattle.kube_objects.specs.declared.objects.Meta.{Meta}
+use Rattle.kube_objects.specs.declared.objects.Amount.{Amount}
+use Rattle.kube_objects.specs.declared.objects.Ref.{Ref}
+use Rattle.kube_objects.specs.declared.objects.Source.{Source}
+use Rattle.kube_objects.specs.declared.objects.Expr.{Expr}
+use Rattle.kube_objects.specs.declared.objects.Selector.{Selector}
+use Rattle.kube_objects.specs.declared.objects.NodeTerms.{NodeTerms}
+use Rattle.kube_objects.specs.declared.objects.Volume.{Volume}
+use Rattle.kube_objects.specs.declared.objects.Claim.{Claim}
+use Rattle.kube_objects.specs.declared.objects.Class.{Class}
+use Rattle.kube_objects.specs.declared.objects.Node.{Node}
+use Rattle.kube_objects.specs.declared.objects.Pod.{Pod}
+use Rattle.kube_objects.specs.declared.objects.Object.{Object}
+use Rattle.kube_objects.specs.declared.objects.Object.TheVariants as objects
 use Rattle.json_text.specs.Trees.{members_in}
-use Rattle.json_text.specs.Members.{MemberList, text, filled, counted, object_of, items_data, array_data, filled_array, put_pairs, filled_pairs, filled_object, within, members_unless, extra_from, extra_members}
+use Rattle.json_text.specs.Members.{
+  MemberList,
+  text,
+  filled,
+  counted,
+  object_of,
+  items_data,
+  array_data,
+  filled_array,
+  put_pairs,
+  filled_pairs,
+  filled_object,
+  within,
+  members_unless,
+  extra_from,
+  extra_members,
+}
 use Rattle.object_print.specs.Metadata.{uid_data, filled_or_always, front_pairs, back_pairs, head_pairs, meta_data}
-use Rattle.object_print.specs.Parts.{modes_data, storage_pairs, storage_data, requests_data, ref_pairs, ref_data, source_pairs, source_data, expr_pairs, expr_data, term_pairs, term_data, node_terms_data, selector_pairs, selector_data}
+use Rattle.object_print.specs.Parts.{
+  modes_data,
+  storage_pairs,
+  storage_data,
+  requests_data,
+  ref_pairs,
+  ref_data,
+  source_pairs,
+  source_data,
+  expr_pairs,
+  expr_data,
+  term_pairs,
+  term_data,
+  node_terms_data,
+  selector_pairs,
+  selector_data,
+}
 use Rattle.object_print.specs.Volumes.{volume_front, volume_back, volume_spec, volume_status_pairs, volume_status, volume_pairs, volume_data}
 use Rattle.object_print.specs.Claims.{claim_front, claim_back, claim_spec, got_modes, claim_status_pairs, claim_status, claim_pairs, claim_data}
 use Rattle.object_print.specs.Objects.{class_back, class_data, pod_spec, pod_pairs, pod_data, node_pairs, node_data, object_data, object_line}
@@ -284,8 +316,19 @@ namespace_utf8 false s h = filled_utf8 s h
 meta_utf8 : (b : Bool) (m : Meta) → IsMeta b m → MetaUtf8 m → HasUtf8 (meta_data b m)
 unfolding meta_data
 meta_utf8 b m is h =
-    object_of_utf8 (front_pairs m ++ back_pairs b m) refl
-    (filled_pairs_utf8 m.annotations h.annotations, (filled_utf8 m.created h.created, (option_utf8 IsUtf8 string m.deleted string_utf8 h.deleted, (filled_array_utf8 IsUtf8 string m.finalizers string_utf8 h.finalizers, (filled_pairs_utf8 m.labels h.labels, (h.name, (namespace_utf8 b m.namespace h.namespace, (counted_utf8 m.version is.version, (uid_option_utf8 m.uid, tt)))))))))
+    object_of_utf8 (front_pairs m ++ back_pairs b m) refl (
+      filled_pairs_utf8 m.annotations h.annotations,
+      (
+        filled_utf8 m.created h.created,
+        (
+          option_utf8 IsUtf8 string m.deleted string_utf8 h.deleted,
+          (
+            filled_array_utf8 IsUtf8 string m.finalizers string_utf8 h.finalizers,
+            (filled_pairs_utf8 m.labels h.labels, (h.name, (namespace_utf8 b m.namespace h.namespace, (counted_utf8 m.version is.version, (uid_option_utf8 m.uid, tt))))),
+          ),
+        ),
+      ),
+    )
 
 modes_utf8 : (m : Modes) → HasUtf8 (modes_data m)
 unfolding modes_data
@@ -343,8 +386,16 @@ volume_names v = rw (source_word_ascii v.source.kind) refl
 volume_spec_utf8 : (v : Volume) → VolumeUtf8 v → HasUtf8 (volume_spec v)
 unfolding volume_spec
 volume_spec_utf8 v h =
-    put_all_utf8 (volume_front v ++ volume_back v) (extra_members v.extra) (volume_names v)
-    (modes_utf8 v.modes, (storage_utf8 v.amount h.amount, (option_utf8 RefUtf8 ref_data v.claim_ref ref_utf8 h.claim_ref, (source_utf8 v.source h.source, (option_utf8 TermsUtf8 node_terms_data v.terms terms_utf8 h.terms, (policy_utf8 v.policy, (filled_utf8 v.class h.class, (volume_mode_utf8 v.block, tt))))))))
+    put_all_utf8 (volume_front v ++ volume_back v) (extra_members v.extra) (volume_names v) (
+      modes_utf8 v.modes,
+      (
+        storage_utf8 v.amount h.amount,
+        (
+          option_utf8 RefUtf8 ref_data v.claim_ref ref_utf8 h.claim_ref,
+          (source_utf8 v.source h.source, (option_utf8 TermsUtf8 node_terms_data v.terms terms_utf8 h.terms, (policy_utf8 v.policy, (filled_utf8 v.class h.class, (volume_mode_utf8 v.block, tt))))),
+        ),
+      ),
+    )
     (extra_utf8 v.extra h.extra)
 
 volume_status_utf8 : (v : Volume) → HasUtf8 (volume_status v)
@@ -353,13 +404,24 @@ volume_status_utf8 v = object_of_utf8 (volume_status_pairs v) refl (volume_phase
 
 volume_utf8 : (v : Volume) → IsVolume v → VolumeUtf8 v → HasUtf8 (volume_data v)
 unfolding volume_data
-volume_utf8 v is h = object_of_utf8 (volume_pairs v) refl (IsUtf8-are_ascii _ refl, (IsUtf8-are_ascii _ refl, (meta_utf8 false v.meta is.meta h.meta, (volume_spec_utf8 v h, (volume_status_utf8 v, tt)))))
+volume_utf8 v is h = object_of_utf8 (volume_pairs v) refl (
+  IsUtf8-are_ascii _ refl,
+  (IsUtf8-are_ascii _ refl, (meta_utf8 false v.meta is.meta h.meta, (volume_spec_utf8 v h, (volume_status_utf8 v, tt)))),
+)
 
 claim_spec_utf8 : (c : Claim) → ClaimUtf8 c → HasUtf8 (claim_spec c)
 unfolding claim_spec
 claim_spec_utf8 c h =
-    put_all_utf8 (claim_front c ++ claim_back c) (extra_members c.extra) refl
-    (modes_utf8 c.modes, (requests_utf8 c.amount h.amount, (option_utf8 SelectorUtf8 selector_data c.selector selector_utf8 h.selector, (option_utf8 IsUtf8 string c.class string_utf8 h.class, (volume_mode_utf8 c.block, (filled_utf8 c.volume_name h.volume_name, tt))))))
+    put_all_utf8 (claim_front c ++ claim_back c) (extra_members c.extra) refl (
+      modes_utf8 c.modes,
+      (
+        requests_utf8 c.amount h.amount,
+        (
+          option_utf8 SelectorUtf8 selector_data c.selector selector_utf8 h.selector,
+          (option_utf8 IsUtf8 string c.class string_utf8 h.class, (volume_mode_utf8 c.block, (filled_utf8 c.volume_name h.volume_name, tt))),
+        ),
+      ),
+    )
     (extra_utf8 c.extra h.extra)
 
 got_modes_utf8 : (got : Option Amount) (m : Modes) → IfSome (got_modes got m) HasUtf8
@@ -377,8 +439,13 @@ claim_utf8 c is h = object_of_utf8 (claim_pairs c) refl (IsUtf8-are_ascii _ refl
 class_utf8 : (c : Class) → IsClass c → ClassUtf8 c → HasUtf8 (class_data c)
 unfolding class_data
 class_utf8 c is h =
-    put_all_utf8 (head_pairs (codes "storage.k8s.io/v1") (codes "StorageClass") false c.meta ++ class_back c) (extra_members c.extra) refl
-    (IsUtf8-are_ascii _ refl, (IsUtf8-are_ascii _ refl, (meta_utf8 false c.meta is.meta h.meta, (filled_pairs_utf8 c.parameters h.parameters, (h.provisioner, (policy_utf8 c.policy, (binding_mode_utf8 c.delayed, tt)))))))
+    put_all_utf8 (head_pairs (codes "storage.k8s.io/v1") (codes "StorageClass") false c.meta ++ class_back c) (extra_members c.extra) refl (
+      IsUtf8-are_ascii _ refl,
+      (
+        IsUtf8-are_ascii _ refl,
+        (meta_utf8 false c.meta is.meta h.meta, (filled_pairs_utf8 c.parameters h.parameters, (h.provisioner, (policy_utf8 c.policy, (binding_mode_utf8 c.delayed, tt))))),
+      ),
+    )
     (extra_utf8 c.extra h.extra)
 
 pod_spec_utf8 : (p : Pod) → PodUtf8 p → MembersUtf8 (pod_spec p)
@@ -386,11 +453,13 @@ pod_spec_utf8 p h = put_all_utf8 ((codes "nodeName", filled p.node) ∷ []) (ext
 
 pod_utf8 : (p : Pod) → IsPod p → PodUtf8 p → HasUtf8 (pod_data p)
 unfolding pod_data
-pod_utf8 p is h = object_of_utf8 (pod_pairs p) refl (IsUtf8-are_ascii _ refl, (IsUtf8-are_ascii _ refl, (meta_utf8 true p.meta is.meta h.meta, (filled_object_utf8 (pod_spec p) (pod_spec_utf8 p h), tt))))
+pod_utf8 p is h = object_of_utf8 (pod_pairs p) refl
+    (IsUtf8-are_ascii _ refl, (IsUtf8-are_ascii _ refl, (meta_utf8 true p.meta is.meta h.meta, (filled_object_utf8 (pod_spec p) (pod_spec_utf8 p h), tt))))
 
 node_utf8 : (n : Node) → IsNode n → NodeUtf8 n → HasUtf8 (node_data n)
 unfolding node_data
-node_utf8 n is h = object_of_utf8 (node_pairs n) refl (IsUtf8-are_ascii _ refl, (IsUtf8-are_ascii _ refl, (meta_utf8 false n.meta is.meta h.meta, (filled_object_utf8 (extra_members n.extra) (extra_utf8 n.extra h.extra), tt))))
+node_utf8 n is h = object_of_utf8 (node_pairs n) refl
+    (IsUtf8-are_ascii _ refl, (IsUtf8-are_ascii _ refl, (meta_utf8 false n.meta is.meta h.meta, (filled_object_utf8 (extra_members n.extra) (extra_utf8 n.extra h.extra), tt))))
 
 object_utf8 : (o : Object) → IsGivenObject o → ObjectUtf8 o → HasUtf8 (object_data o)
 unfolding object_data

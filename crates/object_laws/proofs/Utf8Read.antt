@@ -1,5 +1,39 @@
 -- Every text in a value that was read from UTF-8 is UTF-8.
-use Rattle.std.proofs.Common.{◌≡◌, ℕ, zero, suc, ◌^◌, ◌<◌, ◌≤◌, Bool, true, false, cond, ◌&&◌, ◌==◌, nat_lt, nat_le, drop, slice_index, if◌then◌else◌, negsuc, List, [], ◌∷◌, ◌++◌, length, Option, Some, None, IfSome, option_map, option_and_then, IsUtf8, refl, arith}
+use Rattle.std.proofs.Common.{
+  ◌≡◌,
+  ℕ,
+  zero,
+  suc,
+  ◌^◌,
+  ◌<◌,
+  ◌≤◌,
+  Bool,
+  true,
+  false,
+  cond,
+  ◌&&◌,
+  ◌==◌,
+  nat_lt,
+  nat_le,
+  drop,
+  slice_index,
+  if◌then◌else◌,
+  negsuc,
+  List,
+  [],
+  ◌∷◌,
+  ◌++◌,
+  length,
+  Option,
+  Some,
+  None,
+  IfSome,
+  option_map,
+  option_and_then,
+  IsUtf8,
+  refl,
+  arith,
+}
 use Rattle.std.specs.Bool.{⊤}
 use Rattle.std.specs.Float.{binary64, float_is_finite}
 use Rattle.std.specs.Fmt.{signed_decimal}
@@ -10,7 +44,28 @@ use Rattle.fast_float.specs.Text.{Parts, minus, scan, digits_of, nearest, with_s
 use Rattle.json.specs.Token.{Token, begin_object, end_object, begin_array, end_array, key, string, number, boolean, null, bad}
 use Rattle.json.specs.Text.{content, plain}
 use Rattle.json.specs.Word.{is_operator, is_space, head, ends_word, after_number, number_before, word}
-use Rattle.json.specs.Lex.{Lexeme, token, comma, colon, Class, quote, backslash, operator, space, other, class, operator_lexeme, string_token, Mode, between, in_word, in_string, in_escape, lex_byte, lex}
+use Rattle.json.specs.Lex.{
+  Lexeme,
+  token,
+  comma,
+  colon,
+  Class,
+  quote,
+  backslash,
+  operator,
+  space,
+  other,
+  class,
+  operator_lexeme,
+  string_token,
+  Mode,
+  between,
+  in_word,
+  in_string,
+  in_escape,
+  lex_byte,
+  lex,
+}
 use Rattle.json.specs.Lex.{Place, fresh, after_value, after_comma, after_key, begins_colon, may_begin, may_close, if_allowed, place_token, punctuate, tokens}
 use Rattle.json.specs.Json as json
 use Rattle.json.specs.Json.{Parse, parse_map, after_end_array, read_key, items_step, members_step, value_with, if_last}
@@ -68,7 +123,8 @@ mark false x y p q = q
 
 marks : (x : ℕ) → LexemeUtf8 (operator_lexeme x)
 marks x =
-    mark (x == 123) (token begin_object) _ tt (mark (x == 125) (token end_object) _ tt (mark (x == 91) (token begin_array) _ tt (mark (x == 93) (token end_array) _ tt (mark (x == 44) comma colon tt tt))))
+    mark (x == 123) (token begin_object) _ tt
+    (mark (x == 125) (token end_object) _ tt (mark (x == 91) (token begin_array) _ tt (mark (x == 93) (token end_array) _ tt (mark (x == 44) comma colon tt tt))))
 
 text : (o : Option (List ℕ)) → IfSome o IsUtf8 → TokenUtf8 (string_token o)
 text None h = tt
@@ -284,7 +340,8 @@ float_utf8 sign p = some_if (float_is_finite (nearest binary64 sign p)) _ None (
 
 number_from_utf8 : (sign : Bool) (p : Parts) → IfSome (number_from sign p) NumberUtf8
 number_from_utf8 false p =
-    some_if (is_integer p && nat_lt (digits_of p) (2 ^ 64)) (Some (unsigned (digits_of p))) _ (λ e. IsUtf8-from_ascii _ (IsAscii-decimal (digits_of p) (ltb-true _ _ (and_parts _ _ e).1))) (float_utf8 false p)
+    some_if (is_integer p && nat_lt (digits_of p) (2 ^ 64)) (Some (unsigned (digits_of p))) _
+    (λ e. IsUtf8-from_ascii _ (IsAscii-decimal (digits_of p) (ltb-true _ _ (and_parts _ _ e).1))) (float_utf8 false p)
 number_from_utf8 true p =
     some_if (is_integer p && nat_lt 0 (digits_of p) && nat_le (digits_of p) (2 ^ 63)) _ _ (λ e. negative_utf8 (digits_of p) (leb-true _ _ (and_parts _ _ e).1)) (float_utf8 true p)
 

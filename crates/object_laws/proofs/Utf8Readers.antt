@@ -1,5 +1,34 @@
 -- The texts that the readers of metadata and of the parts of a spec take from a value are UTF-8 where those of the value are.
-use Rattle.std.proofs.Common.{ℕ, List, [], ◌∷◌, ◌++◌, length, ◌==◌, Bool, true, false, if◌then◌else◌, Option, Some, None, IfSome, Result, Ok, Err, IfOk, codes, unwrap_or, IsUtf8, Ordering, Less, Equal, Greater, nat_cmp, refl}
+use Rattle.std.proofs.Common.{
+  ℕ,
+  List,
+  [],
+  ◌∷◌,
+  ◌++◌,
+  length,
+  ◌==◌,
+  Bool,
+  true,
+  false,
+  if◌then◌else◌,
+  Option,
+  Some,
+  None,
+  IfSome,
+  Result,
+  Ok,
+  Err,
+  IfOk,
+  codes,
+  unwrap_or,
+  IsUtf8,
+  Ordering,
+  Less,
+  Equal,
+  Greater,
+  nat_cmp,
+  refl,
+}
 use Rattle.std.specs.Ordering.{match_ordering}
 use Rattle.std.specs.Cmp.Lexicographic.{slice_cmp}
 use Rattle.std.proofs.lemmas.Str.{IsUtf8-nil}
@@ -12,9 +41,9 @@ use Rattle.json_text.specs.Trees.{others, others_from}
 use Rattle.plain_data.specs.Pairs.{Pair, text_cmp, put_pair}
 use Rattle.quantity_text.specs.declared.errors.AmountError.{AmountError}
 use Rattle.quantity_text.specs.Quantity.{amount_of}
-use Rattle.kube_types.specs.declared.parts.SourceKind.{SourceKind}
-use Rattle.kube_types.specs.declared.parts.SourceKind.TheVariants.{Csi, Nfs, Local, HostPath}
-use Rattle.kube_types.specs.declared.objects.Expr.{Expr}
+use Rattle.kube_parts.specs.declared.parts.SourceKind.{SourceKind}
+use Rattle.kube_parts.specs.declared.parts.SourceKind.TheVariants.{Csi, Nfs, Local, HostPath}
+use Rattle.kube_objects.specs.declared.objects.Expr.{Expr}
 use Rattle.object_text.specs.declared.errors.Member.{Member}
 use Rattle.object_text.specs.declared.errors.Member.TheVariants as members
 use Rattle.object_text.specs.declared.errors.ObjectError.TheVariants.{WrongType}
@@ -22,9 +51,69 @@ use Rattle.object_text.specs.declared.extra.Listed.{Listed}
 use Rattle.object_text.specs.declared.meta_readers.Identity.{Identity}
 use Rattle.object_text.specs.declared.meta_readers.Marks.{Marks}
 use Rattle.object_text.specs.MemberWords.{member_word}
-use Rattle.object_text.specs.MemberReaders.{at, as_text, as_items, as_object, needed_from, needed, needed_text, needed_items, needed_object, way_from, needed_way, some_object_at, text_from, text_or, optional_from, optional_text, optional_items_from, optional_items, texts_from, texts_or_none, texts_at, pairs_from, pairs_in, pairs_or_none, pairs_at, uid_at, stamp_named, stamp_from, stamp_at, stamp_or_empty, version_at}
+use Rattle.object_text.specs.MemberReaders.{
+  at,
+  as_text,
+  as_items,
+  as_object,
+  needed_from,
+  needed,
+  needed_text,
+  needed_items,
+  needed_object,
+  way_from,
+  needed_way,
+  some_object_at,
+  text_from,
+  text_or,
+  optional_from,
+  optional_text,
+  optional_items_from,
+  optional_items,
+  texts_from,
+  texts_or_none,
+  texts_at,
+  pairs_from,
+  pairs_in,
+  pairs_or_none,
+  pairs_at,
+  uid_at,
+  stamp_named,
+  stamp_from,
+  stamp_at,
+  stamp_or_empty,
+  version_at,
+}
 use Rattle.object_text.specs.MetaReaders.{kept_namespace, namespace_at, identity_at, marks_at, meta_of}
-use Rattle.object_text.specs.PartReaders.{number_digits, quantity_text, amount_from, amount_in, quantity_at, amount_or_none, optional_quantity, ref_at, ref_or_none, claim_ref_at, two_texts, one_text, source_from, there, source_at, op_at, expr_of, exprs_from, exprs_or_none, exprs_at, term_of, terms_from, terms_or_none, terms_at, selector_of, selector_or_none, selector_at}
+use Rattle.object_text.specs.PartReaders.{
+  number_digits,
+  quantity_text,
+  amount_from,
+  amount_in,
+  quantity_at,
+  amount_or_none,
+  optional_quantity,
+  ref_at,
+  ref_or_none,
+  claim_ref_at,
+  two_texts,
+  one_text,
+  source_from,
+  there,
+  source_at,
+  op_at,
+  expr_of,
+  exprs_from,
+  exprs_or_none,
+  exprs_at,
+  term_of,
+  terms_from,
+  terms_or_none,
+  terms_at,
+  selector_of,
+  selector_or_none,
+  selector_at,
+}
 use Rattle.object_text.specs.ExtraMembers.{is_listed_member, extra_text, place_members, extra_at}
 use Rattle.object_laws.proofs.GivesParts.{step, past, if_ok}
 use Rattle.object_laws.proofs.Utf8Texts.{HasUtf8, ItemsUtf8, MembersUtf8, put_utf8, text_utf8}
@@ -208,7 +297,9 @@ kept_namespace_read_utf8 true s u = u
 kept_namespace_read_utf8 false s u = IsUtf8-nil
 
 namespace_read_utf8 : (namespaced : Bool) (place : Option Data) → PlaceUtf8 place → IfOk (namespace_at namespaced place) IsUtf8
-namespace_read_utf8 namespaced place h = step IsUtf8 IsUtf8 (text_or members.Namespace (codes "default") place) _ (text_or_read_utf8 members.Namespace (codes "default") place (IsUtf8-are_ascii _ refl) h) (λ s u. kept_namespace_read_utf8 namespaced s u)
+namespace_read_utf8 namespaced place h =
+    step IsUtf8 IsUtf8 (text_or members.Namespace (codes "default") place) _
+    (text_or_read_utf8 members.Namespace (codes "default") place (IsUtf8-are_ascii _ refl) h) (λ s u. kept_namespace_read_utf8 namespaced s u)
 
 abbrev IdentityUtf8 : Identity → Type 0
 IdentityUtf8 i = IsUtf8 i.name × IsUtf8 i.namespace
@@ -321,7 +412,8 @@ there_read_utf8 m place h = unless_utf8 (at m place) (at_utf8 m place h)
 pub source_read_utf8 : (place : Option Data) → PlaceUtf8 place → IfOk (source_at place) SourceUtf8
 unfolding source_at
 source_read_utf8 place h =
-    source_read_utf8_from (there members.Csi place) (there members.Nfs place) (there members.Local place) (there members.HostPath place) (there_read_utf8 members.Csi place h) (there_read_utf8 members.Nfs place h) (there_read_utf8 members.Local place h) (there_read_utf8 members.HostPath place h)
+    source_read_utf8_from (there members.Csi place) (there members.Nfs place) (there members.Local place) (there members.HostPath place)
+    (there_read_utf8 members.Csi place h) (there_read_utf8 members.Nfs place h) (there_read_utf8 members.Local place h) (there_read_utf8 members.HostPath place h)
 
 -- ---- expressions
 
@@ -390,7 +482,8 @@ others_read_utf8_from : (known : List ℕ → Bool) (ms acc : Members) → Membe
 others_read_utf8_from known no_members acc h k = k
 others_read_utf8_from known (member l d ms) acc h k = by (known l) (others_read_utf8_from known ms acc h.2 k) (others_read_utf8_from known ms (put l d acc) h.2 (put_utf8 l d acc h.0 h.1 k))
   where
-    by : (b : Bool) → MembersUtf8 (others_from known ms acc) → MembersUtf8 (others_from known ms (put l d acc)) → MembersUtf8 (if b then others_from known ms acc else others_from known ms (put l d acc))
+    by : (b : Bool) → MembersUtf8 (others_from known ms acc) → MembersUtf8 (others_from known ms (put l d acc))
+        → MembersUtf8 (if b then others_from known ms acc else others_from known ms (put l d acc))
     by true skipped kept = skipped
     by false skipped kept = kept
 
@@ -400,4 +493,5 @@ extra_text_utf8 (member k d ms) h = text_utf8 (object (member k d ms)) h
 
 pub extra_read_utf8 : (known : Listed) (place : Option Data) → PlaceUtf8 place → IsUtf8 (extra_at known place)
 unfolding extra_at
-extra_read_utf8 known place h = extra_text_utf8 (others (is_listed_member known) (place_members place)) (others_read_utf8_from (is_listed_member known) (place_members place) no_members (kept_utf8 place h) tt)
+extra_read_utf8 known place h = extra_text_utf8 (others (is_listed_member known) (place_members place)) (others_read_utf8_from
+    (is_listed_member known) (place_members place) no_members (kept_utf8 place h) tt)

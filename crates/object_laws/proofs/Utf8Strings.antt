@@ -1,5 +1,41 @@
 -- The content of a string of JSON that stands in UTF-8 is UTF-8.
-use Rattle.std.proofs.Common.{◌≡◌, ℕ, ◌+◌, ◌*◌, ◌<◌, ◌≤◌, Bool, true, false, cond, ◌&&◌, ◌||◌, ◌==◌, nat_lt, nat_le, List, [], ◌∷◌, ◌++◌, length, Option, Some, None, IfSome, option_and_then, IsUtf8, inl, inr, refl, sym, subst, arith, append_assoc, append-nil, length-append}
+use Rattle.std.proofs.Common.{
+  ◌≡◌,
+  ℕ,
+  ◌+◌,
+  ◌*◌,
+  ◌<◌,
+  ◌≤◌,
+  Bool,
+  true,
+  false,
+  cond,
+  ◌&&◌,
+  ◌||◌,
+  ◌==◌,
+  nat_lt,
+  nat_le,
+  List,
+  [],
+  ◌∷◌,
+  ◌++◌,
+  length,
+  Option,
+  Some,
+  None,
+  IfSome,
+  option_and_then,
+  IsUtf8,
+  inl,
+  inr,
+  refl,
+  sym,
+  subst,
+  arith,
+  append_assoc,
+  append-nil,
+  length-append,
+}
 use Rattle.std.specs.Bool.{⊤}
 use Rattle.std.specs.Char.{digit_value, is_digit, encode_utf8, IsScalar}
 use Rattle.std.proofs.lemmas.Bool.{and_parts, cases_lt, eqb-true, ltb-true, ltb-false, leb-true, lt-ltb, le-ltb, le-leb}
@@ -19,8 +55,10 @@ ascii_first x xs small u = IsUtf8-drop (x ∷ xs) 1 u (IsCharBoundary-after_asci
 
 pub cut_utf8 : (pre : List ℕ) (x : ℕ) (xs : List ℕ) → x < 128 → IsUtf8 (pre ++ x ∷ xs) → IsUtf8 pre × IsUtf8 xs
 cut_utf8 pre x xs small u =
-    let place = IsCharBoundary-before_ascii (pre ++ x ∷ xs) (length pre) (omega (arith, length-append pre (x ∷ xs))) (rw (get_or-append_seam pre x xs 0) small) in
-    (subst IsUtf8 (take-append_seam pre (x ∷ xs)) (IsUtf8-take (pre ++ x ∷ xs) (length pre) u place), ascii_first x xs small (subst IsUtf8 (drop-append_seam pre (x ∷ xs)) (IsUtf8-drop (pre ++ x ∷ xs) (length pre) u place)))
+    let place = IsCharBoundary-before_ascii (pre ++ x ∷ xs) (length pre) (omega (arith, length-append pre (x ∷ xs))) (rw (get_or-append_seam pre x xs 0) small) in (
+      subst IsUtf8 (take-append_seam pre (x ∷ xs)) (IsUtf8-take (pre ++ x ∷ xs) (length pre) u place),
+      ascii_first x xs small (subst IsUtf8 (drop-append_seam pre (x ∷ xs)) (IsUtf8-drop (pre ++ x ∷ xs) (length pre) u place)),
+    )
 
 pub move_utf8 : (pre : List ℕ) (x : ℕ) (xs : List ℕ) → IsUtf8 (pre ++ x ∷ xs) → IsUtf8 ((pre ++ x ∷ []) ++ xs)
 move_utf8 pre x xs u = subst IsUtf8 (sym (append_assoc pre (x ∷ []) xs)) u
@@ -146,7 +184,8 @@ content_joined plain (x ∷ xs) pre h =
 content_joined after_backslash [] pre h = tt
 content_joined after_backslash (x ∷ xs) pre h =
     both pre (x == 117) _ _ (λ e. let is : x ≡ 117 = eqb-true x 117 e in content_joined after_u xs pre (h.0, ascii_first x xs (omega arith) h.1))
-    (λ e. then pre (AreSmall x) _ (short_escape x) (short_small x) (λ c k. joined_prepend pre (c ∷ []) _ (content_joined plain xs (pre ++ c ∷ []) (with_byte pre xs c h.0 k.1 (ascii_first x xs k.0 h.1)))))
+    (λ e. then pre (AreSmall x) _ (short_escape x) (short_small x)
+    (λ c k. joined_prepend pre (c ∷ []) _ (content_joined plain xs (pre ++ c ∷ []) (with_byte pre xs c h.0 k.1 (ascii_first x xs k.0 h.1)))))
 content_joined after_u [] pre h = tt
 content_joined after_u (a ∷ []) pre h = tt
 content_joined after_u (a ∷ b ∷ []) pre h = tt
@@ -170,7 +209,8 @@ content_joined (after_high high) (s ∷ u ∷ a ∷ b ∷ c ∷ d ∷ xs) pre h 
     let units = ascii_first u (a ∷ b ∷ c ∷ d ∷ xs) (omega arith) (ascii_first s (u ∷ a ∷ b ∷ c ∷ d ∷ xs) (omega arith) h.1) in
     then pre (IsUnit a b c d) _ (code_unit a b c d) (unit_small a b c d) (λ l k.
     both pre (is_low_surrogate l) _ None
-    (λ f. joined_prepend pre (encode_utf8 (surrogate_pair high l)) _ (content_joined plain xs (pre ++ encode_utf8 (surrogate_pair high l)) (with_char pre xs (surrogate_pair high l) h.0 (pair_scalar high l h.2 f) (past_unit a b c d l xs k units))))
+    (λ f. joined_prepend pre (encode_utf8 (surrogate_pair high l)) _
+    (content_joined plain xs (pre ++ encode_utf8 (surrogate_pair high l)) (with_char pre xs (surrogate_pair high l) h.0 (pair_scalar high l h.2 f) (past_unit a b c d l xs k units))))
     (λ f. tt))) (λ e. tt)
 
 pub content_utf8 : (xs : List ℕ) → IsUtf8 xs → IfSome (content plain xs) IsUtf8

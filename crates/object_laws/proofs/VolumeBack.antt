@@ -6,20 +6,20 @@ use Rattle.serde_json.specs.Find.{get_member}
 use Rattle.json_text.specs.Look.{unless_null}
 use Rattle.json_text.specs.Build.{put_some, put_all, pick, AreOthers, are_known}
 use Rattle.json_text.proofs.PutAll.{get-put_all}
-use Rattle.kube_types.specs.declared.parts.Policy.{Policy}
-use Rattle.kube_types.specs.declared.parts.Policy.TheVariants as policies
-use Rattle.kube_types.specs.declared.parts.VolumePhase.{VolumePhase}
-use Rattle.kube_types.specs.declared.parts.VolumePhase.TheVariants as volume_phases
-use Rattle.kube_types.specs.declared.parts.SourceKind.{SourceKind}
-use Rattle.kube_types.specs.declared.parts.SourceKind.TheVariants.{Csi, Nfs, Local, HostPath}
-use Rattle.kube_types.specs.declared.objects.Ref.{Ref}
-use Rattle.kube_types.specs.declared.objects.Source.{Source}
-use Rattle.kube_types.specs.declared.objects.Expr.{Expr}
-use Rattle.kube_types.specs.declared.objects.NodeTerms.{NodeTerms}
-use Rattle.kube_types.specs.declared.objects.Volume.{Volume}
-use Rattle.kube_types.specs.Words.{policy_word, source_word, volume_phase_word}
-use Rattle.kube_types.specs.Named.{policy_named, volume_phase_named}
-use Rattle.kube_types.proofs.NamedWords.{policies_inverse, volume_phases_inverse}
+use Rattle.kube_parts.specs.declared.parts.Policy.{Policy}
+use Rattle.kube_parts.specs.declared.parts.Policy.TheVariants as policies
+use Rattle.kube_parts.specs.declared.parts.VolumePhase.{VolumePhase}
+use Rattle.kube_parts.specs.declared.parts.VolumePhase.TheVariants as volume_phases
+use Rattle.kube_parts.specs.declared.parts.SourceKind.{SourceKind}
+use Rattle.kube_parts.specs.declared.parts.SourceKind.TheVariants.{Csi, Nfs, Local, HostPath}
+use Rattle.kube_objects.specs.declared.objects.Ref.{Ref}
+use Rattle.kube_objects.specs.declared.objects.Source.{Source}
+use Rattle.kube_objects.specs.declared.objects.Expr.{Expr}
+use Rattle.kube_objects.specs.declared.objects.NodeTerms.{NodeTerms}
+use Rattle.kube_objects.specs.declared.objects.Volume.{Volume}
+use Rattle.kube_parts.specs.Words.{policy_word, source_word, volume_phase_word}
+use Rattle.kube_parts.specs.Named.{policy_named, volume_phase_named}
+use Rattle.kube_parts.proofs.NamedWords.{policies_inverse, volume_phases_inverse}
 use Rattle.json_text.specs.Members.{MemberList, text, items_data, object_of}
 use Rattle.object_print.specs.Parts.{modes_data, storage_pairs, storage_data, ref_pairs, ref_data, source_pairs, source_data, term_pairs, term_data, node_terms_data}
 use Rattle.object_print.specs.Volumes.{volume_front, volume_back as printed_back, volume_spec, volume_status_pairs, volume_status, volume_pairs, volume_data}
@@ -58,7 +58,11 @@ unfolding ref_at
 ref_back r is =
     let place : Option Data = Some (object_of (ref_pairs r)) in
     let ps : MemberList = ref_pairs r in
-    rw (needed_text_back members.Namespace place r.namespace (object_has members.Namespace ps), needed_text_back members.Name place r.name (object_has members.Name ps), uid_back members.Uid place r.uid is (object_has members.Uid ps)) refl
+    rw (
+      needed_text_back members.Namespace place r.namespace (object_has members.Namespace ps),
+      needed_text_back members.Name place r.name (object_has members.Name ps),
+      uid_back members.Uid place r.uid is (object_has members.Uid ps),
+    ) refl
 
 claim_ref_back : (place : Option Data) (o : Option Ref) → IfSome o IsRef → at members.ClaimRef place ≡ option_map ref_data o → claim_ref_at place ≡ Ok o
 unfolding claim_ref_at ref_data
@@ -77,7 +81,10 @@ csi_back : (place : Option Data) (s t : List ℕ) → at members.Csi place ≡ S
 unfolding source_at source_data
 csi_back place s t h =
     let ps : MemberList = source_pairs Csi s t in
-    rw h (rw (needed_text_back members.Driver (Some (object_of ps)) s (object_has members.Driver ps), needed_text_back members.VolumeHandle (Some (object_of ps)) t (object_has members.VolumeHandle ps)) refl)
+    rw h (rw (
+      needed_text_back members.Driver (Some (object_of ps)) s (object_has members.Driver ps),
+      needed_text_back members.VolumeHandle (Some (object_of ps)) t (object_has members.VolumeHandle ps),
+    ) refl)
 
 nfs_back : (place : Option Data) (s t : List ℕ) → there members.Csi place ≡ None → at members.Nfs place ≡ Some (source_data (source_with Nfs s t)) → source_at place ≡ Ok (source_with Nfs s t)
 unfolding source_at source_data
@@ -85,7 +92,8 @@ nfs_back place s t csi h =
     let ps : MemberList = source_pairs Nfs s t in
     rw (csi, h) (rw (needed_text_back members.Server (Some (object_of ps)) s (object_has members.Server ps), needed_text_back members.Path (Some (object_of ps)) t (object_has members.Path ps)) refl)
 
-local_back : (place : Option Data) (s : List ℕ) → there members.Csi place ≡ None → there members.Nfs place ≡ None → at members.Local place ≡ Some (source_data (source_with Local s [])) → source_at place ≡ Ok (source_with Local s [])
+local_back : (place : Option Data) (s : List ℕ) → there members.Csi place ≡ None → there members.Nfs place ≡ None
+    → at members.Local place ≡ Some (source_data (source_with Local s [])) → source_at place ≡ Ok (source_with Local s [])
 unfolding source_at source_data
 local_back place s csi nfs h =
     let ps : MemberList = source_pairs Local s [] in
@@ -112,7 +120,8 @@ terms_back : (place : Option Data) (o : Option NodeTerms) → at members.NodeAff
 unfolding terms_at node_terms_data put_some
 terms_back place o h = ap (λ p. way_from members.NodeAffinity p >>= λ a. some_object_at members.Required a >>= λ r. optional_items members.NodeSelectorTerms r >>= λ l. terms_or_none l) h ∙ by o
   where
-    by : (t : Option NodeTerms) → (way_from members.NodeAffinity (option_map node_terms_data t) >>= λ a. some_object_at members.Required a >>= λ r. optional_items members.NodeSelectorTerms r >>= λ l. terms_or_none l) ≡ Ok t
+    by : (t : Option NodeTerms) → (way_from members.NodeAffinity (option_map node_terms_data t) >>= λ a. some_object_at members.Required a >>= λ r.
+        optional_items members.NodeSelectorTerms r >>= λ l. terms_or_none l) ≡ Ok t
     by None = refl
     by (Some t) = next (λ ts. Ok (Some (record { terms = ts }))) (terms_items t.terms [])
 
@@ -141,7 +150,8 @@ apart k csi nfs local host Local = local
 apart k csi nfs local host HostPath = host
 
 plain_has : (v : Volume) (ms : Members) → AreOthers (is_listed_member (listed.Volume v.source.kind)) ms → (m : Member) → is_listed_member (listed.Volume v.source.kind) (member_word m) ≡ true
-    → bytes_eq (member_word m) (codes "csi") ≡ false → bytes_eq (member_word m) (codes "nfs") ≡ false → bytes_eq (member_word m) (codes "local") ≡ false → bytes_eq (member_word m) (codes "hostPath") ≡ false
+    → bytes_eq (member_word m) (codes "csi") ≡ false → bytes_eq (member_word m) (codes "nfs") ≡ false
+    → bytes_eq (member_word m) (codes "local") ≡ false → bytes_eq (member_word m) (codes "hostPath") ≡ false
     → at m (spec_with v ms) ≡ pick (member_word m) (plain_pairs v) None
 plain_has v ms h m known csi nfs local host =
     spec_has (listed.Volume v.source.kind) (spec_pairs v) ms (member_word m) h known ∙ skipped (member_word m) (apart (member_word m) csi nfs local host v.source.kind)
@@ -177,7 +187,8 @@ source_has v ms HostPath s t h = spec_has (listed.Volume HostPath) (spec_of v Ho
 still_free : (k : List ℕ) (ps : MemberList) (ms : Members) → pick k ps (get_member k ms) ≡ get_member k ms → IsFree k ms → unless_null (get_member k (put_all ps ms)) ≡ None
 still_free k ps ms same free = ap unless_null (get-put_all k ps ms ∙ same) ∙ free
 
-spec_source_back : (v : Volume) (ms : Members) → IsSource v.source → AreOthers (is_listed_member (listed.Volume v.source.kind)) ms → NoneBefore v.source.kind ms → source_at (spec_with v ms) ≡ Ok v.source
+spec_source_back : (v : Volume) (ms : Members) → IsSource v.source → AreOthers (is_listed_member (listed.Volume v.source.kind)) ms
+    → NoneBefore v.source.kind ms → source_at (spec_with v ms) ≡ Ok v.source
 spec_source_back v ms is h free = by v.source.kind v.source.first v.source.second is h free
   where
     by : (kind : SourceKind) (s t : List ℕ) → HasItsTexts kind t → AreOthers (is_listed_member (listed.Volume kind)) ms → NoneBefore kind ms
@@ -191,7 +202,8 @@ spec_source_back v ms is h free = by v.source.kind v.source.first v.source.secon
         rw its (local_back (Some (object (put_all ps ms))) s (still_free (codes "csi") ps ms refl f.0) (still_free (codes "nfs") ps ms refl f.1) (source_has v ms Local s [] o))
     by HostPath s t its o f =
         let ps : MemberList = spec_of v HostPath s [] in
-        rw its (host_back (Some (object (put_all ps ms))) s (still_free (codes "csi") ps ms refl f.0) (still_free (codes "nfs") ps ms refl f.1) (still_free (codes "local") ps ms refl f.2) (source_has v ms HostPath s [] o))
+        rw its (host_back (Some (object (put_all ps ms))) s (still_free (codes "csi") ps ms refl f.0) (still_free (codes "nfs") ps ms refl f.1)
+        (still_free (codes "local") ps ms refl f.2) (source_has v ms HostPath s [] o))
 
 ties_back : (v : Volume) (ms : Members) → IsVolume v → AreOthers (is_listed_member (listed.Volume v.source.kind)) ms → NoneBefore v.source.kind ms
     → volume_ties (spec_with v ms) ≡ Ok (record { claim_ref = v.claim_ref; source = v.source; terms = v.terms })
@@ -226,7 +238,12 @@ unfolding volume_data
 volume_has m v = object_has m (volume_pairs v)
 
 spec_back : (v : Volume) → IsVolume v
-    → volume_spec_of (volume_data v) ≡ Ok (record { shape = record { amount = v.amount; modes = v.modes; block = v.block; class = v.class; policy = v.policy }; ties = record { claim_ref = v.claim_ref; source = v.source; terms = v.terms }; extra = v.extra })
+    → volume_spec_of (volume_data v) ≡ Ok (record {
+      shape = record { amount = v.amount; modes = v.modes; block = v.block; class = v.class; policy = v.policy };
+      ties =
+          record { claim_ref = v.claim_ref; source = v.source; terms = v.terms };
+      extra = v.extra;
+    })
 unfolding volume_spec_of
 spec_back v h =
     let ms : Members = h.extra.0 in

@@ -1,7 +1,7 @@
 -- What was read is printed as it is read again.
 -- Source: a choice of this project: a printed line is a manifest.
 use Rattle.std.specs.Prelude.{◌≡◌, ℕ, ◌≤◌, List, [], ◌∷◌, length, All, Ok}
-use Rattle.kube_types.specs.declared.objects.Object.{Object}
+use Rattle.kube_objects.specs.declared.objects.Object.{Object}
 use Rattle.object_print.specs.Objects.{object_line}
 use Rattle.object_text.specs.Reading.{most_bytes, read_text_of}
 use Rattle.object_text.specs.Listing.{list_of}

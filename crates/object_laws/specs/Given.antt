@@ -8,23 +8,23 @@ use Rattle.json_text.specs.Look.{unless_null}
 use Rattle.json_text.specs.Build.{AreOthers, GoodMembers}
 use Rattle.plain_data.specs.Pairs.{ArePairs}
 use Rattle.quantity_text.specs.Quantity.{amount_of}
-use Rattle.kube_types.specs.declared.uid.Uid.{Uid}
-use Rattle.kube_types.specs.declared.parts.Policy.{Policy}
-use Rattle.kube_types.specs.declared.parts.Policy.TheVariants.{Retain, Delete, Recycle}
-use Rattle.kube_types.specs.declared.parts.SourceKind.{SourceKind}
-use Rattle.kube_types.specs.declared.parts.SourceKind.TheVariants.{Csi, Nfs, Local, HostPath}
-use Rattle.kube_types.specs.declared.objects.Meta.{Meta}
-use Rattle.kube_types.specs.declared.objects.Amount.{Amount}
-use Rattle.kube_types.specs.declared.objects.Ref.{Ref}
-use Rattle.kube_types.specs.declared.objects.Source.{Source}
-use Rattle.kube_types.specs.declared.objects.Selector.{Selector}
-use Rattle.kube_types.specs.declared.objects.Volume.{Volume}
-use Rattle.kube_types.specs.declared.objects.Claim.{Claim}
-use Rattle.kube_types.specs.declared.objects.Class.{Class}
-use Rattle.kube_types.specs.declared.objects.Node.{Node}
-use Rattle.kube_types.specs.declared.objects.Pod.{Pod}
-use Rattle.kube_types.specs.declared.objects.Object.{Object}
-use Rattle.kube_types.specs.declared.objects.Object.TheVariants as objects
+use Rattle.kube_parts.specs.declared.uid.Uid.{Uid}
+use Rattle.kube_parts.specs.declared.parts.Policy.{Policy}
+use Rattle.kube_parts.specs.declared.parts.Policy.TheVariants.{Retain, Delete, Recycle}
+use Rattle.kube_parts.specs.declared.parts.SourceKind.{SourceKind}
+use Rattle.kube_parts.specs.declared.parts.SourceKind.TheVariants.{Csi, Nfs, Local, HostPath}
+use Rattle.kube_objects.specs.declared.objects.Meta.{Meta}
+use Rattle.kube_objects.specs.declared.objects.Amount.{Amount}
+use Rattle.kube_objects.specs.declared.objects.Ref.{Ref}
+use Rattle.kube_objects.specs.declared.objects.Source.{Source}
+use Rattle.kube_objects.specs.declared.objects.Selector.{Selector}
+use Rattle.kube_objects.specs.declared.objects.Volume.{Volume}
+use Rattle.kube_objects.specs.declared.objects.Claim.{Claim}
+use Rattle.kube_objects.specs.declared.objects.Class.{Class}
+use Rattle.kube_objects.specs.declared.objects.Node.{Node}
+use Rattle.kube_objects.specs.declared.objects.Pod.{Pod}
+use Rattle.kube_objects.specs.declared.objects.Object.{Object}
+use Rattle.kube_objects.specs.declared.objects.Object.TheVariants as objects
 use Rattle.object_text.specs.declared.extra.Listed.{Listed}
 use Rattle.object_text.specs.declared.extra.Listed.TheVariants as listed
 use Rattle.object_text.specs.ExtraMembers.{is_listed_member, extra_text}

@@ -5,7 +5,7 @@ use Rattle.std.specs.Str.{is_utf8}
 use Rattle.serde_json.specs.Data.{Data}
 use Rattle.json_text.specs.Build.{Good}
 use Rattle.json_text.specs.Canonical.{IsLine}
-use Rattle.kube_types.specs.declared.objects.Object.{Object}
+use Rattle.kube_objects.specs.declared.objects.Object.{Object}
 use Rattle.object_print.specs.Objects.{object_data, object_line}
 use Rattle.object_text.specs.Reading.{most_bytes, object_of, read_text_of}
 use Rattle.object_text.specs.Listing.{list_of}

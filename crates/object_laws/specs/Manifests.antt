@@ -7,13 +7,13 @@ use Rattle.std.specs.declared.result.Result.{Result}
 use Rattle.std.specs.List.{list_any}
 use Rattle.serde_json.specs.Data.{Data, string, object, no_members, member}
 use Rattle.json_text.specs.Look.{unless_null}
-use Rattle.kube_types.specs.declared.parts.Kind.{Kind}
-use Rattle.kube_types.specs.declared.parts.Kind.TheVariants as kinds
-use Rattle.kube_types.specs.declared.parts.Policy.TheVariants.{Retain, Delete}
-use Rattle.kube_types.specs.declared.parts.VolumePhase.TheVariants as volume_phases
-use Rattle.kube_types.specs.declared.parts.ClaimPhase.TheVariants as claim_phases
-use Rattle.kube_types.specs.Words.{policy_word, volume_mode, binding_mode, volume_phase_word, claim_phase_word}
-use Rattle.kube_types.specs.Named.{both, all_policies, all_volume_phases, all_claim_phases}
+use Rattle.kube_parts.specs.declared.parts.Kind.{Kind}
+use Rattle.kube_parts.specs.declared.parts.Kind.TheVariants as kinds
+use Rattle.kube_parts.specs.declared.parts.Policy.TheVariants.{Retain, Delete}
+use Rattle.kube_parts.specs.declared.parts.VolumePhase.TheVariants as volume_phases
+use Rattle.kube_parts.specs.declared.parts.ClaimPhase.TheVariants as claim_phases
+use Rattle.kube_parts.specs.Words.{policy_word, volume_mode, binding_mode, volume_phase_word, claim_phase_word}
+use Rattle.kube_parts.specs.Named.{both, all_policies, all_volume_phases, all_claim_phases}
 use Rattle.object_text.specs.declared.errors.Member.{Member}
 use Rattle.object_text.specs.declared.errors.Member.TheVariants as members
 use Rattle.object_text.specs.declared.errors.ObjectError.{ObjectError}

@@ -2,20 +2,52 @@
 use Rattle.std.proofs.Common.{◌≡◌, ℕ, List, [], ◌∷◌, ◌++◌, Bool, true, false, Option, Some, None, codes, refl}
 use Rattle.serde_json.specs.Data.{string}
 use Rattle.serde_json.specs.Written.{has_float}
-use Rattle.kube_types.specs.Words.{mode_words}
-use Rattle.kube_types.specs.declared.parts.Modes.{Modes}
-use Rattle.kube_types.specs.declared.parts.SourceKind.{SourceKind}
-use Rattle.kube_types.specs.declared.parts.SourceKind.TheVariants.{Csi, Nfs, Local, HostPath}
-use Rattle.kube_types.specs.declared.objects.Amount.{Amount}
-use Rattle.kube_types.specs.declared.objects.Meta.{Meta}
-use Rattle.kube_types.specs.declared.objects.Object.TheVariants as objects
+use Rattle.kube_parts.specs.Words.{mode_words}
+use Rattle.kube_parts.specs.declared.parts.Modes.{Modes}
+use Rattle.kube_parts.specs.declared.parts.SourceKind.{SourceKind}
+use Rattle.kube_parts.specs.declared.parts.SourceKind.TheVariants.{Csi, Nfs, Local, HostPath}
+use Rattle.kube_objects.specs.declared.objects.Amount.{Amount}
+use Rattle.kube_objects.specs.declared.objects.Meta.{Meta}
+use Rattle.kube_objects.specs.declared.objects.Object.TheVariants as objects
 use Rattle.json_text.specs.Members.{filled, extra_members}
 use Rattle.object_print.specs.Metadata.{uid_data, filled_or_always, front_pairs, back_pairs, head_pairs, meta_data}
-use Rattle.object_print.specs.Parts.{modes_data, storage_pairs, ref_pairs, expr_pairs, term_pairs, selector_pairs, storage_data, requests_data, ref_data, source_pairs, source_data, expr_data, term_data, node_terms_data, selector_data}
+use Rattle.object_print.specs.Parts.{
+  modes_data,
+  storage_pairs,
+  ref_pairs,
+  expr_pairs,
+  term_pairs,
+  selector_pairs,
+  storage_data,
+  requests_data,
+  ref_data,
+  source_pairs,
+  source_data,
+  expr_data,
+  term_data,
+  node_terms_data,
+  selector_data,
+}
 use Rattle.object_print.specs.Volumes.{volume_front, volume_back, volume_status_pairs, volume_pairs, volume_spec, volume_status, volume_data}
 use Rattle.object_print.specs.Claims.{claim_front, claim_back, claim_status_pairs, claim_pairs, got_modes, claim_spec, claim_status, claim_data}
 use Rattle.object_print.specs.Objects.{class_back, pod_pairs, node_pairs, class_data, pod_spec, pod_data, node_data, object_data}
-use Rattle.json_text.proofs.NoFloats.{NoFloat, NoFloats, FloatFree, float_put_all, float_object_of, float_filled, float_counted, float_option, float_array, float_filled_array, string_free, float_filled_pairs, float_filled_object, float_within, float_extra}
+use Rattle.json_text.proofs.NoFloats.{
+  NoFloat,
+  NoFloats,
+  FloatFree,
+  float_put_all,
+  float_object_of,
+  float_filled,
+  float_counted,
+  float_option,
+  float_array,
+  float_filled_array,
+  string_free,
+  float_filled_pairs,
+  float_filled_object,
+  float_within,
+  float_extra,
+}
 
 pub uid_free : FloatFree uid_data
 uid_free u = refl
@@ -27,8 +59,19 @@ namespace_free false s = float_filled s
 pub meta_free : (b : Bool) (m : Meta) → has_float (meta_data b m) ≡ false
 unfolding meta_data
 meta_free b m =
-    float_object_of (front_pairs m ++ back_pairs b m)
-    (float_filled_pairs m.annotations, (float_filled m.created, (float_option string m.deleted string_free, (float_filled_array string m.finalizers string_free, (float_filled_pairs m.labels, (refl, (namespace_free b m.namespace, (float_counted m.version, (float_option uid_data m.uid uid_free, tt)))))))))
+    float_object_of (front_pairs m ++ back_pairs b m) (
+      float_filled_pairs m.annotations,
+      (
+        float_filled m.created,
+        (
+          float_option string m.deleted string_free,
+          (
+            float_filled_array string m.finalizers string_free,
+            (float_filled_pairs m.labels, (refl, (namespace_free b m.namespace, (float_counted m.version, (float_option uid_data m.uid uid_free, tt))))),
+          ),
+        ),
+      ),
+    )
 
 pub modes_free : FloatFree modes_data
 unfolding modes_data
@@ -75,8 +118,13 @@ selector_free s = float_object_of (selector_pairs s) (float_filled_array expr_da
 volume_spec_free : FloatFree volume_spec
 unfolding volume_spec
 volume_spec_free v =
-    float_put_all (volume_front v ++ volume_back v) (extra_members v.extra)
-    (modes_free v.modes, (storage_free v.amount, (float_option ref_data v.claim_ref ref_free, (source_free v.source, (float_option node_terms_data v.terms node_terms_free, (refl, (float_filled v.class, (refl, tt))))))))
+    float_put_all (volume_front v ++ volume_back v) (extra_members v.extra) (
+      modes_free v.modes,
+      (
+        storage_free v.amount,
+        (float_option ref_data v.claim_ref ref_free, (source_free v.source, (float_option node_terms_data v.terms node_terms_free, (refl, (float_filled v.class, (refl, tt)))))),
+      ),
+    )
     (float_extra v.extra)
 
 volume_status_free : FloatFree volume_status
@@ -116,8 +164,20 @@ class_free c =
 pub pod_free : FloatFree pod_data
 unfolding pod_data
 pod_free p =
-    float_object_of (pod_pairs p)
-    (refl, (refl, (meta_free true p.meta, (float_filled_object (pod_spec p) (float_put_all ((codes "nodeName", filled p.node) ∷ []) (extra_members p.extra) (float_filled p.node, tt) (float_extra p.extra)), tt))))
+    float_object_of (pod_pairs p) (
+      refl,
+      (
+        refl,
+        (
+          meta_free true p.meta,
+          (
+            float_filled_object (pod_spec p)
+                (float_put_all ((codes "nodeName", filled p.node) ∷ []) (extra_members p.extra) (float_filled p.node, tt) (float_extra p.extra)),
+            tt,
+          ),
+        ),
+      ),
+    )
 
 pub node_free : FloatFree node_data
 unfolding node_data

@@ -1,18 +1,34 @@
 -- What stands between the brackets of each shape is its data.
 use Rattle.std.proofs.Common.{◌≡◌, ℕ, List, [], ◌∷◌, ◌++◌, true, Some, codes, refl, sym, ap, ◌∙◌}
 use Rattle.serde_json.specs.Data.{string}
-use Rattle.kube_types.specs.Words.{words_if, mode_words}
-use Rattle.kube_types.specs.declared.parts.Modes.{Modes}
-use Rattle.kube_types.specs.declared.parts.SourceKind.{SourceKind}
-use Rattle.kube_types.specs.declared.parts.SourceKind.TheVariants.{Csi, Nfs, Local, HostPath}
-use Rattle.kube_types.specs.declared.objects.Amount.{Amount}
-use Rattle.kube_types.specs.declared.objects.Ref.{Ref}
-use Rattle.kube_types.specs.declared.objects.Source.{Source}
-use Rattle.kube_types.specs.declared.objects.Expr.{Expr}
-use Rattle.kube_types.specs.declared.objects.Selector.{Selector}
-use Rattle.kube_types.specs.declared.objects.NodeTerms.{NodeTerms}
+use Rattle.kube_parts.specs.Words.{words_if, mode_words}
+use Rattle.kube_parts.specs.declared.parts.Modes.{Modes}
+use Rattle.kube_parts.specs.declared.parts.SourceKind.{SourceKind}
+use Rattle.kube_parts.specs.declared.parts.SourceKind.TheVariants.{Csi, Nfs, Local, HostPath}
+use Rattle.kube_objects.specs.declared.objects.Amount.{Amount}
+use Rattle.kube_objects.specs.declared.objects.Ref.{Ref}
+use Rattle.kube_objects.specs.declared.objects.Source.{Source}
+use Rattle.kube_objects.specs.declared.objects.Expr.{Expr}
+use Rattle.kube_objects.specs.declared.objects.Selector.{Selector}
+use Rattle.kube_objects.specs.declared.objects.NodeTerms.{NodeTerms}
 use Rattle.json_text.specs.Members.{within, items_data, array_data}
-use Rattle.object_print.specs.Parts.{modes_data, storage_pairs, storage_data, requests_data, ref_pairs, ref_data, source_pairs, source_data, expr_pairs, expr_data, term_pairs, term_data, node_terms_data, selector_pairs, selector_data}
+use Rattle.object_print.specs.Parts.{
+  modes_data,
+  storage_pairs,
+  storage_data,
+  requests_data,
+  ref_pairs,
+  ref_data,
+  source_pairs,
+  source_data,
+  expr_pairs,
+  expr_data,
+  term_pairs,
+  term_data,
+  node_terms_data,
+  selector_pairs,
+  selector_data,
+}
 use Rattle.json_text.specs.Writing.{Writing, closed, opened, with_all, with_value, items_after, names_rise, with_some}
 use Rattle.json_text.proofs.Closing.{closes, closes_array, closes_within}
 

@@ -3,10 +3,10 @@
 use Rattle.std.specs.Prelude.{[], ◌∷◌, ◌++◌, true, Option, Some, None, codes, option_map}
 use Rattle.serde_json.specs.Data.{Data, string, object}
 use Rattle.json_text.specs.Build.{put_all}
-use Rattle.kube_types.specs.Words.{volume_mode, mode_words, claim_phase_word}
-use Rattle.kube_types.specs.declared.parts.Modes.{Modes}
-use Rattle.kube_types.specs.declared.objects.Amount.{Amount}
-use Rattle.kube_types.specs.declared.objects.Claim.{Claim}
+use Rattle.kube_parts.specs.Words.{volume_mode, mode_words, claim_phase_word}
+use Rattle.kube_parts.specs.declared.parts.Modes.{Modes}
+use Rattle.kube_objects.specs.declared.objects.Amount.{Amount}
+use Rattle.kube_objects.specs.declared.objects.Claim.{Claim}
 use Rattle.json_text.specs.Members.{MemberList, text, filled, filled_array, object_of, extra_members}
 use Rattle.object_print.specs.Metadata.{head_pairs}
 use Rattle.object_print.specs.Parts.{modes_data, storage_data, requests_data, selector_data}

@@ -3,7 +3,7 @@
 use Rattle.std.specs.Prelude.{◌≡◌, false}
 use Rattle.serde_json.specs.Written.{has_float}
 use Rattle.json_text.specs.Canonical.{IsCanonical, IsLine}
-use Rattle.kube_types.specs.declared.objects.Object.{Object}
+use Rattle.kube_objects.specs.declared.objects.Object.{Object}
 use Rattle.object_print.specs.Objects.{object_data, object_line}
 
 abbrev pub ObjectsHoldNoFloat : Type 0

@@ -2,9 +2,9 @@
 -- Source: Kubernetes API, ObjectMeta.
 use Rattle.std.specs.Prelude.{ℕ, List, [], ◌∷◌, ◌++◌, Bool, true, false, Option, Some, codes, option_map}
 use Rattle.serde_json.specs.Data.{Data, string}
-use Rattle.kube_types.specs.Uids.{uid_text}
-use Rattle.kube_types.specs.declared.uid.Uid.{Uid}
-use Rattle.kube_types.specs.declared.objects.Meta.{Meta}
+use Rattle.kube_parts.specs.Uids.{uid_text}
+use Rattle.kube_parts.specs.declared.uid.Uid.{Uid}
+use Rattle.kube_objects.specs.declared.objects.Meta.{Meta}
 use Rattle.json_text.specs.Members.{MemberList, text, filled, counted, filled_array, filled_pairs, object_of}
 
 abbrev pub uid_data : Uid → Data

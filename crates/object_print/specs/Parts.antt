@@ -2,16 +2,16 @@
 -- Source: Kubernetes API, PersistentVolumeSpec, PersistentVolumeClaimSpec, LabelSelector, NodeSelector.
 use Rattle.std.specs.Prelude.{ℕ, List, [], ◌∷◌, codes, option_map}
 use Rattle.serde_json.specs.Data.{Data, string}
-use Rattle.kube_types.specs.Words.{mode_words, op_word}
-use Rattle.kube_types.specs.declared.parts.Modes.{Modes}
-use Rattle.kube_types.specs.declared.parts.SourceKind.{SourceKind}
-use Rattle.kube_types.specs.declared.parts.SourceKind.TheVariants.{Csi, Nfs, Local, HostPath}
-use Rattle.kube_types.specs.declared.objects.Amount.{Amount}
-use Rattle.kube_types.specs.declared.objects.Ref.{Ref}
-use Rattle.kube_types.specs.declared.objects.Source.{Source}
-use Rattle.kube_types.specs.declared.objects.Expr.{Expr}
-use Rattle.kube_types.specs.declared.objects.Selector.{Selector}
-use Rattle.kube_types.specs.declared.objects.NodeTerms.{NodeTerms}
+use Rattle.kube_parts.specs.Words.{mode_words, op_word}
+use Rattle.kube_parts.specs.declared.parts.Modes.{Modes}
+use Rattle.kube_parts.specs.declared.parts.SourceKind.{SourceKind}
+use Rattle.kube_parts.specs.declared.parts.SourceKind.TheVariants.{Csi, Nfs, Local, HostPath}
+use Rattle.kube_objects.specs.declared.objects.Amount.{Amount}
+use Rattle.kube_objects.specs.declared.objects.Ref.{Ref}
+use Rattle.kube_objects.specs.declared.objects.Source.{Source}
+use Rattle.kube_objects.specs.declared.objects.Expr.{Expr}
+use Rattle.kube_objects.specs.declared.objects.Selector.{Selector}
+use Rattle.kube_objects.specs.declared.objects.NodeTerms.{NodeTerms}
 use Rattle.json_text.specs.Members.{MemberList, text, filled_array, filled_pairs, array_data, object_of, within}
 use Rattle.object_print.specs.Metadata.{uid_data}
 

@@ -3,8 +3,8 @@
 use Rattle.std.specs.Prelude.{[], ◌∷◌, ◌++◌, false, Some, codes, option_map}
 use Rattle.serde_json.specs.Data.{Data, object}
 use Rattle.json_text.specs.Build.{put_all}
-use Rattle.kube_types.specs.Words.{volume_mode, policy_word, source_word, volume_phase_word}
-use Rattle.kube_types.specs.declared.objects.Volume.{Volume}
+use Rattle.kube_parts.specs.Words.{volume_mode, policy_word, source_word, volume_phase_word}
+use Rattle.kube_objects.specs.declared.objects.Volume.{Volume}
 use Rattle.json_text.specs.Members.{MemberList, text, filled, object_of, extra_members}
 use Rattle.object_print.specs.Metadata.{head_pairs}
 use Rattle.object_print.specs.Parts.{modes_data, storage_data, ref_data, source_data, node_terms_data}

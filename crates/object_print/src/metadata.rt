@@ -19,7 +19,7 @@ impl AsJson for Uid {
 
     ghost json = { uid_data };
 
-    #[tactic(auto, unfolding(kube_types::specs::Uids::uid_text))]
+    #[tactic(auto, unfolding(kube_parts::specs::Uids::uid_text))]
     fn write(&self, out: &mut JsonText) -> Result<(), OutOfMemory> {
         let mut buffer = Uuid::encode_buffer();
         let uuid = Uuid::from_u128(self.0);

@@ -3,7 +3,7 @@
 ghost use Rattle.std.specs.Prelude.{◌≡◌, OnOk, Some, codes};
 ghost use Rattle.serde_json.specs.Data.{string};
 ghost use Rattle.json_text.specs.Writing.{written, with_some, with_all, with_value, items_after};
-ghost use Rattle.kube_types.specs.Words.{words_if};
+ghost use Rattle.kube_parts.specs.Words.{words_if};
 ghost use Rattle.json_text.specs.Members.{items_data, within, array_data};
 ghost use Rattle.object_print.specs.Parts.{source_pairs, term_data};
 

@@ -1,7 +1,7 @@
 -- A refusal stays one whatever would come next.
 use Rattle.std.proofs.Common.{◌≡◌, false, Ok, refl}
 use Rattle.serde_json.specs.Data.{Data}
-use Rattle.kube_types.specs.declared.objects.Meta.{Meta}
+use Rattle.kube_objects.specs.declared.objects.Meta.{Meta}
 use Rattle.object_text.specs.declared.errors.ObjectError.{ObjectError}
 use Rattle.object_text.specs.declared.errors.ObjectError.TheVariants.{OutOfMemory, NotJson, NotObject, UnknownKind, Missing, WrongType, BadQuantity, NotWhole, TooLong}
 use Rattle.object_text.specs.declared.kind_readers.VolumeSpec.{VolumeSpec}

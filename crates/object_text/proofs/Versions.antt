@@ -38,7 +38,8 @@ IsRead bs = IsNumeral 10 (without_leading_plus bs) × (digits_value 10 (without_
 digits_told : (bs : List ℕ) (r : Result ℕ ⊤) → ParsesUnsigned 64 10 bs r → list_all is_ascii_digit bs ≡ true → OkIff r ((0 < length bs) × (digits_value 10 bs < 2 ^ 64)) (digits_value 10 bs)
 digits_told bs r h digits = parse_digits own 64 bs r h digits
 
-read_digits : (bs : List ℕ) (n : ℕ) → IsRead bs → n ≡ digits_value 10 (without_leading_plus bs) → list_all is_ascii_digit bs ≡ true → ((0 < length bs) × (digits_value 10 bs < 2 ^ 64)) × (n ≡ digits_value 10 bs)
+read_digits : (bs : List ℕ) (n : ℕ) → IsRead bs → n ≡ digits_value 10 (without_leading_plus bs) → list_all is_ascii_digit bs ≡ true
+    → ((0 < length bs) × (digits_value 10 bs < 2 ^ 64)) × (n ≡ digits_value 10 bs)
 read_digits bs n h e digits = digits_told bs (Ok n) (h, e) digits
 
 unread_digits : (bs : List ℕ) → (IsRead bs → ⊥) → list_all is_ascii_digit bs ≡ true → (0 < length bs) × (digits_value 10 bs < 2 ^ 64) → ⊥

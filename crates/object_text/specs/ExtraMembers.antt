@@ -4,8 +4,8 @@ use Rattle.std.specs.Prelude.{ℕ, List, Bool, false, ◌||◌, Option, Some, No
 use Rattle.serde_json.specs.Data.{Data, Members, no_members}
 use Rattle.json_text.specs.Trees.{members_in, others}
 pub use Rattle.json_text.specs.Members.{extra_text}
-use Rattle.kube_types.specs.declared.parts.SourceKind.{SourceKind}
-use Rattle.kube_types.specs.Words.{source_word}
+use Rattle.kube_parts.specs.declared.parts.SourceKind.{SourceKind}
+use Rattle.kube_parts.specs.Words.{source_word}
 use Rattle.object_text.specs.declared.extra.Listed.{Listed}
 use Rattle.object_text.specs.declared.extra.Listed.TheVariants as listed
 

@@ -4,13 +4,13 @@
 use Rattle.std.specs.Prelude.{[], true, false, Ok, Option, Some}
 use Rattle.std.specs.declared.result.Result.{Result}
 use Rattle.serde_json.specs.Data.{Data}
-use Rattle.kube_types.specs.declared.parts.VolumePhase.{VolumePhase}
-use Rattle.kube_types.specs.declared.objects.Meta.{Meta}
-use Rattle.kube_types.specs.declared.objects.Volume.{Volume}
-use Rattle.kube_types.specs.declared.objects.Claim.{Claim}
-use Rattle.kube_types.specs.declared.objects.Class.{Class}
-use Rattle.kube_types.specs.declared.objects.Node.{Node}
-use Rattle.kube_types.specs.declared.objects.Pod.{Pod}
+use Rattle.kube_parts.specs.declared.parts.VolumePhase.{VolumePhase}
+use Rattle.kube_objects.specs.declared.objects.Meta.{Meta}
+use Rattle.kube_objects.specs.declared.objects.Volume.{Volume}
+use Rattle.kube_objects.specs.declared.objects.Claim.{Claim}
+use Rattle.kube_objects.specs.declared.objects.Class.{Class}
+use Rattle.kube_objects.specs.declared.objects.Node.{Node}
+use Rattle.kube_objects.specs.declared.objects.Pod.{Pod}
 use Rattle.object_text.specs.declared.errors.Member.TheVariants as members
 use Rattle.object_text.specs.declared.errors.ObjectError.{ObjectError}
 use Rattle.object_text.specs.declared.extra.Listed.TheVariants as listed
@@ -23,7 +23,23 @@ use Rattle.object_text.specs.declared.kind_readers.ClaimStatus.{ClaimStatus}
 use Rattle.object_text.specs.Answers.{◌>>=◌}
 use Rattle.object_text.specs.MemberReaders.{needed_text, needed_way, some_object_at, text_or, optional_text, pairs_at}
 use Rattle.object_text.specs.MetaReaders.{meta_of}
-use Rattle.object_text.specs.PartReaders.{quantity_at, optional_quantity, modes_at, optional_modes, block_at, policy_at, class_policy_at, delayed_at, volume_phase_at, claim_phase_at, claim_ref_at, source_at, terms_at, selector_at, claims_at}
+use Rattle.object_text.specs.PartReaders.{
+  quantity_at,
+  optional_quantity,
+  modes_at,
+  optional_modes,
+  block_at,
+  policy_at,
+  class_policy_at,
+  delayed_at,
+  volume_phase_at,
+  claim_phase_at,
+  claim_ref_at,
+  source_at,
+  terms_at,
+  selector_at,
+  claims_at,
+}
 use Rattle.object_text.specs.ExtraMembers.{extra_at}
 
 -- ---- volumes

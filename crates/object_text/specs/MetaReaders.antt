@@ -4,7 +4,7 @@
 use Rattle.std.specs.Prelude.{ℕ, List, [], Bool, true, false, Ok, Option, Some, codes}
 use Rattle.std.specs.declared.result.Result.{Result}
 use Rattle.serde_json.specs.Data.{Data}
-use Rattle.kube_types.specs.declared.objects.Meta.{Meta}
+use Rattle.kube_objects.specs.declared.objects.Meta.{Meta}
 use Rattle.object_text.specs.declared.errors.Member.TheVariants as members
 use Rattle.object_text.specs.declared.errors.ObjectError.{ObjectError}
 use Rattle.object_text.specs.declared.meta_readers.Identity.{Identity}

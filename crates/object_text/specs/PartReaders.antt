@@ -6,24 +6,24 @@ use Rattle.serde_json.specs.Data.{Num, unsigned, negative, float, Data, null, bo
 use Rattle.json_text.specs.Look.{unless_null}
 use Rattle.quantity_text.specs.declared.errors.AmountError.{AmountError}
 use Rattle.quantity_text.specs.Quantity.{amount_of}
-use Rattle.kube_types.specs.declared.parts.Modes.{Modes}
-use Rattle.kube_types.specs.declared.parts.Policy.{Policy}
-use Rattle.kube_types.specs.declared.parts.Policy.TheVariants.{Retain, Delete}
-use Rattle.kube_types.specs.declared.parts.VolumePhase.{VolumePhase}
-use Rattle.kube_types.specs.declared.parts.VolumePhase.TheVariants as volume_phases
-use Rattle.kube_types.specs.declared.parts.ClaimPhase.{ClaimPhase}
-use Rattle.kube_types.specs.declared.parts.ClaimPhase.TheVariants as claim_phases
-use Rattle.kube_types.specs.declared.parts.SourceKind.{SourceKind}
-use Rattle.kube_types.specs.declared.parts.SourceKind.TheVariants as sources
-use Rattle.kube_types.specs.declared.parts.Op.{Op}
-use Rattle.kube_types.specs.Words.{policy_word, volume_mode, binding_mode, volume_phase_word, claim_phase_word}
-use Rattle.kube_types.specs.Named.{value_named, policy_named, block_named, delayed_named, volume_phase_named, claim_phase_named, op_named}
-use Rattle.kube_types.specs.declared.objects.Amount.{Amount}
-use Rattle.kube_types.specs.declared.objects.Ref.{Ref}
-use Rattle.kube_types.specs.declared.objects.Source.{Source}
-use Rattle.kube_types.specs.declared.objects.Expr.{Expr}
-use Rattle.kube_types.specs.declared.objects.Selector.{Selector}
-use Rattle.kube_types.specs.declared.objects.NodeTerms.{NodeTerms}
+use Rattle.kube_parts.specs.declared.parts.Modes.{Modes}
+use Rattle.kube_parts.specs.declared.parts.Policy.{Policy}
+use Rattle.kube_parts.specs.declared.parts.Policy.TheVariants.{Retain, Delete}
+use Rattle.kube_parts.specs.declared.parts.VolumePhase.{VolumePhase}
+use Rattle.kube_parts.specs.declared.parts.VolumePhase.TheVariants as volume_phases
+use Rattle.kube_parts.specs.declared.parts.ClaimPhase.{ClaimPhase}
+use Rattle.kube_parts.specs.declared.parts.ClaimPhase.TheVariants as claim_phases
+use Rattle.kube_parts.specs.declared.parts.SourceKind.{SourceKind}
+use Rattle.kube_parts.specs.declared.parts.SourceKind.TheVariants as sources
+use Rattle.kube_parts.specs.declared.parts.Op.{Op}
+use Rattle.kube_parts.specs.Words.{policy_word, volume_mode, binding_mode, volume_phase_word, claim_phase_word}
+use Rattle.kube_parts.specs.Named.{value_named, policy_named, block_named, delayed_named, volume_phase_named, claim_phase_named, op_named}
+use Rattle.kube_objects.specs.declared.objects.Amount.{Amount}
+use Rattle.kube_objects.specs.declared.objects.Ref.{Ref}
+use Rattle.kube_objects.specs.declared.objects.Source.{Source}
+use Rattle.kube_objects.specs.declared.objects.Expr.{Expr}
+use Rattle.kube_objects.specs.declared.objects.Selector.{Selector}
+use Rattle.kube_objects.specs.declared.objects.NodeTerms.{NodeTerms}
 use Rattle.object_text.specs.declared.errors.Member.{Member}
 use Rattle.object_text.specs.declared.errors.Member.TheVariants as members
 use Rattle.object_text.specs.declared.errors.ObjectError.{ObjectError}

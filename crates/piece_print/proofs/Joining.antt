@@ -32,7 +32,8 @@ joined_last (q ∷ ps) p own h =
     ∙ ap (λ back. take q.own own ++ back) (sym (append_assoc q.shared (joined ps (drop q.own own)) p.shared))
     ∙ sym (append_assoc (take q.own own) (q.shared ++ joined ps (drop q.own own)) p.shared)
 
-pub joined_shared : (ps : List Piece) (p : Piece) (own more : List ℕ) → owned ps ≤ length own → owned ps + p.own ≡ length (own ++ more) → joined (ps ++ p ∷ []) (own ++ more) ≡ joined ps own ++ (more ++ p.shared)
+pub joined_shared : (ps : List Piece) (p : Piece) (own more : List ℕ) → owned ps ≤ length own → owned ps + p.own ≡ length (own ++ more)
+    → joined (ps ++ p ∷ []) (own ++ more) ≡ joined ps own ++ (more ++ p.shared)
 joined_shared ps p own more within ends =
     joined_last ps p (own ++ more) ends
     ∙ ap (λ front. front ++ p.shared) (joined_more ps own more within)

@@ -81,7 +81,8 @@ module _ {K X : Type 0} {cmp : K → K → Ordering} (o : IsTotalOrder cmp) (key
       (below 0 y (omega arith), absent ys i (omega arith) (λ j d lt. below (suc j) d (omega arith)) (λ j d ge lt. above (suc j) d (omega arith) (omega arith)))
 
   -- a binary search ends at the key, or at its gap
-  pub searched : (xs : List X) (r : Result ℕ ℕ) → IsRising cmp key xs → IsSearchInRange r (length xs) → IsBinarySearchResult (λ y. cmp (key y) k) xs r → record { at : IfOk r (IsAt cmp key k xs); gap : IfErr r (IsGap cmp key k xs) }
+  pub searched : (xs : List X) (r : Result ℕ ℕ) → IsRising cmp key xs → IsSearchInRange r (length xs)
+      → IsBinarySearchResult (λ y. cmp (key y) k) xs r → record { at : IfOk r (IsAt cmp key k xs); gap : IfErr r (IsGap cmp key k xs) }
   searched xs (Ok i) rising range equal = record { at = found xs i rising range equal; gap = tt }
   searched xs (Err i) rising range parted =
       let rise = searchable_from_sorted o key xs k (adjacent xs rising) in
@@ -126,7 +127,8 @@ module _ {K X : Type 0} {cmp : K → K → Ordering} (o : IsTotalOrder cmp) (key
   without_none [] h = refl
   without_none (y ∷ ys) h = by (cmp (key y) k) h (without_none ys)
     where
-      by : (r : Ordering) → (if◌then◌else◌ (is_eq r) (Some y) (find cmp key k ys) ≡ None) → (find cmp key k ys ≡ None → without cmp key k ys ≡ ys) → if◌then◌else◌ (is_eq r) ys (y ∷ without cmp key k ys) ≡ y ∷ ys
+      by : (r : Ordering) → (if◌then◌else◌ (is_eq r) (Some y) (find cmp key k ys) ≡ None) → (find cmp key k ys ≡ None → without cmp key k ys ≡ ys)
+          → if◌then◌else◌ (is_eq r) ys (y ∷ without cmp key k ys) ≡ y ∷ ys
       by Less h rest = ap (λ zs. y ∷ zs) (rest h)
       by Equal h rest = cc
       by Greater h rest = ap (λ zs. y ∷ zs) (rest h)

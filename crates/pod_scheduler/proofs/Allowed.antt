@@ -46,7 +46,8 @@ may_at mine [] (suc place) w may at = none_some at
 may_at mine (v ∷ writes) zero w may at = subst (RowAllows seats.Scheduler mine) (one v w at) may.0
 may_at mine (v ∷ writes) (suc place) w may at = may_at mine writes place w may at
 
-step_may : (step : ScheduleStep) (writes : List Request) (mine : List Entry) (request : Request) → StepKeeps step writes mine → schedule_call_at writes step ≡ Some request → RowAllows seats.Scheduler mine request
+step_may : (step : ScheduleStep) (writes : List Request) (mine : List Entry) (request : Request) → StepKeeps step writes mine
+    → schedule_call_at writes step ≡ Some request → RowAllows seats.Scheduler mine request
 step_may (steps.Writes place) writes mine request kept call = may_at mine writes place request kept (write_of_is (slice_get writes place) request call).is
 step_may steps.Done writes mine request kept call = none_some call
 step_may steps.Parked writes mine request kept call = none_some call

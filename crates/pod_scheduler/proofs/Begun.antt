@@ -2,15 +2,15 @@
 use Rattle.std.proofs.Common.{ℕ, ◌≡◌, ◌∙◌, Bool, true, false, true≢false, ◌&&◌, List, [], ◌∷◌, filter_map, Option, Some, None, refl, sym, ap, subst, if◌then◌else◌}
 use Rattle.std.specs.Prelude.{is_some, ⊤}
 use Rattle.std.specs.List.{AllByRecursion, cons_option, list_all}
-use Rattle.kube_types.specs.declared.uid.Uid.{Uid}
-use Rattle.kube_types.specs.declared.key.Key.{Key}
-use Rattle.kube_types.specs.declared.objects.Claim.{Claim as ClaimData}
-use Rattle.kube_types.specs.declared.objects.Pod.{Pod as PodData}
-use Rattle.kube_types.specs.declared.objects.Object.{Object}
-use Rattle.kube_types.specs.declared.objects.Object.TheVariants.{Class, Node, Volume, Claim, Pod}
-use Rattle.kube_types.specs.Bindings.{is_scheduled}
-use Rattle.kube_types.specs.Keys.{AreRows, key_of, row_at}
-use Rattle.kube_types.proofs.KeyOrder.{row_at_key}
+use Rattle.kube_parts.specs.declared.uid.Uid.{Uid}
+use Rattle.kube_objects.specs.declared.key.Key.{Key}
+use Rattle.kube_objects.specs.declared.objects.Claim.{Claim as ClaimData}
+use Rattle.kube_objects.specs.declared.objects.Pod.{Pod as PodData}
+use Rattle.kube_objects.specs.declared.objects.Object.{Object}
+use Rattle.kube_objects.specs.declared.objects.Object.TheVariants.{Class, Node, Volume, Claim, Pod}
+use Rattle.kube_objects.specs.Bindings.{is_scheduled}
+use Rattle.kube_objects.specs.Keys.{AreRows, key_of, row_at}
+use Rattle.kube_objects.proofs.KeyOrder.{row_at_key}
 use Rattle.call_types.specs.declared.entry.Entry.{Entry}
 use Rattle.call_types.specs.declared.request.Request.{Request}
 use Rattle.call_types.specs.declared.request.Request.TheVariants as requests
@@ -42,7 +42,8 @@ for_one : (rows : List Object) (refused : List Tried) (p : PodData) (a b : Optio
 for_one rows refused p a b order f g =
     f.begins ∙ (ap (λ c. begun_with (writes_for rows p c)) (choices_are_unique rows p (last_refused rows p refused) f.choice g.choice order f.chosen g.chosen) ∙ sym g.begins)
 
-if_one : (scheduled : Bool) (rows : List Object) (refused : List Tried) (p : PodData) (a b : Option ScheduleOp) → AreRows rows → BeginsIf scheduled rows refused p a → BeginsIf scheduled rows refused p b → a ≡ b
+if_one : (scheduled : Bool) (rows : List Object) (refused : List Tried) (p : PodData) (a b : Option ScheduleOp) → AreRows rows
+    → BeginsIf scheduled rows refused p a → BeginsIf scheduled rows refused p b → a ≡ b
 if_one true rows refused p a b order f g = f ∙ sym g
 if_one false rows refused p a b order f g = for_one rows refused p a b order f g
 
@@ -96,7 +97,8 @@ module _ (rows : List Object) (p : PodData) (G : List Request → Type 0) (none 
   writes_by NoNode assign prepare = none
 
 -- each claim of the pod has its UID
-known_names : (rows : List Object) (namespace : List ℕ) (names : List (List ℕ)) → list_all (λ name. is_known_in (claim_named rows namespace name)) names ≡ true → list_all is_known (filter_map (claim_named rows namespace) names) ≡ true
+known_names : (rows : List Object) (namespace : List ℕ) (names : List (List ℕ))
+    → list_all (λ name. is_known_in (claim_named rows namespace name)) names ≡ true → list_all is_known (filter_map (claim_named rows namespace) names) ≡ true
 known_names rows namespace [] e = refl
 known_names rows namespace (name ∷ names) e = by (claim_named rows namespace name) e (known_names rows namespace names)
   where
@@ -123,7 +125,8 @@ kept : (mine : List Entry) (writes : List Request) (op : ScheduleOp) → Some op
 kept mine [] op e may = none_some (sym e)
 kept mine (w ∷ writes) op e may = subst (λ (x : ScheduleOp). ScheduleKeeps x mine) (sym (one op _ e)) may
 
-module _ (rows : List Object) (mine : List Entry) (shows : ShowsNewest rows mine) (order : AreRows rows) (own : AreOfKind Scheduler mine) (p : PodData) (at : row_at (key_of (Pod p)) rows ≡ Some (Pod p)) (unscheduled : is_scheduled p ≡ false) (last : Option (List ℕ)) where
+module _ (rows : List Object) (mine : List Entry) (shows : ShowsNewest rows mine) (order : AreRows rows) (own : AreOfKind Scheduler mine)
+    (p : PodData) (at : row_at (key_of (Pod p)) rows ≡ Some (Pod p)) (unscheduled : is_scheduled p ≡ false) (last : Option (List ℕ)) where
   bind_may : (uid : Uid) (name : List ℕ) → p.meta.uid ≡ Some uid → IsChoice rows p last (Assign name) → MayWrite mine (requests.BindPod (key_of (Pod p)) uid name ∷ [])
   bind_may uid name same f = ((assigned_pods_are_allowed rows (key_of (Pod p)) p uid last name mine at same unscheduled f shows own).1, tt)
 
@@ -142,7 +145,8 @@ decisions_keep caches mine refused key op stand order own begins =
     let rows = all_objects caches in
     let b = begins_pod rows refused (row_at key rows) op begins in
     let at : row_at (key_of (Pod b.pod)) rows ≡ Some (Pod b.pod) = ap (λ (k : Key). row_at k rows) (row_at_key key (Pod b.pod) rows b.is) ∙ b.is in
-    kept mine (writes_for rows b.pod b.begins.choice) op b.begins.begins (writes_may rows mine stand.rows order own b.pod at b.unscheduled (last_refused rows b.pod refused) b.begins.choice b.begins.chosen)
+    kept mine (writes_for rows b.pod b.begins.choice) op b.begins.begins
+    (writes_may rows mine stand.rows order own b.pod at b.unscheduled (last_refused rows b.pod refused) b.begins.choice b.begins.chosen)
 
 -- the next call
 
@@ -167,5 +171,6 @@ calls (w ∷ writes) op e h = subst (λ (x : ScheduleOp). is_some (schedule_call
 pub begun_have_calls : BegunSchedulesHaveCalls
 begun_have_calls rows refused row op begins =
     let b = begins_pod rows refused row op begins in
-    let first = writes_by rows b.pod IsFirstWrite tt b.begins.choice (λ uid name is same. refl) (λ known. first_write (present (writes_of rows b.begins.choice)) (each_present (writes_of rows b.begins.choice) (writes_are_updates rows b.begins.choice))) in
+    let first = writes_by rows b.pod IsFirstWrite tt b.begins.choice (λ uid name is same. refl)
+    (λ known. first_write (present (writes_of rows b.begins.choice)) (each_present (writes_of rows b.begins.choice) (writes_are_updates rows b.begins.choice))) in
     calls (writes_for rows b.pod b.begins.choice) op b.begins.begins first

@@ -2,13 +2,13 @@
 use Rattle.std.proofs.Common.{ℕ, zero, ◌≡◌, ◌∙◌, ◌<◌, ◌+◌, Bool, true, false, true≢false, List, [], ◌∷◌, length, map, Option, Some, None, refl, sym, ap, subst, arith, if◌then◌else◌}
 use Rattle.std.specs.Prelude.{◌↔◌, is_some, slice_get}
 use Rattle.std.proofs.lemmas.List.{length-append, length-map}
-use Rattle.kube_types.specs.declared.uid.Uid.{Uid}
-use Rattle.kube_types.specs.declared.key.Key.{Key}
-use Rattle.kube_types.specs.declared.names.Due.{Due}
-use Rattle.kube_types.specs.declared.objects.Pod.{Pod as PodData}
-use Rattle.kube_types.specs.declared.objects.Object.TheVariants.{Pod}
-use Rattle.kube_types.specs.Bindings.{is_scheduled}
-use Rattle.kube_types.specs.Keys.{AreRows}
+use Rattle.kube_parts.specs.declared.uid.Uid.{Uid}
+use Rattle.kube_objects.specs.declared.key.Key.{Key}
+use Rattle.kube_parts.specs.declared.names.Due.{Due}
+use Rattle.kube_objects.specs.declared.objects.Pod.{Pod as PodData}
+use Rattle.kube_objects.specs.declared.objects.Object.TheVariants.{Pod}
+use Rattle.kube_objects.specs.Bindings.{is_scheduled}
+use Rattle.kube_objects.specs.Keys.{AreRows}
 use Rattle.call_types.specs.declared.setup.Setup.{Setup}
 use Rattle.call_types.specs.declared.request.Request.{Request}
 use Rattle.call_types.specs.declared.request.Request.TheVariants as requests
@@ -46,7 +46,8 @@ some_writes node bs ps some =
 
 module _ (setup : Setup) (w : World) (p : PodData) where
   -- the call of an update is due as preparing is
-  update_due : (r : Request) (action : Option Due) → is_update r ≡ true → (name : List ℕ) (bs : List (Key × Key)) (ps : List Key) → IsDueBy setup w p (Prepare name bs ps) action ↔ IsDueAt setup w p (Some r) action
+  update_due : (r : Request) (action : Option Due) → is_update r ≡ true → (name : List ℕ) (bs : List (Key × Key)) (ps : List Key)
+      → IsDueBy setup w p (Prepare name bs ps) action ↔ IsDueAt setup w p (Some r) action
   update_due (requests.Update new given) (Some action) h name bs ps = (λ x. x, λ x. x)
   update_due (requests.Update new given) None h name bs ps = (λ x. x, λ x. x)
   update_due _ action h name bs ps = absurd (true≢false (sym h))
@@ -75,7 +76,8 @@ module _ (setup : Setup) (w : World) (p : PodData) where
         let first = has_first (writes_of rows choice) there in
         let update = writes_are_updates rows choice zero first.write (ap (λ xs. joined (slice_get xs zero)) first.is) in
         let writes : writes_for rows p choice ≡ first.write ∷ present first.rest = ap (λ b. if b then present (writes_of rows choice) else []) known.claims ∙ ap present first.is in
-        subst (λ c. IsDueBy setup w p choice action ↔ IsDueAt setup w p c action) (sym (call_is (writes_for rows p choice) first.write (present first.rest) writes update)) (update_due first.write action update name bs ps)
+        subst (λ c. IsDueBy setup w p choice action ↔ IsDueAt setup w p c action)
+        (sym (call_is (writes_for rows p choice) first.write (present first.rest) writes update)) (update_due first.write action update name bs ps)
     due_by Wait f = (λ x. x, λ x. x)
     due_by NoNode f = (λ x. x, λ x. x)
 

@@ -2,12 +2,12 @@
 use Rattle.std.proofs.Common.{ℕ, zero, suc, ◌≡◌, ◌∙◌, ◌+◌, Bool, true, false, true≢false, ◌&&◌, List, [], ◌∷◌, drop, length, Option, Some, None, inr, refl, sym, ap, subst, arith, if◌then◌else◌}
 use Rattle.std.specs.Prelude.{nat_lt}
 use Rattle.std.specs.List.{AllByRecursion}
-use Rattle.kube_types.specs.declared.key.Key.{Key}
-use Rattle.kube_types.specs.declared.objects.Claim.{Claim as ClaimData}
-use Rattle.kube_types.specs.declared.objects.Volume.{Volume as VolumeData}
-use Rattle.kube_types.specs.declared.objects.Object.{Object}
-use Rattle.kube_types.specs.declared.objects.Object.TheVariants.{Class, Node, Volume, Claim, Pod}
-use Rattle.kube_types.specs.Bindings.{class_of_claim}
+use Rattle.kube_objects.specs.declared.key.Key.{Key}
+use Rattle.kube_objects.specs.declared.objects.Claim.{Claim as ClaimData}
+use Rattle.kube_objects.specs.declared.objects.Volume.{Volume as VolumeData}
+use Rattle.kube_objects.specs.declared.objects.Object.{Object}
+use Rattle.kube_objects.specs.declared.objects.Object.TheVariants.{Class, Node, Volume, Claim, Pod}
+use Rattle.kube_objects.specs.Bindings.{class_of_claim}
 use Rattle.call_types.specs.declared.entry.Entry.{Entry}
 use Rattle.call_types.specs.declared.request.Request.{Request}
 use Rattle.call_types.specs.declared.request.Request.TheVariants as requests
@@ -65,11 +65,13 @@ module _ (mine : List Entry) (e : Entry) (quiet : IsQuiet e) where
 
   volume_on : (new : VolumeData) (given : Option ℕ) → MayUpdate mine (requests.Update (Volume new) given) → MayUpdate (e ∷ mine) (requests.Update (Volume new) given)
   volume_on new given may =
-      inr (told_map (volume_map {P = λ o. IsWrittenAt given new.meta.namespace new.meta.name o.meta × MayTake mine o new} {Q = λ o. IsWrittenAt given new.meta.namespace new.meta.name o.meta × MayTake (e ∷ mine) o new} (λ o h. (h.0, take_on o new h.1))) mine may)
+      inr (told_map (volume_map {P = λ o. IsWrittenAt given new.meta.namespace new.meta.name o.meta × MayTake mine o new}
+      {Q = λ o. IsWrittenAt given new.meta.namespace new.meta.name o.meta × MayTake (e ∷ mine) o new} (λ o h. (h.0, take_on o new h.1))) mine may)
 
   claim_on : (new : ClaimData) (given : Option ℕ) → MayUpdate mine (requests.Update (Claim new) given) → MayUpdate (e ∷ mine) (requests.Update (Claim new) given)
   claim_on new given may =
-      inr (told_map (claim_map {P = λ o. IsWrittenAt given new.meta.namespace new.meta.name o.meta × MaySelectNode mine o new} {Q = λ o. IsWrittenAt given new.meta.namespace new.meta.name o.meta × MaySelectNode (e ∷ mine) o new} (λ o h. (h.0, select_on o new h.1))) mine may)
+      inr (told_map (claim_map {P = λ o. IsWrittenAt given new.meta.namespace new.meta.name o.meta × MaySelectNode mine o new}
+      {Q = λ o. IsWrittenAt given new.meta.namespace new.meta.name o.meta × MaySelectNode (e ∷ mine) o new} (λ o h. (h.0, select_on o new h.1))) mine may)
 
   update_on : (w : Request) → MayUpdate mine w → MayUpdate (e ∷ mine) w
   update_on (requests.Update (Volume new) given) may = volume_on new given may
@@ -110,6 +112,7 @@ step_goes_on (steps.Writes place) writes mine e kept = write_goes_on writes plac
 step_goes_on steps.Done writes mine e kept = tt
 step_goes_on steps.Parked writes mine e kept = tt
 
-pub evidence_goes_on : (op : ScheduleOp) (mine : List Entry) (e : Entry) → ScheduleKeeps op mine → schedule_call op ≡ Some e.request → e.told ≡ true → ScheduleKeeps (schedule_moved op e.reply) (e ∷ mine)
+pub evidence_goes_on : (op : ScheduleOp) (mine : List Entry) (e : Entry) → ScheduleKeeps op mine → schedule_call op ≡ Some e.request → e.told ≡ true
+    → ScheduleKeeps (schedule_moved op e.reply) (e ∷ mine)
 unfolding schedule_moved
 evidence_goes_on op mine e kept call told = step_goes_on op.step op.writes mine e kept

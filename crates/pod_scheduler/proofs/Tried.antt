@@ -1,10 +1,10 @@
 -- What stands selected was selected by the seat, and what counts as refused was then told without the node.
 use Rattle.std.proofs.Common.{ℕ, ◌≡◌, ◌∙◌, ◌⊎◌, Bool, true, false, not, List, [], ◌∷◌, Option, Some, None, inl, inr, refl, sym, ap, subst, if◌then◌else◌}
 use Rattle.std.proofs.lemmas.Bool.Decides.{Decides-eqb}
-use Rattle.kube_types.specs.declared.uid.Uid.{Uid}
-use Rattle.kube_types.specs.declared.objects.Claim.{Claim as ClaimData}
-use Rattle.kube_types.specs.declared.objects.Object.{Object}
-use Rattle.kube_types.specs.declared.objects.Object.TheVariants.{Class, Node, Volume, Claim, Pod}
+use Rattle.kube_parts.specs.declared.uid.Uid.{Uid}
+use Rattle.kube_objects.specs.declared.objects.Claim.{Claim as ClaimData}
+use Rattle.kube_objects.specs.declared.objects.Object.{Object}
+use Rattle.kube_objects.specs.declared.objects.Object.TheVariants.{Class, Node, Volume, Claim, Pod}
 use Rattle.call_types.specs.declared.request.Request.{Request}
 use Rattle.call_types.specs.declared.request.Request.TheVariants.{Update}
 use Rattle.call_types.specs.declared.reply.Reply.{Reply}
@@ -115,7 +115,8 @@ select_refused (Update (Claim asked) given) (Done (Claim c)) m = by c.meta.uid (
     by None n = refl
 select_refused _ _ m = refl
 
-selected_by_claim : (c : ClaimData) (m : Tries) (t : Tried) (u : Option Uid) (n : Option (List ℕ)) → c.meta.uid ≡ u → node_selected_for c ≡ n → IsIn t (select u n c m).selected → IsIn t m.selected ⊎ HasNode t c
+selected_by_claim : (c : ClaimData) (m : Tries) (t : Tried) (u : Option Uid) (n : Option (List ℕ)) → c.meta.uid ≡ u → node_selected_for c ≡ n
+    → IsIn t (select u n c m).selected → IsIn t m.selected ⊎ HasNode t c
 selected_by_claim c m t (Some uid) (Some node) known on h = elim h [
   | inl same ↦ inr (subst (λ y. HasNode y c) same (record { claim = known; node = on; version = refl }))
   | inr more ↦ inl (some_filter (λ y. y ≡ t) (λ y. not (is_try_of uid y)) m.selected more)
@@ -133,7 +134,8 @@ pub selected_were_selected : SelectedWereSelected
 selected_were_selected [] t h = absurd h
 selected_were_selected (e ∷ mine) t h = by e.told refl h (selected_were_selected mine t)
   where
-    by : (b : Bool) → e.told ≡ b → IsIn t (if b then tries_after e.request e.reply (tries_of mine) else tries_of mine).selected → (IsIn t (tries_of mine).selected → SomeOf (Selects t) mine) → SomeOf (Selects t) (e ∷ mine)
+    by : (b : Bool) → e.told ≡ b → IsIn t (if b then tries_after e.request e.reply (tries_of mine) else tries_of mine).selected
+        → (IsIn t (tries_of mine).selected → SomeOf (Selects t) mine) → SomeOf (Selects t) (e ∷ mine)
     by false told h before = inr (before h)
     by true told h before = elim (select_selected e.request e.reply (see_all (objects_in e.reply) (tries_of mine)) t h) [
       | inl old ↦ inr (before (all_selected (objects_in e.reply) (tries_of mine) t old))

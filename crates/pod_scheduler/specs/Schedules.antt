@@ -3,7 +3,7 @@
 -- Source: `BindPodVolumes` and `bindAPIUpdate` of the scheduler's volume binding plugin, which makes the writes in order and gives up at the
 -- first that fails.
 use Rattle.std.specs.Prelude.{Bool, true, false, ◌+◌, ◌&&◌, nat_lt, List, Option, Some, None, length, slice_get, if◌then◌else◌}
-use Rattle.kube_types.specs.declared.objects.Object.TheVariants.{Volume, Claim}
+use Rattle.kube_objects.specs.declared.objects.Object.TheVariants.{Volume, Claim}
 use Rattle.call_types.specs.declared.request.Request.{Request}
 use Rattle.call_types.specs.declared.request.Request.TheVariants as requests
 use Rattle.call_types.specs.declared.reply.Reply.{Reply}

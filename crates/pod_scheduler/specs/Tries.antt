@@ -4,11 +4,11 @@
 -- A choice of this project, after the scheduler's volume binding plugin, which tries another node once `selected-node` is taken back.
 use Rattle.std.specs.Prelude.{ℕ, Bool, true, not, ◌&&◌, nat_lt, List, [], ◌∷◌, Option, Some, None, bytes_eq, filter, if◌then◌else◌}
 use Rattle.plain_data.specs.Pairs.{value_at}
-use Rattle.kube_types.specs.declared.uid.Uid.{Uid}
-use Rattle.kube_types.specs.declared.objects.Claim.{Claim as ClaimData}
-use Rattle.kube_types.specs.declared.objects.Object.{Object}
-use Rattle.kube_types.specs.declared.objects.Object.TheVariants.{Claim}
-use Rattle.kube_types.specs.Bindings.{selected_node, is_completed}
+use Rattle.kube_parts.specs.declared.uid.Uid.{Uid}
+use Rattle.kube_objects.specs.declared.objects.Claim.{Claim as ClaimData}
+use Rattle.kube_objects.specs.declared.objects.Object.{Object}
+use Rattle.kube_objects.specs.declared.objects.Object.TheVariants.{Claim}
+use Rattle.kube_objects.specs.Bindings.{selected_node, is_completed}
 use Rattle.call_types.specs.declared.entry.Entry.{Entry}
 use Rattle.call_types.specs.declared.request.Request.{Request}
 use Rattle.call_types.specs.declared.request.Request.TheVariants.{Update}

@@ -1,8 +1,8 @@
 -- Each node that counts as refused was selected by the seat for that claim, and then the seat was told the claim, as it was written later,
 -- not completed and without this node. A choice of this project.
 use Rattle.std.specs.Prelude.{◌≡◌, true, List, Some}
-use Rattle.kube_types.specs.declared.objects.Claim.{Claim as ClaimData}
-use Rattle.kube_types.specs.declared.objects.Object.TheVariants.{Claim}
+use Rattle.kube_objects.specs.declared.objects.Claim.{Claim as ClaimData}
+use Rattle.kube_objects.specs.declared.objects.Object.TheVariants.{Claim}
 use Rattle.call_types.specs.declared.entry.Entry.{Entry}
 use Rattle.call_types.specs.declared.request.Request.{Request}
 use Rattle.call_types.specs.declared.request.Request.TheVariants.{Update}

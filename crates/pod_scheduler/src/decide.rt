@@ -2,7 +2,7 @@
 
 ghost use Rattle.std.specs.Prelude.{◌≡◌, ◌++◌, IfOk, OnOk, length};
 ghost use Rattle.std.specs.Option.{option_copied};
-ghost use Rattle.kube_types.specs.Keys.{row_at};
+ghost use Rattle.kube_objects.specs.Keys.{row_at};
 ghost use Rattle.delayed_binding.specs.Writes.{writes_of};
 ghost use Rattle.pod_scheduler.specs.Decisions.{BeginsFor, BeginsOn, are_known, begun_with, binding, is_claim_of, is_known_in, is_tried_for, last_refused, present, writes_for};
 ghost use Rattle.pod_scheduler.specs.Steps.Listed.{listed};

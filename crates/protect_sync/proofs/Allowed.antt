@@ -5,10 +5,10 @@ use Rattle.std.specs.List.{list_any}
 use Rattle.std.proofs.Common.{ℕ}
 use Rattle.std.proofs.lemmas.List.Folds.{list_any-append}
 use Rattle.std.proofs.lemmas.Slice.Eq.{bytes_eq-Decides}
-use Rattle.kube_types.specs.declared.parts.Kind.TheVariants as kinds
-use Rattle.kube_types.specs.declared.objects.Volume.{Volume as VolumeData}
-use Rattle.kube_types.specs.declared.objects.Claim.{Claim as ClaimData}
-use Rattle.kube_types.specs.Bindings.{has_name, is_protected_claim, is_protected_volume, pv_protection, pvc_protection}
+use Rattle.kube_parts.specs.declared.parts.Kind.TheVariants as kinds
+use Rattle.kube_objects.specs.declared.objects.Volume.{Volume as VolumeData}
+use Rattle.kube_objects.specs.declared.objects.Claim.{Claim as ClaimData}
+use Rattle.kube_objects.specs.Bindings.{has_name, is_protected_claim, is_protected_volume, pv_protection, pvc_protection}
 use Rattle.call_types.specs.declared.entry.Entry.{Entry}
 use Rattle.call_types.specs.declared.request.Request.{Request}
 use Rattle.call_types.specs.declared.request.Request.TheVariants.{List as ListOf}
@@ -63,7 +63,8 @@ claim_guarded : (mine : List Entry) (new o : ClaimData) (has : Bool) → is_prot
 claim_guarded mine new o has is row = subst (λ (b : Bool). ClaimMay (claim_guard b) mine new o) (sym is) row
 
 -- a claim is written over the one that was told
-claim_written : (c new : ClaimData) (mine : List Entry) → ToldClaim (λ o. o ≡ c) mine → new.meta.namespace ≡ c.meta.namespace → new.meta.name ≡ c.meta.name → ClaimMay (claim_guard (is_protected_claim new)) mine new c → RowAllows seats.ClaimProtect mine (on_claims.claim_write_over c new)
+claim_written : (c new : ClaimData) (mine : List Entry) → ToldClaim (λ o. o ≡ c) mine → new.meta.namespace ≡ c.meta.namespace
+    → new.meta.name ≡ c.meta.name → ClaimMay (claim_guard (is_protected_claim new)) mine new c → RowAllows seats.ClaimProtect mine (on_claims.claim_write_over c new)
 claim_written c new mine told placed named row =
     told_claim (λ o. IsWrittenAt (Some c.meta.version) new.meta.namespace new.meta.name o.meta × ClaimMay (claim_guard (is_protected_claim new)) mine new o) c mine told
     (record { version = refl; placed = sym placed; named = sym named }, row)
@@ -83,16 +84,19 @@ lists c mine request kept = by (is_some c.meta.uid)
   where
     by : (b : Bool) → (if b then Some (ListOf kinds.Pod (Some c.meta.namespace)) else None) ≡ Some request → RowAllows seats.ClaimProtect mine request
     by false e = none_some e
-    by true e = claim_answered mine (ListOf kinds.Pod (Some c.meta.namespace)) request e (told_claim (IsDeletingIn c.meta.namespace) c mine kept.told (record { placed = refl; deleting = kept.deleting }))
+    by true e = claim_answered mine (ListOf kinds.Pod (Some c.meta.namespace)) request e
+        (told_claim (IsDeletingIn c.meta.namespace) c mine kept.told (record { placed = refl; deleting = kept.deleting }))
 
-claim_row : (step : ClaimGuardStep) (c : ClaimData) (mine : List Entry) (request : Request) → ClaimStepKeeps step c mine → on_claims.claim_guard_call_at step c ≡ Some request → RowAllows seats.ClaimProtect mine request
+claim_row : (step : ClaimGuardStep) (c : ClaimData) (mine : List Entry) (request : Request) → ClaimStepKeeps step c mine
+    → on_claims.claim_guard_call_at step c ≡ Some request → RowAllows seats.ClaimProtect mine request
 claim_row claims.Adds c mine request kept e = claim_answered mine (on_claims.claim_write_over c (guarded_claim c)) request e (adds c mine kept)
 claim_row claims.ListsPods c mine request kept e = lists c mine request kept e
 claim_row claims.Drops c mine request kept e = claim_answered mine (on_claims.claim_write_over c (unguarded_claim c)) request e (drops c mine kept)
 claim_row claims.Done c mine request kept e = none_some e
 claim_row claims.Parked c mine request kept e = none_some e
 
-pub claim_allowed : (op : ClaimGuardOp) (mine : List Entry) (request : Request) → AreOfKind ClaimProtect mine → ClaimKeeps op mine → claim_guard_call op ≡ Some request → Licensed ClaimProtect mine request
+pub claim_allowed : (op : ClaimGuardOp) (mine : List Entry) (request : Request) → AreOfKind ClaimProtect mine → ClaimKeeps op mine
+    → claim_guard_call op ≡ Some request → Licensed ClaimProtect mine request
 unfolding claim_guard_call
 claim_allowed op mine request own kept e = (own, claim_row op.step op.claim mine request kept e)
 
@@ -101,11 +105,13 @@ claim_allowed op mine request own kept e = (own, claim_row op.step op.claim mine
 volume_answered : (mine : List Entry) (a b : Request) → Some a ≡ Some b → RowAllows seats.VolumeProtect mine a → RowAllows seats.VolumeProtect mine b
 volume_answered mine a b e may = subst (λ r. RowAllows seats.VolumeProtect mine r) (one a b e) may
 
-volume_guarded : (mine : List Entry) (new o : VolumeData) (has : Bool) → is_protected_volume new ≡ has → VolumeMay (volume_guard has) mine new o → VolumeMay (volume_guard (is_protected_volume new)) mine new o
+volume_guarded : (mine : List Entry) (new o : VolumeData) (has : Bool) → is_protected_volume new ≡ has → VolumeMay (volume_guard has) mine new o
+    → VolumeMay (volume_guard (is_protected_volume new)) mine new o
 volume_guarded mine new o has is row = subst (λ (b : Bool). VolumeMay (volume_guard b) mine new o) (sym is) row
 
 -- a volume is written over the one that was told
-volume_written : (v new : VolumeData) (mine : List Entry) → ToldVolume (λ o. o ≡ v) mine → new.meta.namespace ≡ v.meta.namespace → new.meta.name ≡ v.meta.name → VolumeMay (volume_guard (is_protected_volume new)) mine new v → RowAllows seats.VolumeProtect mine (on_volumes.volume_write_over v new)
+volume_written : (v new : VolumeData) (mine : List Entry) → ToldVolume (λ o. o ≡ v) mine → new.meta.namespace ≡ v.meta.namespace
+    → new.meta.name ≡ v.meta.name → VolumeMay (volume_guard (is_protected_volume new)) mine new v → RowAllows seats.VolumeProtect mine (on_volumes.volume_write_over v new)
 volume_written v new mine told placed named row =
     told_volume (λ o. IsWrittenAt (Some v.meta.version) new.meta.namespace new.meta.name o.meta × VolumeMay (volume_guard (is_protected_volume new)) mine new o) v mine told
     (record { version = refl; placed = sym placed; named = sym named }, row)
@@ -120,13 +126,15 @@ drops_from_volume v mine kept =
     let row : MayUnguardVolume v (unguarded_volume v) = record { deleting = kept.deleting; loose = kept.loose; change = refl } in
     volume_written v (unguarded_volume v) mine kept.told refl refl (volume_guarded mine (unguarded_volume v) v false (without_it pv_protection v.meta.finalizers) row)
 
-volume_row : (step : VolumeGuardStep) (v : VolumeData) (mine : List Entry) (request : Request) → VolumeStepKeeps step v mine → on_volumes.volume_guard_call_at step v ≡ Some request → RowAllows seats.VolumeProtect mine request
+volume_row : (step : VolumeGuardStep) (v : VolumeData) (mine : List Entry) (request : Request) → VolumeStepKeeps step v mine
+    → on_volumes.volume_guard_call_at step v ≡ Some request → RowAllows seats.VolumeProtect mine request
 volume_row volumes.Adds v mine request kept e = volume_answered mine (on_volumes.volume_write_over v (guarded_volume v)) request e (adds_to_volume v mine kept)
 volume_row volumes.Drops v mine request kept e = volume_answered mine (on_volumes.volume_write_over v (unguarded_volume v)) request e (drops_from_volume v mine kept)
 volume_row volumes.Done v mine request kept e = none_some e
 volume_row volumes.Parked v mine request kept e = none_some e
 
-pub volume_allowed : (op : VolumeGuardOp) (mine : List Entry) (request : Request) → AreOfKind VolumeProtect mine → VolumeKeeps op mine → volume_guard_call op ≡ Some request → Licensed VolumeProtect mine request
+pub volume_allowed : (op : VolumeGuardOp) (mine : List Entry) (request : Request) → AreOfKind VolumeProtect mine → VolumeKeeps op mine
+    → volume_guard_call op ≡ Some request → Licensed VolumeProtect mine request
 unfolding volume_guard_call
 volume_allowed op mine request own kept e = (own, volume_row op.step op.volume mine request kept e)
 

@@ -2,16 +2,16 @@
 use Rattle.std.proofs.Common.{◌≡◌, List, Bool, true, false, true≢false, Option, Some, None, refl, sym, ◌∙◌, ap, subst, if◌then◌else◌}
 use Rattle.std.specs.Prelude.{is_some}
 use Rattle.std.specs.List.{list_any}
-use Rattle.kube_types.specs.declared.key.Key.{Key}
-use Rattle.kube_types.specs.declared.parts.Kind.TheVariants as kinds
-use Rattle.kube_types.specs.declared.names.Due.{Due}
-use Rattle.kube_types.specs.declared.names.Due.TheVariants as dues
-use Rattle.kube_types.specs.declared.objects.Volume.{Volume as VolumeData}
-use Rattle.kube_types.specs.declared.objects.Claim.{Claim as ClaimData}
-use Rattle.kube_types.specs.declared.objects.Object.{Object}
-use Rattle.kube_types.specs.declared.objects.Object.TheVariants.{Class, Node, Volume, Claim, Pod}
-use Rattle.kube_types.specs.Bindings.{is_bound, is_deleting, is_protected_claim, is_protected_volume, uses}
-use Rattle.kube_types.specs.Keys.{row_at}
+use Rattle.kube_objects.specs.declared.key.Key.{Key}
+use Rattle.kube_parts.specs.declared.parts.Kind.TheVariants as kinds
+use Rattle.kube_parts.specs.declared.names.Due.{Due}
+use Rattle.kube_parts.specs.declared.names.Due.TheVariants as dues
+use Rattle.kube_objects.specs.declared.objects.Volume.{Volume as VolumeData}
+use Rattle.kube_objects.specs.declared.objects.Claim.{Claim as ClaimData}
+use Rattle.kube_objects.specs.declared.objects.Object.{Object}
+use Rattle.kube_objects.specs.declared.objects.Object.TheVariants.{Class, Node, Volume, Claim, Pod}
+use Rattle.kube_objects.specs.Bindings.{is_bound, is_deleting, is_protected_claim, is_protected_volume, uses}
+use Rattle.kube_objects.specs.Keys.{row_at}
 use Rattle.call_types.specs.declared.entry.Entry.{Entry}
 use Rattle.call_types.specs.declared.request.Request.TheVariants.{List as ListOf}
 use Rattle.binder_model.specs.Due.{claim_guard_due, guard_due, volume_guard_due}
@@ -44,7 +44,8 @@ volume_becomes : (a b : VolumeGuardOp) (mine : List Entry) → Some a ≡ Some b
 volume_becomes a b mine e kept = subst (λ (k : VolumeGuardOp). VolumeKeeps k mine) (one a b e) kept
 
 -- a claim
-claim_keeps : (c : ClaimData) (needed : Bool) (mine : List Entry) (op : ClaimGuardOp) → ToldClaim (λ o. o ≡ c) mine → claim_guard_for c (guard_due (is_deleting c.meta) (is_protected_claim c) needed) ≡ Some op → ClaimKeeps op mine
+claim_keeps : (c : ClaimData) (needed : Bool) (mine : List Entry) (op : ClaimGuardOp) → ToldClaim (λ o. o ≡ c) mine
+    → claim_guard_for c (guard_due (is_deleting c.meta) (is_protected_claim c) needed) ≡ Some op → ClaimKeeps op mine
 claim_keeps c needed mine op told = by (is_deleting c.meta) (is_protected_claim c) needed refl refl
   where
     by : (deleting guarded need : Bool) → is_deleting c.meta ≡ deleting → is_protected_claim c ≡ guarded → claim_guard_for c (guard_due deleting guarded need) ≡ Some op → ClaimKeeps op mine
@@ -54,7 +55,8 @@ claim_keeps c needed mine op told = by (is_deleting c.meta) (is_protected_claim 
     by true false need d g e = none_some e
     by false true need d g e = none_some e
 
-pub claim_decisions : (caches : AllKnown) (mine : List Entry) (key : Key) (op : ClaimGuardOp) → AllStandFor caches mine → claim_guard_begins (all_objects caches) (row_at key (all_objects caches)) ≡ Some op → ClaimKeeps op mine
+pub claim_decisions : (caches : AllKnown) (mine : List Entry) (key : Key) (op : ClaimGuardOp) → AllStandFor caches mine
+    → claim_guard_begins (all_objects caches) (row_at key (all_objects caches)) ≡ Some op → ClaimKeeps op mine
 claim_decisions caches mine key op stand = by (row_at key (all_objects caches)) refl
   where
     by : (row : Option Object) → row_at key (all_objects caches) ≡ row → claim_guard_begins (all_objects caches) row ≡ Some op → ClaimKeeps op mine
@@ -66,17 +68,20 @@ claim_decisions caches mine key op stand = by (row_at key (all_objects caches)) 
     by (Some (Pod x)) at e = none_some e
 
 -- a volume
-volume_keeps : (v : VolumeData) (mine : List Entry) (op : VolumeGuardOp) → ToldVolume (λ o. o ≡ v) mine → volume_guard_for v (guard_due (is_deleting v.meta) (is_protected_volume v) (is_bound v.phase)) ≡ Some op → VolumeKeeps op mine
+volume_keeps : (v : VolumeData) (mine : List Entry) (op : VolumeGuardOp) → ToldVolume (λ o. o ≡ v) mine
+    → volume_guard_for v (guard_due (is_deleting v.meta) (is_protected_volume v) (is_bound v.phase)) ≡ Some op → VolumeKeeps op mine
 volume_keeps v mine op told = by (is_deleting v.meta) (is_protected_volume v) (is_bound v.phase) refl refl refl
   where
-    by : (deleting guarded bound : Bool) → is_deleting v.meta ≡ deleting → is_protected_volume v ≡ guarded → is_bound v.phase ≡ bound → volume_guard_for v (guard_due deleting guarded bound) ≡ Some op → VolumeKeeps op mine
+    by : (deleting guarded bound : Bool) → is_deleting v.meta ≡ deleting → is_protected_volume v ≡ guarded → is_bound v.phase ≡ bound
+        → volume_guard_for v (guard_due deleting guarded bound) ≡ Some op → VolumeKeeps op mine
     by false false bound d g b e = volume_becomes (record { volume = v; step = volumes.Adds }) op mine e (record { told = told; staying = d; lacks = g })
     by true true false d g b e = volume_becomes (record { volume = v; step = volumes.Drops }) op mine e (record { told = told; deleting = d; loose = b })
     by true true true d g b e = none_some e
     by true false bound d g b e = none_some e
     by false true bound d g b e = none_some e
 
-pub volume_decisions : (caches : AllKnown) (mine : List Entry) (key : Key) (op : VolumeGuardOp) → AllStandFor caches mine → volume_guard_begins (row_at key (all_objects caches)) ≡ Some op → VolumeKeeps op mine
+pub volume_decisions : (caches : AllKnown) (mine : List Entry) (key : Key) (op : VolumeGuardOp) → AllStandFor caches mine
+    → volume_guard_begins (row_at key (all_objects caches)) ≡ Some op → VolumeKeeps op mine
 volume_decisions caches mine key op stand = by (row_at key (all_objects caches)) refl
   where
     by : (row : Option Object) → row_at key (all_objects caches) ≡ row → volume_guard_begins row ≡ Some op → VolumeKeeps op mine

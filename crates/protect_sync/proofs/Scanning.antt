@@ -1,12 +1,12 @@
 -- A scan of the pods finds one that uses a claim.
 use Rattle.std.proofs.Common.{ℕ, zero, suc, ◌≡◌, ◌∙◌, ◌+◌, Bool, true, false, ◌||◌, List, [], ◌∷◌, drop, slice_get, cond, refl, sym, ap, subst, arith}
 use Rattle.std.specs.List.{list_any}
-use Rattle.kube_types.specs.declared.parts.Kind.TheVariants as kinds
-use Rattle.kube_types.specs.declared.objects.Claim.{Claim as ClaimData}
-use Rattle.kube_types.specs.declared.objects.Object.{Object}
-use Rattle.kube_types.specs.declared.objects.Object.TheVariants.{Class, Node, Volume, Claim, Pod}
-use Rattle.kube_types.specs.Keys.{is_of_kind, rows_of}
-use Rattle.kube_types.specs.Bindings.{uses}
+use Rattle.kube_parts.specs.declared.parts.Kind.TheVariants as kinds
+use Rattle.kube_objects.specs.declared.objects.Claim.{Claim as ClaimData}
+use Rattle.kube_objects.specs.declared.objects.Object.{Object}
+use Rattle.kube_objects.specs.declared.objects.Object.TheVariants.{Class, Node, Volume, Claim, Pod}
+use Rattle.kube_objects.specs.Keys.{is_of_kind, rows_of}
+use Rattle.kube_objects.specs.Bindings.{uses}
 use Rattle.protect_sync.specs.Steps.Pods.{is_used_by}
 
 others_use_none : (c : ClaimData) (o : Object) → is_of_kind kinds.Pod o ≡ false → uses c o ≡ false
@@ -21,7 +21,8 @@ pub of_pods : (c : ClaimData) (rows : List Object) → list_any (uses c) (rows_o
 of_pods c [] = refl
 of_pods c (o ∷ rows) = by (is_of_kind kinds.Pod o) refl (of_pods c rows)
   where
-    by : (b : Bool) → is_of_kind kinds.Pod o ≡ b → list_any (uses c) (rows_of kinds.Pod rows) ≡ list_any (uses c) rows → list_any (uses c) (cond b (o ∷ rows_of kinds.Pod rows) (rows_of kinds.Pod rows)) ≡ (uses c o || list_any (uses c) rows)
+    by : (b : Bool) → is_of_kind kinds.Pod o ≡ b → list_any (uses c) (rows_of kinds.Pod rows) ≡ list_any (uses c) rows
+        → list_any (uses c) (cond b (o ∷ rows_of kinds.Pod rows) (rows_of kinds.Pod rows)) ≡ (uses c o || list_any (uses c) rows)
     by true e same = ap (λ r. uses c o || r) same
     by false e same = same ∙ ap (λ b. b || list_any (uses c) rows) (sym (others_use_none c o e))
 

@@ -1,9 +1,9 @@
 -- On a look-up whose objects have UIDs each machine that begins has a next call; and no call lists or watches a whole kind, so that none
 -- counts as a read of the actor's own. A choice of this project.
 use Rattle.std.specs.Prelude.{◌≡◌, true, List, Option, Some, None, is_some}
-use Rattle.kube_types.specs.declared.key.Key.{Key}
-use Rattle.kube_types.specs.declared.objects.Object.{Object}
-use Rattle.kube_types.specs.Keys.{meta_of, row_at}
+use Rattle.kube_objects.specs.declared.key.Key.{Key}
+use Rattle.kube_objects.specs.declared.objects.Object.{Object}
+use Rattle.kube_objects.specs.Keys.{meta_of, row_at}
 use Rattle.call_types.specs.declared.request.Request.{Request}
 use Rattle.call_types.specs.Kinds.{ReadsNoKind}
 use Rattle.protect_sync.specs.declared.claims.ClaimGuardOp.{ClaimGuardOp}

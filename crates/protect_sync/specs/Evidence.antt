@@ -1,9 +1,9 @@
 -- The evidence that each machine keeps, in the entries of its seat, the newest first: the object that it holds was told, and what
 -- the row of its next call asks beside. A choice of this project.
 use Rattle.std.specs.Prelude.{◌≡◌, true, false, List, ⊤}
-use Rattle.kube_types.specs.declared.objects.Volume.{Volume as VolumeData}
-use Rattle.kube_types.specs.declared.objects.Claim.{Claim as ClaimData}
-use Rattle.kube_types.specs.Bindings.{is_bound, is_deleting, is_protected_claim, is_protected_volume}
+use Rattle.kube_objects.specs.declared.objects.Volume.{Volume as VolumeData}
+use Rattle.kube_objects.specs.declared.objects.Claim.{Claim as ClaimData}
+use Rattle.kube_objects.specs.Bindings.{is_bound, is_deleting, is_protected_claim, is_protected_volume}
 use Rattle.call_types.specs.declared.entry.Entry.{Entry}
 use Rattle.binder_model.specs.GuardLicence.{IsDeletingVersion, TellsUnused}
 use Rattle.binder_model.specs.Told.{After, ToldClaim, ToldVolume}

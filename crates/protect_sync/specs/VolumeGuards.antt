@@ -1,9 +1,9 @@
 -- What volume protection has under way for one volume: its next call, and what the answer to it makes of the machine.
 -- Source: `processPV` of the pv-protection controller.
 use Rattle.std.specs.Prelude.{Bool, true, false, Option, Some, None}
-use Rattle.kube_types.specs.declared.objects.Volume.{Volume as VolumeData}
-use Rattle.kube_types.specs.declared.objects.Object.TheVariants.{Volume}
-use Rattle.kube_types.specs.Bindings.{pv_protection}
+use Rattle.kube_objects.specs.declared.objects.Volume.{Volume as VolumeData}
+use Rattle.kube_objects.specs.declared.objects.Object.TheVariants.{Volume}
+use Rattle.kube_objects.specs.Bindings.{pv_protection}
 use Rattle.call_types.specs.declared.request.Request.{Request}
 use Rattle.call_types.specs.declared.request.Request.TheVariants.{Update}
 use Rattle.call_types.specs.declared.reply.Reply.{Reply}

@@ -1,7 +1,7 @@
 //! What claim protection has under way for one claim.
 
 ghost use Rattle.std.specs.Prelude.{◌≡◌, IfOk, option_map};
-ghost use Rattle.kube_types.specs.Bindings.{is_deleting, is_protected_claim};
+ghost use Rattle.kube_objects.specs.Bindings.{is_deleting, is_protected_claim};
 ghost use Rattle.binder_model.specs.Due.{guard_due};
 ghost use Rattle.protect_sync.specs.ClaimGuards.{claim_guard_call, claim_moved, claim_parks, guarded_claim, list_call, unguarded_claim, claim_write_over};
 ghost use Rattle.protect_sync.specs.Decisions.{claim_guard_for};

@@ -1,7 +1,7 @@
 //! What begins on a key, on a look-up alone.
 
 ghost use Rattle.std.specs.Prelude.{◌≡◌, IfOk};
-ghost use Rattle.kube_types.specs.Keys.{row_at};
+ghost use Rattle.kube_objects.specs.Keys.{row_at};
 ghost use Rattle.protect_sync.specs.Decisions.{claim_guard_begins, claim_guard_for, volume_guard_begins};
 ghost use Rattle.binder_model.specs.Due.{claim_guard_due};
 

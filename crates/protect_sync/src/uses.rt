@@ -3,7 +3,7 @@
 ghost use Rattle.std.specs.Prelude.{◌≡◌};
 ghost use Rattle.std.specs.List.{list_any};
 ghost use Rattle.std.specs.Option.{option_copied};
-ghost use Rattle.kube_types.specs.Bindings.{uses};
+ghost use Rattle.kube_objects.specs.Bindings.{uses};
 ghost use Rattle.protect_sync.specs.Steps.Pods.{is_used_by};
 
 use kube_types::bindings::uses;

@@ -3,7 +3,7 @@
 ghost use Rattle.std.specs.Prelude.{◌≡◌, IfOk, option_map};
 ghost use Rattle.binder_model.specs.Due.{volume_guard_due};
 ghost use Rattle.protect_sync.specs.Decisions.{volume_guard_for};
-ghost use Rattle.kube_types.specs.Bindings.{is_bound};
+ghost use Rattle.kube_objects.specs.Bindings.{is_bound};
 ghost use Rattle.protect_sync.specs.VolumeGuards.{guarded_volume, unguarded_volume, volume_guard_call, volume_moved, volume_parks, volume_write_over};
 
 use crate::names::with_name;

@@ -1,12 +1,45 @@
 -- What is read as an amount is what the grammar says.
-use Rattle.std.proofs.Common.{◌≡◌, ℕ, ◌+◌, ◌-◌, ◌<◌, ◌≤◌, true, false, ◌&&◌, cond, eqb, subst, ◌≢◌, ◌⊎◌, inl, inr, List, [], ◌∷◌, ◌++◌, length, Option, Some, None, Ok, Err, refl, sym, ap, ◌∙◌, arith, append_assoc}
+use Rattle.std.proofs.Common.{
+  ◌≡◌,
+  ℕ,
+  ◌+◌,
+  ◌-◌,
+  ◌<◌,
+  ◌≤◌,
+  true,
+  false,
+  ◌&&◌,
+  cond,
+  eqb,
+  subst,
+  ◌≢◌,
+  ◌⊎◌,
+  inl,
+  inr,
+  List,
+  [],
+  ◌∷◌,
+  ◌++◌,
+  length,
+  Option,
+  Some,
+  None,
+  Ok,
+  Err,
+  refl,
+  sym,
+  ap,
+  ◌∙◌,
+  arith,
+  append_assoc,
+}
 use Rattle.std.proofs.lemmas.Bool.{cases_eq, and_parts}
 use Rattle.std.proofs.lemmas.Bool.Decides.{nat_tests}
 use Rattle.std.specs.List.{list_all, prefix_len}
 use Rattle.std.specs.Char.{is_ascii_digit}
 use Rattle.quantity_text.specs.declared.errors.AmountError.TheVariants.{BadNumber, BadSuffix}
 use Rattle.quantity_text.specs.declared.scales.Scale.{Scale}
-use Rattle.kube_types.specs.Bindings.{is_empty}
+use Rattle.kube_objects.specs.Bindings.{is_empty}
 use Rattle.quantity_text.specs.Quantity.{after_digits, after_fraction, amount_of, digits_at, fraction_at, lacks_number, named_scales, parts_of, refuse, scale_of, scaled, scaled_by, unsigned_amount}
 use Rattle.quantity_text.specs.Grammar.{AmountsAreOfTheGrammar, HasValue, IsAmount, IsNumber, IsSigned, IsSuffix}
 use Rattle.quantity_text.proofs.DigitFacts.{in_range}
@@ -26,8 +59,31 @@ letter_begins_no_number letter bs (inr e) = rw e (refl, refl, refl)
 suffix_begins_no_number : (text : List ℕ) (scale : Scale) → IsSuffix text scale → BeginsNoNumber text
 suffix_begins_no_number text scale (inl name) =
     let plain : BeginsNoNumber [] = (refl, refl, refl) in
-    each_row (λ row. BeginsNoNumber row.0) (text, scale) named_scales name
-    ((refl, refl, refl), ((refl, refl, refl), ((refl, refl, refl), ((refl, refl, refl), ((refl, refl, refl), ((refl, refl, refl), ((refl, refl, refl), ((refl, refl, refl), ((refl, refl, refl), ((refl, refl, refl), ((refl, refl, refl), ((refl, refl, refl), ((refl, refl, refl), ((refl, refl, refl), ((refl, refl, refl), ((refl, refl, refl), tt))))))))))))))))
+    each_row (λ row. BeginsNoNumber row.0) (text, scale) named_scales name (
+      (refl, refl, refl),
+      (
+        (refl, refl, refl),
+        (
+          (refl, refl, refl),
+          (
+            (refl, refl, refl),
+            (
+              (refl, refl, refl),
+              (
+                (refl, refl, refl),
+                (
+                  (refl, refl, refl),
+                  (
+                    (refl, refl, refl),
+                    ((refl, refl, refl), ((refl, refl, refl), ((refl, refl, refl), ((refl, refl, refl), ((refl, refl, refl), ((refl, refl, refl), ((refl, refl, refl), ((refl, refl, refl), tt)))))))),
+                  ),
+                ),
+              ),
+            ),
+          ),
+        ),
+      ),
+    )
 suffix_begins_no_number text scale (inr e) = by e.signed
   where
     begun : (rest : List ℕ) → text ≡ e.letter ∷ rest → BeginsNoNumber text
@@ -73,13 +129,16 @@ unfolding unsigned_amount
 unsigned_found at text n e = by (scale_of (parts_of text).suffix) refl (refuse_ok _ _ _ n e)
   where
     by : (o : Option Scale) → scale_of (parts_of text).suffix ≡ o
-        → (lacks_number (parts_of text) ≡ false) × (scaled_by (scale_of (parts_of text).suffix) (at + (length text - length (parts_of text).suffix)) (parts_of text).whole (parts_of text).fraction ≡ Ok n)
+        → (lacks_number (parts_of text) ≡ false)
+        × (scaled_by (scale_of (parts_of text).suffix) (at + (length text - length (parts_of text).suffix)) (parts_of text).whole (parts_of text).fraction ≡ Ok n)
         → Unsigned text n
     by None is given =
-        let refused : Err (BadSuffix (at + (length text - length (parts_of text).suffix))) ≡ Ok n = ap (λ o. scaled_by o (at + (length text - length (parts_of text).suffix)) (parts_of text).whole (parts_of text).fraction) (sym is) ∙ given.1 in
+        let refused : Err (BadSuffix (at + (length text - length (parts_of text).suffix))) ≡ Ok n =
+        ap (λ o. scaled_by o (at + (length text - length (parts_of text).suffix)) (parts_of text).whole (parts_of text).fraction) (sym is) ∙ given.1 in
         cc
     by (Some scale) is given =
-        let read : scaled (parts_of text).whole (parts_of text).fraction scale ≡ Ok n = ap (λ o. scaled_by o (at + (length text - length (parts_of text).suffix)) (parts_of text).whole (parts_of text).fraction) (sym is) ∙ given.1 in
+        let read : scaled (parts_of text).whole (parts_of text).fraction scale ≡ Ok n =
+        ap (λ o. scaled_by o (at + (length text - length (parts_of text).suffix)) (parts_of text).whole (parts_of text).fraction) (sym is) ∙ given.1 in
         let front = (numbers_are_the_longest text).longest given.0 in (
           (parts_of text).whole,
           (parts_of text).fraction,
@@ -98,8 +157,10 @@ by_parts : (at : ℕ) (text whole fraction suffix : List ℕ) → Parted text wh
     → unsigned_amount at text ≡ refuse (is_empty whole && is_empty fraction) (BadNumber at) (scaled_by (scale_of suffix) (at + (length text - length suffix)) whole fraction)
 unfolding unsigned_amount
 by_parts at text whole fraction suffix p =
-    ap (λ k. refuse (is_empty k && is_empty (fraction_at (after_digits text))) (BadNumber at) (scaled_by (scale_of (after_fraction (after_digits text))) (at + (length text - length (after_fraction (after_digits text)))) k (fraction_at (after_digits text)))) p.0
-    ∙ ap (λ k. refuse (is_empty whole && is_empty k) (BadNumber at) (scaled_by (scale_of (after_fraction (after_digits text))) (at + (length text - length (after_fraction (after_digits text)))) whole k)) p.1
+    ap (λ k. refuse (is_empty k && is_empty (fraction_at (after_digits text))) (BadNumber at)
+    (scaled_by (scale_of (after_fraction (after_digits text))) (at + (length text - length (after_fraction (after_digits text)))) k (fraction_at (after_digits text)))) p.0
+    ∙ ap (λ k. refuse (is_empty whole && is_empty k) (BadNumber at)
+    (scaled_by (scale_of (after_fraction (after_digits text))) (at + (length text - length (after_fraction (after_digits text)))) whole k)) p.1
     ∙ ap (λ k. refuse (is_empty whole && is_empty fraction) (BadNumber at) (scaled_by (scale_of k) (at + (length text - length k)) whole fraction)) p.2
 
 unsigned_is : (at : ℕ) (number suffix whole fraction : List ℕ) (scale : Scale) (n : ℕ) → IsNumber number whole fraction → IsSuffix suffix scale → HasValue whole fraction scale n
@@ -145,8 +206,22 @@ abbrev Found : List ℕ → ℕ → Type 0
 Found text n = (whole fraction : List ℕ) × (scale : Scale) × IsAmount text whole fraction scale × HasValue whole fraction scale n
 
 signed : (sign text unsigned : List ℕ) (n : ℕ) → (sign ≡ []) ⊎ (sign ≡ 43 ∷ []) → text ≡ sign ++ unsigned → Unsigned unsigned n → Found text n
-signed sign text unsigned n is_sign joined (whole, fraction, scale, is, value) =
-    (whole, fraction, scale, record { sign = sign; number = is.number; suffix = is.suffix; is_sign = is_sign; is_number = is.is_number; is_suffix = is.is_suffix; joined = joined ∙ ap (λ k. sign ++ k) is.joined }, value)
+signed sign text unsigned n is_sign joined (whole, fraction, scale, is, value) = (
+  whole,
+  fraction,
+  scale,
+  record {
+    sign = sign;
+    number = is.number;
+    suffix = is.suffix;
+    is_sign = is_sign;
+    is_number = is.is_number;
+    is_suffix =
+        is.is_suffix;
+    joined = joined ∙ ap (λ k. sign ++ k) is.joined;
+  },
+  value,
+)
 
 pub amount_found : (text : List ℕ) (n : ℕ) → amount_of text ≡ Ok n → Found text n
 unfolding amount_of

@@ -1,5 +1,42 @@
 -- Digits and the numbers that they write.
-use Rattle.std.proofs.Common.{◌≡◌, ℕ, suc, ◌+◌, ◌-◌, ltb, leb, eqb, subst, ◌*◌, ◌^◌, ◌<◌, ◌≤◌, Bool, true, false, cond, ◌⊎◌, inl, inr, ◌≢◌, lit<, List, [], ◌∷◌, ◌++◌, length, drop, get_or, refl, sym, ap, ◌∙◌, arith, drop-cons, add-one}
+use Rattle.std.proofs.Common.{
+  ◌≡◌,
+  ℕ,
+  suc,
+  ◌+◌,
+  ◌-◌,
+  ltb,
+  leb,
+  eqb,
+  subst,
+  ◌*◌,
+  ◌^◌,
+  ◌<◌,
+  ◌≤◌,
+  Bool,
+  true,
+  false,
+  cond,
+  ◌⊎◌,
+  inl,
+  inr,
+  ◌≢◌,
+  lit<,
+  List,
+  [],
+  ◌∷◌,
+  ◌++◌,
+  length,
+  drop,
+  get_or,
+  refl,
+  sym,
+  ap,
+  ◌∙◌,
+  arith,
+  drop-cons,
+  add-one,
+}
 use Rattle.std.proofs.lemmas.Bool.Decides.{nat_tests}
 use Rattle.std.proofs.lemmas.Str.{digit_value_digit}
 use Rattle.std.proofs.lemmas.Bool.{cases_lt, cases_eq, and_parts}
@@ -25,7 +62,8 @@ front_le n (d ∷ ds) = let rest = front_le (n * 10 + digit_value d) ds in omega
 
 -- one step of the reading, at the digit with this index
 pub value_step : (n : ℕ) (ds : List ℕ) (i : ℕ) → i < length ds → list_all is_ascii_digit (drop i ds) ≡ true
-    → (IsInRange 48 57 (get_or ds i 0)) × (list_all is_ascii_digit (drop (i + 1) ds) ≡ true) × (digits_value_after 10 n (drop i ds) ≡ digits_value_after 10 (n * 10 + (get_or ds i 0 - 48)) (drop (i + 1) ds))
+    → (IsInRange 48 57 (get_or ds i 0)) × (list_all is_ascii_digit (drop (i + 1) ds) ≡ true)
+    × (digits_value_after 10 n (drop i ds) ≡ digits_value_after 10 (n * 10 + (get_or ds i 0 - 48)) (drop (i + 1) ds))
 value_step n ds i within are =
     let cut = drop-cons ds i 0 within in
     let parts = and_parts _ _ (rw cut at are) in
@@ -103,7 +141,8 @@ pub too_many : (ds : List ℕ) → list_all is_ascii_digit ds ≡ true → ltb 1
 too_many [] e = refl
 too_many (d ∷ ds) e = by (cases_eq d 48) (too_many ds (and_parts _ _ e).1)
   where
-    by : (d ≡ 48) ⊎ (d ≢ 48) → ltb 18 (length (without_zeros ds)) ≡ leb 1_000_000_000_000_000_000 (digits_value 10 ds) → ltb 18 (length (without_zeros (d ∷ ds))) ≡ leb 1_000_000_000_000_000_000 (digits_value 10 (d ∷ ds))
+    by : (d ≡ 48) ⊎ (d ≢ 48) → ltb 18 (length (without_zeros ds)) ≡ leb 1_000_000_000_000_000_000 (digits_value 10 ds)
+        → ltb 18 (length (without_zeros (d ∷ ds))) ≡ leb 1_000_000_000_000_000_000 (digits_value 10 (d ∷ ds))
     by (inl zero_digit) rest =
         let P : ℕ → Type 0 = λ k. ltb 18 (length (without_zeros (k ∷ ds))) ≡ leb 1_000_000_000_000_000_000 (digits_value 10 (k ∷ ds)) in
         subst P (sym zero_digit) (ap (λ ks. ltb 18 (length ks)) (without_zero ds) ∙ rest)

@@ -6,7 +6,7 @@ use Rattle.std.proofs.Math.Seq.{drop-append_seam, take-append_seam}
 use Rattle.std.specs.List.{list_all, prefix_len}
 use Rattle.std.specs.Char.{is_ascii_digit}
 use Rattle.std.proofs.lemmas.Bool.{and_parts}
-use Rattle.kube_types.specs.Bindings.{is_empty}
+use Rattle.kube_objects.specs.Bindings.{is_empty}
 use Rattle.quantity_text.specs.Quantity.{after_digits, digits_at}
 use Rattle.quantity_text.specs.Grammar.{IsNumber}
 

@@ -25,7 +25,8 @@ pub digits_test : (whole fraction : List ℕ) (number : ℕ) → list_all is_asc
 unfolding has_too_many_digits
 digits_test whole fraction number left right is =
     let joined : number ≡ capped (digits_value 10 (whole ++ fraction)) = is ∙ capped_parts whole fraction in
-    let test = too_many (whole ++ fraction) (all_append is_ascii_digit whole fraction left right) ∙ capped_test (digits_value 10 (whole ++ fraction)) ∙ ap (leb 1_000_000_000_000_000_000) (sym joined) in
+    let test = too_many (whole ++ fraction) (all_append is_ascii_digit whole fraction left right) ∙ capped_test (digits_value 10 (whole ++ fraction))
+    ∙ ap (leb 1_000_000_000_000_000_000) (sym joined) in
     (ap (λ b. b || ltb 18 (length fraction)) test, λ small. omega arith)
 
 -- an exponent above 18 is refused whether it is capped or not

@@ -1,7 +1,37 @@
 -- Quantities: texts that stand for amounts of bytes. Source: Kubernetes API reference, "Quantity" (resource.Quantity of
 -- apimachinery): the forms of numbers, the suffixes, and that a value is rounded up. The limits on digits, exponents and
 -- values, and the order of the refusals, are this project's choice.
-use Rattle.std.specs.Prelude.{◌≡◌, ℕ, ◌+◌, ◌-◌, ◌*◌, ◌^◌, ◌==◌, nat_lt, Bool, true, false, ◌&&◌, ◌||◌, not, if◌then◌else◌, List, [], ◌∷◌, ◌++◌, length, drop, take_while, codes, bytes_eq, Option, Some, None, option_map, ⊤}
+use Rattle.std.specs.Prelude.{
+  ◌≡◌,
+  ℕ,
+  ◌+◌,
+  ◌-◌,
+  ◌*◌,
+  ◌^◌,
+  ◌==◌,
+  nat_lt,
+  Bool,
+  true,
+  false,
+  ◌&&◌,
+  ◌||◌,
+  not,
+  if◌then◌else◌,
+  List,
+  [],
+  ◌∷◌,
+  ◌++◌,
+  length,
+  drop,
+  take_while,
+  codes,
+  bytes_eq,
+  Option,
+  Some,
+  None,
+  option_map,
+  ⊤,
+}
 use Rattle.std.specs.Option.{option_or}
 use Rattle.std.specs.Int.{div_ceil}
 use Rattle.std.specs.declared.result.Result.{Result}
@@ -11,8 +41,8 @@ use Rattle.std.specs.Char.{is_ascii_digit}
 use Rattle.std.specs.Str.Parse.{digits_value}
 use Rattle.quantity_text.specs.declared.errors.AmountError.{AmountError}
 use Rattle.quantity_text.specs.declared.errors.AmountError.TheVariants.{Empty, Negative, BadNumber, BadSuffix, TooManyDigits, BadExponent, TooLarge, OutOfMemory}
-use Rattle.kube_types.specs.declared.objects.Amount.{Amount}
-use Rattle.kube_types.specs.Bindings.{is_empty}
+use Rattle.kube_objects.specs.declared.objects.Amount.{Amount}
+use Rattle.kube_objects.specs.Bindings.{is_empty}
 use Rattle.quantity_text.specs.declared.scales.Scale.{Scale}
 use Rattle.quantity_text.specs.declared.scales.Scale.TheVariants.{Binary, Decimal, Fraction}
 

@@ -1,9 +1,9 @@
 -- The next call of a volume's machine is allowed by its evidence; and it neither lists nor watches.
 use Rattle.std.proofs.Common.{◌≡◌, List, [], ◌∷◌, false, Some, inl, inr, refl, sym, ap, subst}
-use Rattle.kube_types.specs.declared.uid.Uid.{Uid}
-use Rattle.kube_types.specs.declared.parts.VolumePhase.TheVariants as phases
-use Rattle.kube_types.specs.declared.objects.Volume.{Volume as VolumeData}
-use Rattle.kube_types.specs.Sources.{data_id_of}
+use Rattle.kube_parts.specs.declared.uid.Uid.{Uid}
+use Rattle.kube_parts.specs.declared.parts.VolumePhase.TheVariants as phases
+use Rattle.kube_objects.specs.declared.objects.Volume.{Volume as VolumeData}
+use Rattle.kube_objects.specs.Sources.{data_id_of}
 use Rattle.call_types.specs.declared.entry.Entry.{Entry}
 use Rattle.call_types.specs.declared.request.Request.{Request}
 use Rattle.call_types.specs.declared.request.Request.TheVariants as requests
@@ -53,8 +53,11 @@ deletes v uid mine kept =
 
 fails : (v : VolumeData) (mine : List Entry) → MayWriteFailed v mine → RowAllows seats.Ops mine (fail_call v)
 fails v mine kept =
-    let row : MayFail mine v = record { ended = kept.ended.ended; failed = kept.failed } in
-    (refl, told_volume (λ o. IsWrittenAt (Some v.meta.version) v.meta.namespace v.meta.name o.meta × PhaseMay (ops_phase phases.Failed) mine o) v mine kept.told (record { version = refl; placed = refl; named = refl }, row))
+    let row : MayFail mine v = record { ended = kept.ended.ended; failed = kept.failed } in (
+      refl,
+      told_volume (λ o. IsWrittenAt (Some v.meta.version) v.meta.namespace v.meta.name o.meta × PhaseMay (ops_phase phases.Failed) mine o) v
+          mine kept.told (record { version = refl; placed = refl; named = refl }, row),
+    )
 
 step_row : (step : EraseStep) (v : VolumeData) (mine : List Entry) (request : Request) → EraseStepKeeps step v mine → erase_call_at step v ≡ Some request → RowAllows seats.Ops mine request
 step_row steps.ReadsVolume v mine request kept e = answered mine (requests.Get (key_of_volume v)) request e (reads v mine kept)

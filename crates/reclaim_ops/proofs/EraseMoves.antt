@@ -2,11 +2,11 @@
 use Rattle.std.proofs.Common.{◌≡◌, ◌∙◌, ℕ, List, ◌∷◌, Bool, true, false, Option, Some, None, inl, inr, refl, sym, ap, subst, if◌then◌else◌}
 use Rattle.std.specs.Prelude.{◌&&◌, bytes_eq, is_some}
 use Rattle.std.proofs.lemmas.Slice.Eq.{bytes_eq-Decides}
-use Rattle.kube_types.specs.declared.uid.Uid.{Uid}
-use Rattle.kube_types.specs.declared.objects.DataId.{DataId}
-use Rattle.kube_types.specs.declared.objects.Volume.{Volume as VolumeData}
-use Rattle.kube_types.specs.declared.objects.Object.TheVariants.{Volume}
-use Rattle.kube_types.specs.Sources.{data_id_of}
+use Rattle.kube_parts.specs.declared.uid.Uid.{Uid}
+use Rattle.kube_objects.specs.declared.objects.DataId.{DataId}
+use Rattle.kube_objects.specs.declared.objects.Volume.{Volume as VolumeData}
+use Rattle.kube_objects.specs.declared.objects.Object.TheVariants.{Volume}
+use Rattle.kube_objects.specs.Sources.{data_id_of}
 use Rattle.call_types.specs.declared.entry.Entry.{Entry}
 use Rattle.call_types.specs.declared.request.Request.TheVariants as requests
 use Rattle.call_types.specs.declared.reply.Refusal.TheVariants.{BackFault}
@@ -67,7 +67,8 @@ reading op mine e told _ is = tt
 module _ (v : VolumeData) (uid : Uid) (mine : List Entry) (e : Entry) (kept : MayEraseData v uid mine) (asked : requests.Erase (data_id_of v.source) ≡ e.request) (told : e.told ≡ true) where
   erased : (removed : Bool) → e.reply ≡ Erased removed → MayDeleteErased v uid (e ∷ mine)
   erased removed is =
-      let gone : EraseDone (data_id_of v.source) e.request e.reply = subst (λ r. EraseDone (data_id_of v.source) e.request r) (sym is) (subst (λ q. EraseDone (data_id_of v.source) q (Erased removed)) asked refl) in
+      let gone : EraseDone (data_id_of v.source) e.request e.reply =
+      subst (λ r. EraseDone (data_id_of v.source) e.request r) (sym is) (subst (λ q. EraseDone (data_id_of v.source) q (Erased removed)) asked refl) in
       record { known = kept.known; ended = kept.ended; erased = inl ((told, gone), kept.told) }
 
   failed : (planned : ℕ) → e.reply ≡ Refused (BackFault planned) → MayWriteFailed v (e ∷ mine)
@@ -92,7 +93,8 @@ written : (v : VolumeData) (reply : Reply) (mine : List Entry) → EraseStepKeep
 written v (Refused r) mine = tt
 written v _ mine = tt
 
-step_goes_on : (op : EraseOp) (step : EraseStep) (mine : List Entry) (e : Entry) → EraseStepKeeps step op.volume mine → erase_call_at step op.volume ≡ Some e.request → e.told ≡ true → EraseKeeps (moved_at op step e.reply) (e ∷ mine)
+step_goes_on : (op : EraseOp) (step : EraseStep) (mine : List Entry) (e : Entry) → EraseStepKeeps step op.volume mine
+    → erase_call_at step op.volume ≡ Some e.request → e.told ≡ true → EraseKeeps (moved_at op step e.reply) (e ∷ mine)
 step_goes_on op steps.ReadsVolume mine e kept call told = reading op mine e told e.reply refl
 step_goes_on op (steps.Erases uid) mine e kept call told = erasing op.volume uid mine e kept (one _ _ call) told e.reply refl
 step_goes_on op (steps.Deletes uid) mine e kept call told = deleted uid op.volume e.reply (e ∷ mine)

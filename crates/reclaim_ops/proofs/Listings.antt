@@ -1,10 +1,10 @@
 -- Where all objects of a kind were listed once, of each key of the kind something was told; and caches show that they were listed.
 use Rattle.std.proofs.Common.{◌≡◌, ◌∙◌, ℕ, List, [], ◌∷◌, Bool, true, false, true≢false, Option, Some, None, inl, inr, refl, sym, ap, subst, if◌then◌else◌}
 use Rattle.std.specs.Prelude.{◌⊎◌, ◌==◌, is_some, nat_lt}
-use Rattle.kube_types.specs.declared.key.Key.{Key}
-use Rattle.kube_types.specs.declared.parts.Kind.{Kind}
-use Rattle.kube_types.specs.declared.parts.Kind.TheVariants as kinds
-use Rattle.kube_types.specs.Keys.{kind_index, row_at, same_kind}
+use Rattle.kube_objects.specs.declared.key.Key.{Key}
+use Rattle.kube_parts.specs.declared.parts.Kind.{Kind}
+use Rattle.kube_parts.specs.declared.parts.Kind.TheVariants as kinds
+use Rattle.kube_objects.specs.Keys.{kind_index, row_at, same_kind}
 use Rattle.call_types.specs.declared.entry.Entry.{Entry}
 use Rattle.call_types.specs.declared.request.Request.{Request}
 use Rattle.call_types.specs.declared.request.Request.TheVariants as requests
@@ -85,7 +85,8 @@ unfolding is_listed
 listed_in kind [] h = absurd (true≢false (sym h))
 listed_in kind (e ∷ mine) h = by e.told refl h (listed_in kind mine)
   where
-    by : (b : Bool) → e.told ≡ b → is_listed (if b then follow_on e.request e.reply kind (following_of mine kind) else following_of mine kind) ≡ true → (is_listed (following_of mine kind) ≡ true → WasListed kind mine) → WasListed kind (e ∷ mine)
+    by : (b : Bool) → e.told ≡ b → is_listed (if b then follow_on e.request e.reply kind (following_of mine kind) else following_of mine kind) ≡ true
+        → (is_listed (following_of mine kind) ≡ true → WasListed kind mine) → WasListed kind (e ∷ mine)
     by false told x rest = inr (rest x)
     by true told x rest = elim (step_listed kind e.request e.reply (following_of mine kind) x) [ inl list ↦ inl (told, list) | inr before ↦ inr (rest before) ]
 

@@ -1,10 +1,10 @@
 -- The next call of a claim's machine is allowed by its evidence; and it neither lists nor watches.
 use Rattle.std.proofs.Common.{◌≡◌, ℕ, List, false, Option, Some, refl, sym, ap}
 use Rattle.plain_data.specs.Pairs.{Pair}
-use Rattle.kube_types.specs.declared.uid.Uid.{Uid}
-use Rattle.kube_types.specs.declared.objects.DataId.{DataId}
-use Rattle.kube_types.specs.declared.objects.Class.{Class as ClassData}
-use Rattle.kube_types.specs.declared.objects.Claim.{Claim as ClaimData}
+use Rattle.kube_parts.specs.declared.uid.Uid.{Uid}
+use Rattle.kube_objects.specs.declared.objects.DataId.{DataId}
+use Rattle.kube_objects.specs.declared.objects.Class.{Class as ClassData}
+use Rattle.kube_objects.specs.declared.objects.Claim.{Claim as ClaimData}
 use Rattle.call_types.specs.declared.entry.Entry.{Entry}
 use Rattle.call_types.specs.declared.request.Request.{Request}
 use Rattle.call_types.specs.declared.request.SeatKind.TheVariants.{Ops}
@@ -39,7 +39,8 @@ asks c uid x labels mine kept = record {
   placed = kept.placed;
 }
 
-creates : (c : ClaimData) (uid : Uid) (x : ClassData) (id : DataId) (topology : Option (List ℕ × List ℕ)) (mine : List Entry) → MayCreateOver c uid x id topology mine → RowAllows seats.Ops mine (create_call c uid x id topology)
+creates : (c : ClaimData) (uid : Uid) (x : ClassData) (id : DataId) (topology : Option (List ℕ × List ℕ)) (mine : List Entry)
+    → MayCreateOver c uid x id topology mine → RowAllows seats.Ops mine (create_call c uid x id topology)
 creates c uid x id topology mine kept =
     let row : MayCreate mine (provisioned_volume c uid x id topology) = record {
       claim = c;
@@ -61,7 +62,8 @@ clears c uid mine kept =
     told_claim (λ o. IsWrittenAt (Some c.meta.version) c.meta.namespace c.meta.name o.meta × MayClearNode mine o (unselected c)) c mine kept.told
     (record { version = refl; placed = refl; named = refl }, row)
 
-step_row : (step : ProvisionStep) (c : ClaimData) (uid : Uid) (x : ClassData) (mine : List Entry) (request : Request) → ProvisionStepKeeps step c uid x mine → provision_call_at step c uid x ≡ Some request → RowAllows seats.Ops mine request
+step_row : (step : ProvisionStep) (c : ClaimData) (uid : Uid) (x : ClassData) (mine : List Entry) (request : Request)
+    → ProvisionStepKeeps step c uid x mine → provision_call_at step c uid x ≡ Some request → RowAllows seats.Ops mine request
 step_row (steps.Provisions labels) c uid x mine request kept e = answered mine (ask_call c uid x labels) request e (asks c uid x labels mine kept)
 step_row (steps.Creates id topology) c uid x mine request kept e = answered mine (create_call c uid x id topology) request e (creates c uid x id topology mine kept)
 step_row steps.ClearsNode c uid x mine request kept e = answered mine (clear_call c) request e (clears c uid mine kept)

@@ -3,16 +3,16 @@ use Rattle.std.proofs.Common.{◌≡◌, ◌∙◌, ℕ, List, Bool, true, false
 use Rattle.std.specs.Prelude.{is_some, not, ◌&&◌}
 use Rattle.std.proofs.lemmas.Bool.{and_parts}
 use Rattle.plain_data.specs.Pairs.{value_at}
-use Rattle.kube_types.specs.declared.uid.Uid.{Uid}
-use Rattle.kube_types.specs.declared.key.Key.{Key}
-use Rattle.kube_types.specs.declared.parts.Kind.TheVariants as kinds
-use Rattle.kube_types.specs.declared.objects.Class.{Class as ClassData}
-use Rattle.kube_types.specs.declared.objects.Claim.{Claim as ClaimData}
-use Rattle.kube_types.specs.declared.objects.Object.{Object}
-use Rattle.kube_types.specs.declared.objects.Object.TheVariants.{Class, Node, Volume, Claim, Pod}
-use Rattle.kube_types.specs.Bindings.{class_of_claim, selected_node}
-use Rattle.kube_types.specs.Keys.{kind_of, row_at, same_kind}
-use Rattle.kube_types.proofs.KeyOrder.{row_at_key}
+use Rattle.kube_parts.specs.declared.uid.Uid.{Uid}
+use Rattle.kube_objects.specs.declared.key.Key.{Key}
+use Rattle.kube_parts.specs.declared.parts.Kind.TheVariants as kinds
+use Rattle.kube_objects.specs.declared.objects.Class.{Class as ClassData}
+use Rattle.kube_objects.specs.declared.objects.Claim.{Claim as ClaimData}
+use Rattle.kube_objects.specs.declared.objects.Object.{Object}
+use Rattle.kube_objects.specs.declared.objects.Object.TheVariants.{Class, Node, Volume, Claim, Pod}
+use Rattle.kube_objects.specs.Bindings.{class_of_claim, selected_node}
+use Rattle.kube_objects.specs.Keys.{kind_of, row_at, same_kind}
+use Rattle.kube_objects.proofs.KeyOrder.{row_at_key}
 use Rattle.call_types.specs.declared.entry.Entry.{Entry}
 use Rattle.binder_model.specs.Matching.{has_match}
 use Rattle.binder_model.specs.ObjectKeys.{class_key, claim_key, node_key}
@@ -44,7 +44,8 @@ module _ (rows : List Object) (mine : List Entry) (shows : (key : Key) → row_a
   other_kind node o other at = true≢false (ap (λ (k : Key). same_kind k.kind kinds.Node) (sym (row_at_key (node_key node) o rows at)) ∙ other)
 
   module _ (c : ClaimData) (uid : Uid) (x : ClassData) (current : IsCurrent c uid x mine) (wanting : is_wanting c ≡ true) where
-    on_node : (node : List ℕ) (row : Option Object) → value_at selected_node c.meta.annotations ≡ Some node → provisions x ≡ true → x.delayed ≡ true → row_at (node_key node) rows ≡ row → ProvisionStepKeeps (node_step row) c uid x mine
+    on_node : (node : List ℕ) (row : Option Object) → value_at selected_node c.meta.annotations ≡ Some node → provisions x ≡ true → x.delayed ≡ true
+        → row_at (node_key node) rows ≡ row → ProvisionStepKeeps (node_step row) c uid x mine
     on_node node (Some (Node n)) selected real late at =
         let labels : AreLabels mine c true (Some n.meta.labels) = (node, selected, (n, (newest_row (node_key node) (Node n) at, refl))) in
         record { current = current; wanting = wanting; real = real; placed = subst (λ b. AreLabels mine c b (Some n.meta.labels)) (sym late) labels }
@@ -85,18 +86,21 @@ module _ (rows : List Object) (mine : List Entry) (shows : (key : Key) → row_a
   claim_keeps : (c : ClaimData) (op : ProvisionOp) → IsNewest mine (claim_key c.meta.namespace c.meta.name) (Claim c) → claim_for rows c ≡ Some op → ProvisionKeeps op mine
   claim_keeps c op newest_is = by (is_wanting c && not (has_match rows c)) c.meta.uid (row_at (class_key (class_of_claim c)) rows) refl refl refl
     where
-      by : (b : Bool) (u : Option Uid) (row : Option Object) → (is_wanting c && not (has_match rows c)) ≡ b → c.meta.uid ≡ u → row_at (class_key (class_of_claim c)) rows ≡ row → (if b then by_class rows c u row else None) ≡ Some op → ProvisionKeeps op mine
+      by : (b : Bool) (u : Option Uid) (row : Option Object) → (is_wanting c && not (has_match rows c)) ≡ b → c.meta.uid ≡ u
+          → row_at (class_key (class_of_claim c)) rows ≡ row → (if b then by_class rows c u row else None) ≡ Some op → ProvisionKeeps op mine
       by false u row on known at e = none_some e
       by true None row on known at e = none_some e
       by true (Some uid) (Some (Class x)) on known at e =
-          begun c uid x (record { known = known; newest = newest_is; class_newest = newest_row (class_key (class_of_claim c)) (Class x) at }) (and_parts (is_wanting c) (not (has_match rows c)) on).0 op e
+          begun c uid x (record { known = known; newest = newest_is; class_newest = newest_row (class_key (class_of_claim c)) (Class x) at })
+          (and_parts (is_wanting c) (not (has_match rows c)) on).0 op e
       by true (Some uid) None on known at e = none_some e
       by true (Some uid) (Some (Node o)) on known at e = none_some e
       by true (Some uid) (Some (Volume o)) on known at e = none_some e
       by true (Some uid) (Some (Claim o)) on known at e = none_some e
       by true (Some uid) (Some (Pod o)) on known at e = none_some e
 
-pub provision_decisions : (caches : AllKnown) (mine : List Entry) (key : Key) (op : ProvisionOp) → AllStandFor caches mine → MayDecide mine → claim_begins (all_objects caches) (row_at key (all_objects caches)) ≡ Some op → ProvisionKeeps op mine
+pub provision_decisions : (caches : AllKnown) (mine : List Entry) (key : Key) (op : ProvisionOp) → AllStandFor caches mine → MayDecide mine
+    → claim_begins (all_objects caches) (row_at key (all_objects caches)) ≡ Some op → ProvisionKeeps op mine
 provision_decisions caches mine key op stand may = by (row_at key (all_objects caches)) refl
   where
     own : (c : ClaimData) → row_at key (all_objects caches) ≡ Some (Claim c) → IsNewest mine (claim_key c.meta.namespace c.meta.name) (Claim c)

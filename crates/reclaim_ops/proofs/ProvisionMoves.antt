@@ -3,12 +3,12 @@ use Rattle.std.proofs.Common.{◌≡◌, ℕ, List, ◌∷◌, Bool, true, false
 use Rattle.std.specs.Prelude.{is_none, not}
 use Rattle.std.proofs.lemmas.Bool.{and_parts, not-true}
 use Rattle.plain_data.specs.Pairs.{Pair}
-use Rattle.kube_types.specs.declared.uid.Uid.{Uid}
-use Rattle.kube_types.specs.declared.objects.DataId.{DataId}
-use Rattle.kube_types.specs.declared.objects.Class.{Class as ClassData}
-use Rattle.kube_types.specs.declared.objects.Claim.{Claim as ClaimData}
-use Rattle.kube_types.specs.declared.objects.Object.TheVariants.{Class, Claim}
-use Rattle.kube_types.specs.Bindings.{class_of_claim, is_completed, is_deleting, is_empty}
+use Rattle.kube_parts.specs.declared.uid.Uid.{Uid}
+use Rattle.kube_objects.specs.declared.objects.DataId.{DataId}
+use Rattle.kube_objects.specs.declared.objects.Class.{Class as ClassData}
+use Rattle.kube_objects.specs.declared.objects.Claim.{Claim as ClaimData}
+use Rattle.kube_objects.specs.declared.objects.Object.TheVariants.{Class, Claim}
+use Rattle.kube_objects.specs.Bindings.{class_of_claim, is_completed, is_deleting, is_empty}
 use Rattle.call_types.specs.declared.entry.Entry.{Entry}
 use Rattle.call_types.specs.declared.reply.Refusal.TheVariants.{Exhausted}
 use Rattle.call_types.specs.declared.reply.Reply.{Reply}
@@ -34,7 +34,8 @@ wanting_undone c wanting =
     not-true (is_completed c) (and_parts (not (is_completed c)) (not (is_deleting c.meta)) staying.0).0
 
 -- the answer to the call for data
-module _ (c : ClaimData) (uid : Uid) (x : ClassData) (labels : Option (List Pair)) (mine : List Entry) (e : Entry) (kept : MayAsk c uid x labels mine) (asked : ask_call c uid x labels ≡ e.request) (told : e.told ≡ true) where
+module _ (c : ClaimData) (uid : Uid) (x : ClassData) (labels : Option (List Pair)) (mine : List Entry) (e : Entry)
+    (kept : MayAsk c uid x labels mine) (asked : ask_call c uid x labels ≡ e.request) (told : e.told ≡ true) where
   given : (id : DataId) (topology : Option (List ℕ × List ℕ)) → e.reply ≡ Provisioned id topology → MayCreateOver c uid x id topology (e ∷ mine)
   given id topology is =
       let gave : GaveData (data_name uid) id topology e.request e.reply =
@@ -75,7 +76,8 @@ module _ (c : ClaimData) (uid : Uid) (x : ClassData) (labels : Option (List Pair
 
 -- after a write nothing is left
 
-created : (id : DataId) (topology : Option (List ℕ × List ℕ)) (c : ClaimData) (uid : Uid) (x : ClassData) (reply : Reply) (mine : List Entry) → ProvisionStepKeeps (provision_step_after (steps.Creates id topology) x reply) c uid x mine
+created : (id : DataId) (topology : Option (List ℕ × List ℕ)) (c : ClaimData) (uid : Uid) (x : ClassData) (reply : Reply) (mine : List Entry)
+    → ProvisionStepKeeps (provision_step_after (steps.Creates id topology) x reply) c uid x mine
 created id topology c uid x (Refused r) mine = tt
 created id topology c uid x _ mine = tt
 
@@ -83,7 +85,8 @@ taken_back : (c : ClaimData) (uid : Uid) (x : ClassData) (reply : Reply) (mine :
 taken_back c uid x (Refused r) mine = tt
 taken_back c uid x _ mine = tt
 
-step_goes_on : (step : ProvisionStep) (c : ClaimData) (uid : Uid) (x : ClassData) (mine : List Entry) (e : Entry) → ProvisionStepKeeps step c uid x mine → provision_call_at step c uid x ≡ Some e.request → e.told ≡ true
+step_goes_on : (step : ProvisionStep) (c : ClaimData) (uid : Uid) (x : ClassData) (mine : List Entry) (e : Entry)
+    → ProvisionStepKeeps step c uid x mine → provision_call_at step c uid x ≡ Some e.request → e.told ≡ true
     → ProvisionStepKeeps (provision_step_after step x e.reply) c uid x (e ∷ mine)
 step_goes_on (steps.Provisions labels) c uid x mine e kept call told = asking c uid x labels mine e kept (one _ _ call) told e.reply refl
 step_goes_on (steps.Creates id topology) c uid x mine e kept call told = created id topology c uid x e.reply (e ∷ mine)
@@ -91,6 +94,7 @@ step_goes_on steps.ClearsNode c uid x mine e kept call told = taken_back c uid x
 step_goes_on steps.Done c uid x mine e kept call told = none_some call
 step_goes_on steps.Parked c uid x mine e kept call told = none_some call
 
-pub provision_goes_on : (op : ProvisionOp) (mine : List Entry) (e : Entry) → ProvisionKeeps op mine → provision_call op ≡ Some e.request → e.told ≡ true → ProvisionKeeps (provision_moved op e.reply) (e ∷ mine)
+pub provision_goes_on : (op : ProvisionOp) (mine : List Entry) (e : Entry) → ProvisionKeeps op mine → provision_call op ≡ Some e.request
+    → e.told ≡ true → ProvisionKeeps (provision_moved op e.reply) (e ∷ mine)
 unfolding provision_call provision_moved
 provision_goes_on op mine e kept call told = step_goes_on op.step op.claim op.uid op.class mine e kept call told

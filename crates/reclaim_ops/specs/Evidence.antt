@@ -2,17 +2,17 @@
 -- A choice of this project.
 use Rattle.std.specs.Prelude.{ℕ, ◌≡◌, true, false, List, Option, Some, None, ⊤}
 use Rattle.plain_data.specs.Pairs.{Pair, value_at}
-use Rattle.kube_types.specs.declared.uid.Uid.{Uid}
-use Rattle.kube_types.specs.declared.parts.Kind.{Kind}
-use Rattle.kube_types.specs.declared.parts.Kind.TheVariants as kinds
-use Rattle.kube_types.specs.declared.objects.DataId.{DataId}
-use Rattle.kube_types.specs.declared.objects.Class.{Class as ClassData}
-use Rattle.kube_types.specs.declared.objects.Claim.{Claim as ClaimData}
-use Rattle.kube_types.specs.declared.objects.Volume.{Volume as VolumeData}
-use Rattle.kube_types.specs.declared.objects.Object.TheVariants.{Class, Volume, Claim}
-use Rattle.kube_types.specs.Keys.{same_kind}
-use Rattle.kube_types.specs.Sources.{data_id_of}
-use Rattle.kube_types.specs.Bindings.{selected_node, class_of_claim, is_completed}
+use Rattle.kube_parts.specs.declared.uid.Uid.{Uid}
+use Rattle.kube_parts.specs.declared.parts.Kind.{Kind}
+use Rattle.kube_parts.specs.declared.parts.Kind.TheVariants as kinds
+use Rattle.kube_objects.specs.declared.objects.DataId.{DataId}
+use Rattle.kube_objects.specs.declared.objects.Class.{Class as ClassData}
+use Rattle.kube_objects.specs.declared.objects.Claim.{Claim as ClaimData}
+use Rattle.kube_objects.specs.declared.objects.Volume.{Volume as VolumeData}
+use Rattle.kube_objects.specs.declared.objects.Object.TheVariants.{Class, Volume, Claim}
+use Rattle.kube_objects.specs.Keys.{same_kind}
+use Rattle.kube_objects.specs.Sources.{data_id_of}
+use Rattle.kube_objects.specs.Bindings.{selected_node, class_of_claim, is_completed}
 use Rattle.call_types.specs.declared.entry.Entry.{Entry}
 use Rattle.call_types.specs.declared.request.Request.{Request}
 use Rattle.call_types.specs.declared.request.Request.TheVariants as requests

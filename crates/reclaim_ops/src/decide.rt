@@ -1,9 +1,9 @@
 //! What begins on a key, on a look-up alone.
 
 ghost use Rattle.std.specs.Prelude.{◌≡◌, IfOk, Some};
-ghost use Rattle.kube_types.specs.declared.objects.Object.TheVariants as objects;
-ghost use Rattle.kube_types.specs.Bindings.{class_of_claim};
-ghost use Rattle.kube_types.specs.Keys.{row_at};
+ghost use Rattle.kube_objects.specs.declared.objects.Object.TheVariants as objects;
+ghost use Rattle.kube_objects.specs.Bindings.{class_of_claim};
+ghost use Rattle.kube_objects.specs.Keys.{row_at};
 ghost use Rattle.binder_model.specs.Matching.{has_match};
 ghost use Rattle.binder_model.specs.ObjectKeys.{class_key, node_key};
 ghost use Rattle.binder_model.specs.Provisioning.{is_wanting, provisions};

@@ -1,7 +1,7 @@
 //! What of reclaiming is due for a volume.
 
 ghost use Rattle.std.specs.Prelude.{◌≡◌, is_some};
-ghost use Rattle.kube_types.specs.Bindings.{is_delete, ref_uid};
+ghost use Rattle.kube_objects.specs.Bindings.{is_delete, ref_uid};
 ghost use Rattle.binder_model.specs.Due.{reclaim_due};
 
 use kube_types::bindings::{is_deleting, is_ended};

@@ -2,7 +2,7 @@
 
 ghost use Rattle.std.specs.Prelude.{◌≡◌, [], IfOk};
 ghost use Rattle.plain_data.specs.Pairs.{put_pair};
-ghost use Rattle.kube_types.specs.Bindings.{bound_by_controller, provisioned_by, yes};
+ghost use Rattle.kube_objects.specs.Bindings.{bound_by_controller, provisioned_by, yes};
 ghost use Rattle.binder_model.specs.Provisioning.{data_name, provisioned_meta, provisioned_volume, terms_for};
 ghost use Rattle.reclaim_ops.specs.Steps.Volumes.{csi_source, label_expr};
 

@@ -2,7 +2,7 @@
 -- beside what they do not come to. The newest entry stands first.
 -- A choice of this project, as the front before a world is.
 use Rattle.std.specs.Prelude.{ℕ, ⊤, [], ◌∷◌, true, false, Some, None}
-use Rattle.kube_types.specs.declared.parts.Kind.TheVariants as kinds
+use Rattle.kube_parts.specs.declared.parts.Kind.TheVariants as kinds
 use Rattle.call_types.specs.declared.entry.Entry.{Entry}
 use Rattle.call_types.specs.declared.request.Request.{Request}
 use Rattle.call_types.specs.declared.request.SeatKind.TheVariants.{Binder, Ops}

@@ -1,7 +1,7 @@
 //! Names, ids and keys.
 
 ghost use Rattle.std.specs.Prelude.{◌≡◌, ◌<◌, ◌++◌, IfOk, decimal};
-ghost use Rattle.kube_types.specs.Uids.{uid_of_serial};
+ghost use Rattle.kube_parts.specs.Uids.{uid_of_serial};
 ghost use Rattle.sample_objects.specs.Samples.{claim_key, data_name, pod_key, volume_key};
 
 use kube_types::copies::OutOfMemory;

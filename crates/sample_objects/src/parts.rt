@@ -2,7 +2,7 @@
 
 ghost use Rattle.std.specs.Prelude.{◌≡◌, ◌∷◌, ◌++◌, [], IfOk, OnOk, true};
 ghost use Rattle.plain_data.specs.Pairs.{put_pair};
-ghost use Rattle.kube_types.specs.Bindings.{is_deleting};
+ghost use Rattle.kube_objects.specs.Bindings.{is_deleting};
 ghost use Rattle.sample_objects.specs.Samples.{IsStamped, folder, reference_to, zone_labels};
 
 use crate::keys::NAMESPACE;

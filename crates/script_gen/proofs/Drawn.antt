@@ -1,7 +1,7 @@
 -- The lines that draws give.
 use Rattle.std.proofs.Common.{◌≡◌, ℕ, ◌==◌, ◌+◌, ◌*◌, codes, refl, ◌∙◌}
 use Rattle.std.specs.Prelude.{None}
-use Rattle.kube_types.specs.declared.objects.Object.TheVariants.{Volume, Claim}
+use Rattle.kube_objects.specs.declared.objects.Object.TheVariants.{Volume, Claim}
 use Rattle.call_types.specs.declared.request.Request.TheVariants.{Delete}
 use Rattle.script_text.specs.declared.script.Line.TheVariants.{Call}
 use Rattle.script_gen.specs.Draws.{draw}

@@ -1,8 +1,8 @@
 -- The script that a seed gives, line by line: which objects it creates, and with which draws.
 -- A choice of this project: a script of many objects to be tried and timed.
 use Rattle.std.specs.Prelude.{ℕ, zero, suc, ◌==◌, ◌+◌, ◌*◌, List, [], ◌∷◌, ◌++◌, true, false, if◌then◌else◌, None, codes}
-use Rattle.kube_types.specs.declared.objects.Object.{Object}
-use Rattle.kube_types.specs.declared.objects.Object.TheVariants.{Class, Node, Volume, Claim, Pod}
+use Rattle.kube_objects.specs.declared.objects.Object.{Object}
+use Rattle.kube_objects.specs.declared.objects.Object.TheVariants.{Class, Node, Volume, Claim, Pod}
 use Rattle.call_types.specs.declared.request.Request.TheVariants.{Create, Delete}
 use Rattle.script_text.specs.declared.script.Line.{Line}
 use Rattle.script_text.specs.declared.script.Line.TheVariants.{Call, Drain}

@@ -1,21 +1,21 @@
 -- The objects of a generated script, as their manifests give them.
 -- Source: Kubernetes API, the members of each kind. Names, sizes and numbers of objects are choices of this project.
 use Rattle.std.specs.Prelude.{ℕ, ◌*◌, List, [], ◌∷◌, ◌++◌, Bool, true, false, Some, None, codes, decimal}
-use Rattle.kube_types.specs.declared.key.Key.{Key}
-use Rattle.kube_types.specs.declared.parts.Kind.TheVariants as kinds
-use Rattle.kube_types.specs.declared.parts.Modes.{Modes}
-use Rattle.kube_types.specs.declared.parts.Policy.TheVariants as policies
-use Rattle.kube_types.specs.declared.parts.SourceKind.TheVariants as sources
-use Rattle.kube_types.specs.declared.parts.VolumePhase.TheVariants as volume_phases
-use Rattle.kube_types.specs.declared.parts.ClaimPhase.TheVariants as claim_phases
-use Rattle.kube_types.specs.declared.objects.Meta.{Meta}
-use Rattle.kube_types.specs.declared.objects.Amount.{Amount}
-use Rattle.kube_types.specs.declared.objects.Source.{Source}
-use Rattle.kube_types.specs.declared.objects.Class.{Class}
-use Rattle.kube_types.specs.declared.objects.Node.{Node}
-use Rattle.kube_types.specs.declared.objects.Volume.{Volume}
-use Rattle.kube_types.specs.declared.objects.Claim.{Claim}
-use Rattle.kube_types.specs.declared.objects.Pod.{Pod}
+use Rattle.kube_objects.specs.declared.key.Key.{Key}
+use Rattle.kube_parts.specs.declared.parts.Kind.TheVariants as kinds
+use Rattle.kube_parts.specs.declared.parts.Modes.{Modes}
+use Rattle.kube_parts.specs.declared.parts.Policy.TheVariants as policies
+use Rattle.kube_parts.specs.declared.parts.SourceKind.TheVariants as sources
+use Rattle.kube_parts.specs.declared.parts.VolumePhase.TheVariants as volume_phases
+use Rattle.kube_parts.specs.declared.parts.ClaimPhase.TheVariants as claim_phases
+use Rattle.kube_objects.specs.declared.objects.Meta.{Meta}
+use Rattle.kube_objects.specs.declared.objects.Amount.{Amount}
+use Rattle.kube_objects.specs.declared.objects.Source.{Source}
+use Rattle.kube_objects.specs.declared.objects.Class.{Class}
+use Rattle.kube_objects.specs.declared.objects.Node.{Node}
+use Rattle.kube_objects.specs.declared.objects.Volume.{Volume}
+use Rattle.kube_objects.specs.declared.objects.Claim.{Claim}
+use Rattle.kube_objects.specs.declared.objects.Pod.{Pod}
 use Rattle.call_types.specs.declared.setup.Pool.{Pool}
 
 -- a letter and a number

@@ -1,7 +1,7 @@
 //! The lines of a generated script.
 
 ghost use Rattle.std.specs.Prelude.{◌≡◌, ◌+◌, ◌*◌, ◌<◌, [], ◌∷◌, ◌++◌, IfOk, OnOk};
-ghost use Rattle.kube_types.specs.declared.objects.Object.TheVariants as objects;
+ghost use Rattle.kube_objects.specs.declared.objects.Object.TheVariants as objects;
 ghost use Rattle.script_text.specs.declared.script.Line.TheVariants as lines;
 ghost use Rattle.script_gen.specs.Objects.{class_named, zoned_node};
 ghost use Rattle.script_gen.specs.Generated.{creates, volume_line, class_drawn, claim_line, late_claim_line, pod_line, delete_line, class_lines, node_lines, volume_lines, claim_lines, pod_lines, delete_lines, generated_lines};

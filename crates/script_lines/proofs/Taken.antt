@@ -4,8 +4,8 @@ use Rattle.object_text.specs.declared.errors.ObjectError.{ObjectError}
 use Rattle.object_text.specs.declared.errors.ObjectError.TheVariants as objects
 use Rattle.object_text.specs.Answers as manifests
 use Rattle.script_lines.specs.Answers.{taken_in_line, line_error, MemberFails}
-use Rattle.kube_types.specs.declared.objects.Object.{Object}
-use Rattle.kube_types.specs.declared.objects.Amount.{Amount}
+use Rattle.kube_objects.specs.declared.objects.Object.{Object}
+use Rattle.kube_objects.specs.declared.objects.Amount.{Amount}
 use Rattle.script_lines.specs.Members.{object_taken, size_taken}
 use Rattle.script_lines.specs.Steps.Results.{object_line_error, size_line_error}
 

@@ -1,6 +1,6 @@
 -- The names of actors. A choice of this project.
 use Rattle.std.specs.Prelude.{ℕ, List, [], ◌∷◌, ◌++◌, Option, Some, None, codes, option_map}
-use Rattle.kube_types.specs.Named.{value_named}
+use Rattle.kube_parts.specs.Named.{value_named}
 use Rattle.plain_data.specs.Pairs.{Pair, put_pair, value_at}
 use Rattle.script_lines.specs.declared.actors.WorkerKind.{WorkerKind}
 use Rattle.script_lines.specs.declared.actors.WorkerKind.TheVariants.{Binder, Ops, Scheduler, Claims, Volumes}

@@ -1,7 +1,7 @@
 -- Why an object of an older store is refused, as a line of a script says it: by the member that is at fault. A field of the object
 -- that is invalid stands by its own name. The words are a choice of this project.
-use Rattle.kube_types.specs.declared.names.ImportFault.{ImportFault}
-use Rattle.kube_types.specs.declared.names.ImportFault.TheVariants as faults
+use Rattle.kube_parts.specs.declared.names.ImportFault.{ImportFault}
+use Rattle.kube_parts.specs.declared.names.ImportFault.TheVariants as faults
 use Rattle.object_text.specs.declared.errors.Member.TheVariants as manifests
 use Rattle.script_lines.specs.declared.line_member.LineMember.TheVariants.{Of, Field}
 use Rattle.script_lines.specs.declared.errors.Reason.{Reason}

@@ -1,6 +1,6 @@
 -- The names of the members of lines. A choice of this project; those of manifests are the Kubernetes API's.
 use Rattle.std.specs.Prelude.{ℕ, List, codes}
-use Rattle.kube_types.specs.Words.{field_word}
+use Rattle.kube_parts.specs.Words.{field_word}
 use Rattle.object_text.specs.MemberWords.{member_word}
 use Rattle.script_lines.specs.declared.line_member.LineMember.{LineMember}
 use Rattle.script_lines.specs.declared.line_member.LineMember.TheVariants as members

@@ -8,14 +8,14 @@ use Rattle.serde_json.specs.Find.{get}
 use Rattle.serde_json.specs.Written.{has_float}
 use Rattle.json_text.specs.Look.{unless_null}
 use Rattle.plain_data.specs.Pairs.{Pair}
-use Rattle.kube_types.specs.Named.{kind_named, policy_named}
-use Rattle.kube_types.specs.declared.parts.Kind.{Kind}
-use Rattle.kube_types.specs.declared.parts.Kind.TheVariants as kinds
-use Rattle.kube_types.specs.declared.parts.Policy.{Policy}
-use Rattle.kube_types.specs.declared.key.Key.{Key}
-use Rattle.kube_types.specs.declared.objects.Object.{Object}
-use Rattle.kube_types.specs.declared.uid.Uid.{Uid}
-use Rattle.kube_types.specs.declared.objects.Amount.{Amount}
+use Rattle.kube_parts.specs.Named.{kind_named, policy_named}
+use Rattle.kube_parts.specs.declared.parts.Kind.{Kind}
+use Rattle.kube_parts.specs.declared.parts.Kind.TheVariants as kinds
+use Rattle.kube_parts.specs.declared.parts.Policy.{Policy}
+use Rattle.kube_objects.specs.declared.key.Key.{Key}
+use Rattle.kube_objects.specs.declared.objects.Object.{Object}
+use Rattle.kube_parts.specs.declared.uid.Uid.{Uid}
+use Rattle.kube_objects.specs.declared.objects.Amount.{Amount}
 use Rattle.call_types.specs.declared.edit.Edit.{Edit}
 use Rattle.call_types.specs.declared.edit.Edit.TheVariants as edits
 use Rattle.object_text.specs.declared.errors.Member.TheVariants as manifests
@@ -29,7 +29,18 @@ use Rattle.script_lines.specs.declared.actors.Actor.{Actor}
 use Rattle.script_lines.specs.declared.line_member.LineMember.{LineMember}
 use Rattle.script_lines.specs.declared.line_member.LineMember.TheVariants as members
 use Rattle.script_lines.specs.declared.edit_members.EditMember.{EditMember}
-use Rattle.script_lines.specs.declared.edit_members.EditMember.TheVariants.{AddFinalizer, DropFinalizer, DropLabel, DropAnnotation, SetLabel, SetAnnotation, SetVolumeName, SetPolicy, SetClaimRef, ClearClaimRef}
+use Rattle.script_lines.specs.declared.edit_members.EditMember.TheVariants.{
+  AddFinalizer,
+  DropFinalizer,
+  DropLabel,
+  DropAnnotation,
+  SetLabel,
+  SetAnnotation,
+  SetVolumeName,
+  SetPolicy,
+  SetClaimRef,
+  ClearClaimRef,
+}
 use Rattle.script_lines.specs.declared.errors.Reason.{Reason}
 use Rattle.script_lines.specs.declared.errors.Reason.TheVariants.{Missing, WrongType, UnknownKind, BadQuantity, NotWhole, BadValue}
 use Rattle.script_lines.specs.Answers.{◌>>=◌, reason_of, taken_in_line, unless}

@@ -1,6 +1,6 @@
 -- The words of lines. A choice of this project.
 use Rattle.std.specs.Prelude.{ℕ, List, [], ◌∷◌, Option, codes}
-use Rattle.kube_types.specs.Named.{value_named}
+use Rattle.kube_parts.specs.Named.{value_named}
 use Rattle.script_lines.specs.declared.verbs.Verb.{Verb}
 use Rattle.script_lines.specs.declared.verbs.Verb.TheVariants.{Create, Update, Edit, Delete, Get, List as ListAll, Time, Pool, Fault, Import, Lose, Restart, Turn, Drain}
 

@@ -2,7 +2,7 @@
 
 ghost use Rattle.std.specs.Prelude.{◌≡◌, IfOk};
 ghost use Rattle.script_lines.specs.Actors.{all_workers, worker_word, agent_word, actor_word, actor_named};
-ghost use Rattle.kube_types.specs.Named.{value_named};
+ghost use Rattle.kube_parts.specs.Named.{value_named};
 
 use kube_types::copies::{OutOfMemory, Plain};
 use kube_types::pairs::Pairs;

@@ -4,7 +4,7 @@ ghost use Rattle.std.specs.Prelude.{◌≡◌, option_map, filter};
 ghost use Rattle.object_text.specs.declared.errors.Member.TheVariants as manifests;
 ghost use Rattle.script_lines.specs.declared.line_member.LineMember.TheVariants as members;
 ghost use Rattle.serde_json.specs.View.{view};
-ghost use Rattle.kube_types.specs.Named.{policy_named};
+ghost use Rattle.kube_parts.specs.Named.{policy_named};
 ghost use Rattle.script_lines.specs.Answers.{MemberGives};
 ghost use Rattle.script_lines.specs.Members.{edit_member, stands, the_one, edit_member_at, two_texts_in, policy_from, cleared, edit_of, edit_from, edit_at};
 

@@ -2,7 +2,7 @@
 
 ghost use Rattle.std.specs.Prelude.{◌≡◌, option_map};
 ghost use Rattle.serde_json.specs.View.{view};
-ghost use Rattle.kube_types.specs.Named.{kind_named};
+ghost use Rattle.kube_parts.specs.Named.{kind_named};
 ghost use Rattle.object_text.specs.PartReaders.{amount_in};
 ghost use Rattle.object_text.specs.Listing.{item_of};
 ghost use Rattle.object_text.specs.declared.errors.Member.TheVariants as manifests;

@@ -2,7 +2,7 @@
 use Rattle.std.proofs.Common.{◌≡◌, ℕ, List, [], ◌∷◌, codes, refl}
 use Rattle.serde_json.specs.Data.{no_members}
 use Rattle.call_types.specs.declared.setup.Pool.{Pool}
-use Rattle.kube_types.specs.declared.objects.Object.{Object}
+use Rattle.kube_objects.specs.declared.objects.Object.{Object}
 use Rattle.json_text.specs.Members.{text, whole, with_options, with_member_text}
 use Rattle.json_text.specs.Writing.{Writing, closed, opened, with_all, with_value, with_texts}
 use Rattle.json_text.proofs.Closing.{closes}

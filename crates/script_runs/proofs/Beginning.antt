@@ -25,7 +25,25 @@ use Rattle.actor_turns.specs.Steps.Living.{Lives}
 use Rattle.worker_core.specs.declared.role.Role.{Role}
 use Rattle.actor_turns.specs.Steps.Playing.{EachPlayer, IsNewPlayer, Plays}
 use Rattle.script_runs.specs.Steps.Settled.{IsNoted}
-use Rattle.script_runs.specs.Steps.Standing.{AreNewPlayers, EachWithRole, Ended, HasAdded, HasMoved, IsBudget, SoFar, StageStands, actors_for, agents_for, end_of, part_from, parts_from, parts_in, seat_past, with_made, workers_of}
+use Rattle.script_runs.specs.Steps.Standing.{
+  AreNewPlayers,
+  EachWithRole,
+  Ended,
+  HasAdded,
+  HasMoved,
+  IsBudget,
+  SoFar,
+  StageStands,
+  actors_for,
+  agents_for,
+  end_of,
+  part_from,
+  parts_from,
+  parts_in,
+  seat_past,
+  with_made,
+  workers_of,
+}
 use Rattle.actor_turns.proofs.Lived.{new_lives}
 use Rattle.actor_turns.proofs.Turning.{new_plays}
 use Rattle.actor_rounds.proofs.Resting.{new_rest}
@@ -61,17 +79,20 @@ parts_new lines (actor ∷ actors) first (x ∷ xs) new =
 each_new : (lines : List Line) (actors : List Actor) (first : ℕ) (xs : List Player) → AreNewPlayers lines actors first xs → EachWithRole IsNewPlayer actors xs
 each_new lines [] first xs new place actor x there at = none_some there
 each_new lines (a ∷ actors) first [] new place actor x there at = absurd new
-each_new lines (a ∷ actors) first (y ∷ xs) new zero actor x there at = subst (λ (z : Player). IsNewPlayer (role_of actor) z) (one y x at) (subst (λ (b : Actor). IsNewPlayer (role_of b) y) (one a actor there) new.1)
+each_new lines (a ∷ actors) first (y ∷ xs) new zero actor x there at =
+    subst (λ (z : Player). IsNewPlayer (role_of actor) z) (one y x at) (subst (λ (b : Actor). IsNewPlayer (role_of b) y) (one a actor there) new.1)
 each_new lines (a ∷ actors) first (y ∷ xs) new (suc place) actor x there at = each_new lines actors (end_of (part_from lines a first)) xs new.2 place actor x there at
 
 -- each player is one of some actor
-some_actor : (lines : List Line) (actors : List Actor) (first : ℕ) (xs : List Player) → AreNewPlayers lines actors first xs → (place : ℕ) (x : Player) → slice_get xs place ≡ Some x → (role : Role) × IsNewPlayer role x
+some_actor : (lines : List Line) (actors : List Actor) (first : ℕ) (xs : List Player) → AreNewPlayers lines actors first xs
+    → (place : ℕ) (x : Player) → slice_get xs place ≡ Some x → (role : Role) × IsNewPlayer role x
 some_actor lines [] first xs new place x at = none_some (ap (λ (ys : List Player). slice_get ys place) (sym new) ∙ at)
 some_actor lines (a ∷ actors) first [] new place x at = absurd new
 some_actor lines (a ∷ actors) first (y ∷ xs) new zero x at = (role_of a, subst (IsNewPlayer (role_of a)) (one y x at) new.1)
 some_actor lines (a ∷ actors) first (y ∷ xs) new (suc place) x at = some_actor lines actors (end_of (part_from lines a first)) xs new.2 place x at
 
-both_new : (lines : List Line) (ones others : List Actor) (first : ℕ) (xs ys : List Player) → AreNewPlayers lines ones first xs → AreNewPlayers lines others (seat_past lines ones first) ys → AreNewPlayers lines (ones ++ others) first (xs ++ ys)
+both_new : (lines : List Line) (ones others : List Actor) (first : ℕ) (xs ys : List Player) → AreNewPlayers lines ones first xs
+    → AreNewPlayers lines others (seat_past lines ones first) ys → AreNewPlayers lines (ones ++ others) first (xs ++ ys)
 both_new lines [] others first xs ys a b = subst (λ (zs : List Player). AreNewPlayers lines others first (zs ++ ys)) (sym a) b
 both_new lines (actor ∷ ones) others first [] ys a b = absurd a
 both_new lines (actor ∷ ones) others first (x ∷ xs) ys a b = (a.0, a.1, both_new lines ones others (end_of (part_from lines actor first)) xs ys a.2 b)
@@ -81,7 +102,8 @@ past_more lines [] others first = refl
 past_more lines (actor ∷ ones) others first = past_more lines ones others (end_of (part_from lines actor first))
 
 -- players of some actors, and then of others
-pub added_then : (lines : List Line) (ones others : List Actor) (first middle next : ℕ) (before between after : List Player) → HasAdded lines ones first middle before between → HasAdded lines others middle next between after → HasAdded lines (ones ++ others) first next before after
+pub added_then : (lines : List Line) (ones others : List Actor) (first middle next : ℕ) (before between after : List Player)
+    → HasAdded lines ones first middle before between → HasAdded lines others middle next between after → HasAdded lines (ones ++ others) first next before after
 added_then lines ones others first middle next before between after a b = record {
   added = a.added ++ b.added;
   are = b.are ∙ ap (λ xs. xs ++ b.added) a.are ∙ append_assoc before a.added b.added;
@@ -92,24 +114,30 @@ added_then lines ones others first middle next before between after a b = record
 pub none_added : (lines : List Line) (first : ℕ) (players : List Player) → HasAdded lines [] first first players players
 none_added lines first players = record { added = []; are = sym (append-nil players); new = refl; seat = refl }
 
-pub one_added : (lines : List Line) (actor : Actor) (first next : ℕ) (x : Player) (before after : List Player) → x.part ≡ part_from lines actor first → IsNewPlayer (role_of actor) x → next ≡ end_of x.part → after ≡ before ++ x ∷ [] → HasAdded lines (actor ∷ []) first next before after
+pub one_added : (lines : List Line) (actor : Actor) (first next : ℕ) (x : Player) (before after : List Player) → x.part ≡ part_from lines actor first
+    → IsNewPlayer (role_of actor) x → next ≡ end_of x.part → after ≡ before ++ x ∷ [] → HasAdded lines (actor ∷ []) first next before after
 one_added lines actor first next x before after part new ends is = record { added = x ∷ []; are = is; new = (part, new, refl); seat = ends ∙ ap end_of part }
 
 -- one more, and then those that are left
-pub added_next : {X : Type 0} (lines : List Line) (actor_of : X → Actor) (items : List X) (index : ℕ) (item : X) (seat next end : ℕ) (before between after : List Player) → slice_get items index ≡ Some item
-    → HasAdded lines (actor_of item ∷ []) seat next before between → HasAdded lines (map actor_of (drop (index + 1) items)) next end between after → HasAdded lines (map actor_of (drop index items)) seat end before after
+pub added_next : {X : Type 0} (lines : List Line) (actor_of : X → Actor) (items : List X) (index : ℕ) (item : X) (seat next end : ℕ)
+    (before between after : List Player) → slice_get items index ≡ Some item
+    → HasAdded lines (actor_of item ∷ []) seat next before between → HasAdded lines (map actor_of (drop (index + 1) items)) next end between after
+    → HasAdded lines (map actor_of (drop index items)) seat end before after
 added_next lines actor_of items index item seat next end before between after here first rest =
-    subst (λ xs. HasAdded lines (map actor_of xs) seat end before after) (sym (drop_at items index item here)) (added_then lines (actor_of item ∷ []) (map actor_of (drop (index + 1) items)) seat next end before between after first rest)
+    subst (λ xs. HasAdded lines (map actor_of xs) seat end before after) (sym (drop_at items index item here))
+    (added_then lines (actor_of item ∷ []) (map actor_of (drop (index + 1) items)) seat next end before between after first rest)
 
 -- none is left
 pub all_added : {X : Type 0} (lines : List Line) (actor_of : X → Actor) (items : List X) (index seat first : ℕ) (initial now : List Player) → length items ≤ index
-    → ((end : ℕ) (after : List Player) → HasAdded lines (map actor_of (drop index items)) seat end now after → HasAdded lines (map actor_of items) first end initial after) → HasAdded lines (map actor_of items) first seat initial now
+    → ((end : ℕ) (after : List Player) → HasAdded lines (map actor_of (drop index items)) seat end now after
+    → HasAdded lines (map actor_of items) first end initial after) → HasAdded lines (map actor_of items) first seat initial now
 all_added lines actor_of items index seat first initial now over goes =
     goes seat now (subst (λ xs. HasAdded lines (map actor_of xs) seat seat now now) (sym (drop_all index items over)) (none_added lines seat now))
 
 -- the workers of all kinds and the agents, added after each other
 pub actors_added : (lines : List Line) (nodes : List (List ℕ)) (second third fourth fifth sixth end : ℕ) (none ones two three four five items : List Player) → none ≡ []
-    → HasAdded lines (workers_of workers.Binder) first_actor_seat second none ones → HasAdded lines (workers_of workers.Ops) second third ones two → HasAdded lines (workers_of workers.Scheduler) third fourth two three
+    → HasAdded lines (workers_of workers.Binder) first_actor_seat second none ones → HasAdded lines (workers_of workers.Ops) second third ones two
+    → HasAdded lines (workers_of workers.Scheduler) third fourth two three
     → HasAdded lines (workers_of workers.Claims) fourth fifth three four → HasAdded lines (workers_of workers.Volumes) fifth sixth four five → HasAdded lines (agents_for nodes) sixth end five items
     → HasAdded lines (actors_for nodes) first_actor_seat end [] items
 unfolding actors_for
@@ -125,8 +153,11 @@ actors_added lines nodes second third fourth fifth sixth end none ones two three
     subst (λ xs. HasAdded lines (workers_of workers.Binder ++ of_ops) first_actor_seat end xs items) is_none
     (added_then lines (workers_of workers.Binder) of_ops first_actor_seat second end none ones items binders with_ops)
 
-pub begins : (script : Script) (option : Option ℕ) (s : Stage) (first : ℕ) → s.world.past ≡ [] → s.world.setup ≡ script.setup → HasAdded script.lines (actors_for script.node_names) first_actor_seat first [] s.players.items
-    → AreNew first script.node_names s.drainers → first ≡ drain_seat script → ((past : List Entry) → HaveNoEntries (seats_of s.drainers) past → AreStanding s.drainers past) → s.drained ≡ 0 → s.budget ≡ first_budget option → s.settled ≡ None → StageStands script option (first_progress option) s
+pub begins : (script : Script) (option : Option ℕ) (s : Stage) (first : ℕ) → s.world.past ≡ [] → s.world.setup ≡ script.setup
+    → HasAdded script.lines (actors_for script.node_names) first_actor_seat first [] s.players.items
+    → AreNew first script.node_names s.drainers → first ≡ drain_seat script
+    → ((past : List Entry) → HaveNoEntries (seats_of s.drainers) past → AreStanding s.drainers past) → s.drained ≡ 0
+    → s.budget ≡ first_budget option → s.settled ≡ None → StageStands script option (first_progress option) s
 begins script option s first past setup added are seat stand drained budget unsettled =
     let lines = script.lines in
     let actors = actors_for script.node_names in
@@ -137,7 +168,8 @@ begins script option s first past setup added are seat stand drained budget unse
       setup = setup;
       parts = parts_new lines actors first_actor_seat items new;
       plays = λ place x at named. let some = some_actor lines actors first_actor_seat items new place x at in subst (λ h. Plays x h (λ seat. [])) (sym past) (new_plays some.0 x some.1);
-      lives = λ place actor x there at named. subst (λ h. Lives (role_of actor) x h (λ seat. [])) (sym past) (new_lives (role_of actor) x (each_new lines actors first_actor_seat items new place actor x there at));
+      lives = λ place actor x there at named. subst (λ h. Lives (role_of actor) x h (λ seat. [])) (sym past)
+          (new_lives (role_of actor) x (each_new lines actors first_actor_seat items new place actor x there at));
       made = λ place x at. (some_actor lines actors first_actor_seat items new place x at).1.made;
       held = λ place x at. (some_actor lines actors first_actor_seat items new place x at).1.held;
       drainers = subst (AreStanding s.drainers) (sym past) (stand [] (none_yet (seats_of s.drainers)));
@@ -161,7 +193,8 @@ new_made lines actors first next players added place x at =
 pub so_far_first : (script : Script) (option : Option ℕ) (s : Stage) → StageStands script option (first_progress option) s → SoFar script option 0 s
 so_far_first script option s stands = record { progress = first_progress option; stands = stands; moves = λ end rest. rest }
 
-pub so_far_on : (script : Script) (option : Option ℕ) (place : ℕ) (line : Line) (old new : Stage) → slice_get script.lines place ≡ Some line → SoFar script option place old → HasMoved script option (IsMove script option line) old new → SoFar script option (place + 1) new
+pub so_far_on : (script : Script) (option : Option ℕ) (place : ℕ) (line : Line) (old new : Stage) → slice_get script.lines place ≡ Some line
+    → SoFar script option place old → HasMoved script option (IsMove script option line) old new → SoFar script option (place + 1) new
 so_far_on script option place line old new at so moved =
     let leads = moved so.progress so.stands in
     record {
@@ -172,15 +205,22 @@ so_far_on script option place line old new at so moved =
 
 -- ---- the end
 
-ends_as : (script : Script) (option : Option ℕ) (after : Progress) (s : Stage) (d : Drained) → StageStands script option after s → made_of d ≤ s.drained → EndsWith s.world.setup s.world.past (s.budget - (s.drained - made_of d)) d → EndsAs script.setup after (with_made s.drained d)
-ends_as script option after s (Settled made) stands some ends = (stands.drained, subst (λ h. IsSettled script.setup (world script.setup h)) stands.past (subst (λ u. IsSettled u (world u s.world.past)) stands.setup ends))
+ends_as : (script : Script) (option : Option ℕ) (after : Progress) (s : Stage) (d : Drained) → StageStands script option after s
+    → made_of d ≤ s.drained → EndsWith s.world.setup s.world.past (s.budget - (s.drained - made_of d)) d → EndsAs script.setup after (with_made s.drained d)
+ends_as script option after s (Settled made) stands some ends =
+    (stands.drained, subst (λ h. IsSettled script.setup (world script.setup h)) stands.past (subst (λ u. IsSettled u (world u s.world.past)) stands.setup ends))
 ends_as script option after s (Spent made key due) stands some ends =
     let spent = ends.0 in
     let few = stands.few in
-    let budget = stands.budget in
-    (stands.drained, omega (arith, spent, some, few, budget), subst (λ h. IsFirstDue script.setup (world script.setup h) (Some (key, due))) stands.past (subst (λ u. IsFirstDue u (world u s.world.past) (Some (key, due))) stands.setup ends.1))
+    let budget = stands.budget in (
+      stands.drained,
+      omega (arith, spent, some, few, budget),
+      subst (λ h. IsFirstDue script.setup (world script.setup h) (Some (key, due))) stands.past (subst (λ u. IsFirstDue u (world u s.world.past) (Some (key, due))) stands.setup ends.1),
+    )
 
-pub has_ended : (script : Script) (option : Option ℕ) (old new : Stage) (d ending : Drained) → HasMoved script option (IsDrain all_pass script option) old new → made_of d ≤ new.drained → EndsWith new.world.setup new.world.past (new.budget - (new.drained - made_of d)) d → ending ≡ with_made new.drained d
+pub has_ended : (script : Script) (option : Option ℕ) (old new : Stage) (d ending : Drained)
+    → HasMoved script option (IsDrain all_pass script option) old new → made_of d ≤ new.drained
+    → EndsWith new.world.setup new.world.past (new.budget - (new.drained - made_of d)) d → ending ≡ with_made new.drained d
     → (p : Progress) → StageStands script option p old → Ended script option p new ending
 has_ended script option old new d ending moved some ends is p stands =
     let leads = moved p stands in
@@ -191,7 +231,9 @@ has_ended script option old new d ending moved some ends is p stands =
       ends = subst (EndsAs script.setup leads.after) (sym is) (ends_as script option leads.after new d leads.stands some ends);
     }
 
-pub replays : (script : Script) (option : Option ℕ) (place : ℕ) (before after : Stage) (past : List Entry) (ending : Drained) → length script.lines ≤ place → SoFar script option place before → ((p : Progress) → StageStands script option p before → Ended script option p after ending) → past ≡ after.world.past → IsReplay script option past ending
+pub replays : (script : Script) (option : Option ℕ) (place : ℕ) (before after : Stage) (past : List Entry) (ending : Drained)
+    → length script.lines ≤ place → SoFar script option place before
+    → ((p : Progress) → StageStands script option p before → Ended script option p after ending) → past ≡ after.world.past → IsReplay script option past ending
 replays script option place before after past ending all so ended is =
     let e = ended so.progress so.stands in
     record {

@@ -7,7 +7,7 @@ use Rattle.std.proofs.lemmas.List.{length-map}
 use Rattle.std.proofs.lemmas.Slice.Eq.{bytes_eq-Decides}
 use Rattle.plain_data.specs.Pairs.{text_cmp}
 use Rattle.plain_data.specs.Rows.{IsAfter}
-use Rattle.kube_types.specs.Bindings.{has_name}
+use Rattle.kube_objects.specs.Bindings.{has_name}
 use Rattle.model_laws.proofs.Lists.{none_some, one}
 use Rattle.worker_core.specs.Roles.{IsBuiltKind}
 use Rattle.script_lines.specs.declared.actors.WorkerKind.{WorkerKind}
@@ -25,7 +25,21 @@ use Rattle.actor_turns.specs.declared.part.Part.{Part}
 use Rattle.script_runs.specs.Limits.{NamesAreInOrder as NamesInOrder, AreWithinLimits, IsKnown, IsWithinLimits, NameKnown, NamesKnown}
 use Rattle.actor_turns.specs.Parts.{lives_by}
 use Rattle.script_runs.specs.Parts.{all_actors, all_lives, drain_seat, first_actor_seat, is_named, seat_kind_of, kind_of_worker, is_turn_of, lives_before, lives_in, part_of}
-use Rattle.script_runs.specs.Steps.Standing.{agents_for, actors_for, all_parts, end_of, part_from, parts_from, place_of, place_of_kind, place_of_node, place_of_number, seat_of_drains, seat_past, workers_of}
+use Rattle.script_runs.specs.Steps.Standing.{
+  agents_for,
+  actors_for,
+  all_parts,
+  end_of,
+  part_from,
+  parts_from,
+  place_of,
+  place_of_kind,
+  place_of_node,
+  place_of_number,
+  seat_of_drains,
+  seat_past,
+  workers_of,
+}
 use Rattle.script_runs.proofs.Orders.{AreInOrder, all_differ, all_more, differs_at, differs_from, first_differs}
 
 -- ---- the actors
@@ -198,10 +212,12 @@ add_more first lives rest n is = omega (arith, is)
 
 -- before an actor there are no lives of itself
 before_own : (lines : List Line) (x : Actor) (actors : List Actor) (actor : Actor) → x ≡ actor → lives_before (actor_word actor) (x ∷ actors) lines ≡ 0
-before_own lines x actors actor is = if_same (bytes_eq (actor_word x) (actor_word actor)) (lives_in (actor_word x) lines + lives_before (actor_word actor) actors lines) ((bytes_eq-Decides (actor_word x) (actor_word actor)).1 (ap actor_word is))
+before_own lines x actors actor is = if_same (bytes_eq (actor_word x) (actor_word actor)) (lives_in (actor_word x) lines + lives_before
+    (actor_word actor) actors lines) ((bytes_eq-Decides (actor_word x) (actor_word actor)).1 (ap actor_word is))
 
 -- but those of each other actor
-before_other : (lines : List Line) (x : Actor) (actors : List Actor) (actor : Actor) → bytes_eq (actor_word x) (actor_word actor) ≡ false → lives_before (actor_word actor) (x ∷ actors) lines ≡ lives_in (actor_word x) lines + lives_before (actor_word actor) actors lines
+before_other : (lines : List Line) (x : Actor) (actors : List Actor) (actor : Actor) → bytes_eq (actor_word x) (actor_word actor) ≡ false
+    → lives_before (actor_word actor) (x ∷ actors) lines ≡ lives_in (actor_word x) lines + lives_before (actor_word actor) actors lines
 before_other lines x actors actor differs = if_other (bytes_eq (actor_word x) (actor_word actor)) (lives_in (actor_word x) lines + lives_before (actor_word actor) actors lines) differs
 
 name_at : (actors : List Actor) (i : ℕ) (actor : Actor) → slice_get actors i ≡ Some actor → slice_get (map actor_word actors) i ≡ Some (actor_word actor)
@@ -225,7 +241,8 @@ part_there lines (x ∷ actors) actor first (suc i) differ at =
     = add_more first (lives_in (actor_word x) lines) (lives_before (actor_word actor) actors lines) _ passed in
     part_there lines actors actor (end_of (part_from lines x first)) i names.1 at ∙ ap (λ n. Some (part_from lines actor n)) sum
 
-pub part_of_actor : (script : Script) (actor : Actor) → NamesInOrder script.node_names → IsKnown script.node_names actor → slice_get (all_parts script) (place_of script.node_names actor) ≡ Some (part_of script actor)
+pub part_of_actor : (script : Script) (actor : Actor) → NamesInOrder script.node_names → IsKnown script.node_names actor
+    → slice_get (all_parts script) (place_of script.node_names actor) ≡ Some (part_of script actor)
 part_of_actor script actor order known =
     let are = are_all script in
     let differ = ap (λ actors. all_differ (map actor_word actors)) are ∙ words_differ script.node_names order in

@@ -28,8 +28,10 @@ module _ (lets : Lets) (script : Script) (first : ℕ) (option : Option ℕ) (be
   made_is = let few = d.few in let is = drained_is in omega (arith, few, is)
 
   -- as the drain's seats have the entries, so the history's next point has them
-  pub at_seats : (P : List ℕ → ℕ → List Entry → Type 0) → P (seats_of d.drainers) ((d.budget - before.drained) - (d.budget - (before.drained + d.made))) d.past → P (seats_for first script.node_names) (after.drained - before.drained) after.past
-  at_seats P h = subst (P (seats_for first script.node_names) (after.drained - before.drained)) (sym past_is) (subst (λ n. P (seats_for first script.node_names) n d.past) made_is (subst (λ ss. P ss ((d.budget - before.drained) - (d.budget - (before.drained + d.made))) d.past) d.seats h))
+  pub at_seats : (P : List ℕ → ℕ → List Entry → Type 0)
+      → P (seats_of d.drainers) ((d.budget - before.drained) - (d.budget - (before.drained + d.made))) d.past → P (seats_for first script.node_names) (after.drained - before.drained) after.past
+  at_seats P h = subst (P (seats_for first script.node_names) (after.drained - before.drained)) (sym past_is)
+      (subst (λ n. P (seats_for first script.node_names) n d.past) made_is (subst (λ ss. P ss ((d.budget - before.drained) - (d.budget - (before.drained + d.made))) d.past) d.seats h))
 
   comes : DrainAtComesTo script first before after
   comes = record {

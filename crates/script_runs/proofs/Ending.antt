@@ -31,7 +31,8 @@ player_of (x ∷ xs) zero part at = (x, refl)
 player_of (x ∷ xs) (suc place) part at = player_of xs place part at
 
 module _ (script : Script) (option : Option ℕ) (end : Progress) (s : Stage) (readable : IsReadable script) (stands : StageStands script option end s) where
-  diligent_actor : (actor : Actor) → IsKnown script.node_names actor → is_named (actor_word actor) script.lines ≡ true → (seat : ℕ) → (part_of script actor).first ≤ seat → seat < (part_of script actor).first + lives_of (part_of script actor)
+  diligent_actor : (actor : Actor) → IsKnown script.node_names actor → is_named (actor_word actor) script.lines ≡ true → (seat : ℕ)
+      → (part_of script actor).first ≤ seat → seat < (part_of script actor).first + lives_of (part_of script actor)
       → IsDiligentLife [] (role_of actor) (part_of script actor) seat (end.made (part_of script actor).name) end.past
   diligent_actor actor known named seat low high =
       let found = player_of s.players.items place (part_of script actor) (ap (λ ps. slice_get ps place) stands.parts ∙ part_of_actor script actor readable.order known) in
@@ -57,7 +58,8 @@ module _ (script : Script) (option : Option ℕ) (end : Progress) (s : Stage) (r
   are_diligent place actor calls at seat low high =
       diligent_actor actor (known_at script.node_names script.lines place (kinds_of_line.Turn actor calls) readable.known at) (named_at script.lines place actor calls at) seat low high
 
-pub diligent_replay : (script : Script) (option : Option ℕ) (place : ℕ) (before after : Stage) (past : List Entry) (ending : Drained) → IsReadable script → length script.lines ≤ place → SoFar script option place before
+pub diligent_replay : (script : Script) (option : Option ℕ) (place : ℕ) (before after : Stage) (past : List Entry) (ending : Drained)
+    → IsReadable script → length script.lines ≤ place → SoFar script option place before
     → ((p : Progress) → StageStands script option p before → Ended script option p after ending) → past ≡ after.world.past → IsDiligentReplay script option past ending
 diligent_replay script option place before after past ending readable all so ended is =
     let e = ended so.progress so.stands in

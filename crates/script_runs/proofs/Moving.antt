@@ -24,7 +24,8 @@ pub line_is : (lines seen : List Line) (place : ℕ) (x line : Line) → seen �
 line_is lines seen place x line same lt read is = slice_get_read lines (length lines) place x refl lt (read ∙ ap (λ ls. get_or ls place x) same) ∙ ap (λ (l : Line). Some l) is
 
 -- a move of the line that is there is one of any line that is there
-pub moves_there : (script : Script) (option : Option ℕ) (place : ℕ) (here : Line) (old new : Stage) → slice_get script.lines place ≡ Some here → HasMoved script option (IsMove script option here) old new
+pub moves_there : (script : Script) (option : Option ℕ) (place : ℕ) (here : Line) (old new : Stage) → slice_get script.lines place ≡ Some here
+    → HasMoved script option (IsMove script option here) old new
     → (line : Line) → slice_get script.lines place ≡ Some line → HasMoved script option (IsMove script option line) old new
 moves_there script option place here old new at moved line there = subst (λ (l : Line). HasMoved script option (IsMove script option l) old new) (one here line (sym at ∙ there)) moved
 
@@ -36,7 +37,8 @@ none_moved script option s p stands = record { after = p; move = refl; stands = 
 abbrev pub MovesNothing : Line → Type 0
 MovesNothing line = ((actor : Actor) × (call : ℕ) × (after : Bool) × (line ≡ Lose actor call after)) ⊎ ((actor : Actor) × (after : ℕ) × (line ≡ Restart actor after))
 
-pub stays : (script : Script) (option : Option ℕ) (place : ℕ) (here : Line) (s : Stage) → slice_get script.lines place ≡ Some here → MovesNothing here → (line : Line) → slice_get script.lines place ≡ Some line → HasMoved script option (IsMove script option line) s s
+pub stays : (script : Script) (option : Option ℕ) (place : ℕ) (here : Line) (s : Stage) → slice_get script.lines place ≡ Some here
+    → MovesNothing here → (line : Line) → slice_get script.lines place ≡ Some line → HasMoved script option (IsMove script option line) s s
 stays script option place here s at (inl w) = moves_there script option place (Lose w.0 w.1 w.2) s s (at ∙ ap (λ (l : Line). Some l) w.3) (none_moved script option s)
 stays script option place here s at (inr w) = moves_there script option place (Restart w.0 w.1) s s (at ∙ ap (λ (l : Line). Some l) w.2) (none_moved script option s)
 
@@ -46,7 +48,8 @@ some_of script option place s so = record { progress = so.progress; stands = so.
 -- ---- the budget of a drain
 
 -- what was drained is within the raised budget
-pub room_in : (option : Option ℕ) (setup : Setup) (past : List Entry) (drained budget next : ℕ) → drained ≤ budget → IsBudget option budget → next ≡ raised option setup past budget → (option ≡ None → budget ≤ next) → drained ≤ next
+pub room_in : (option : Option ℕ) (setup : Setup) (past : List Entry) (drained budget next : ℕ) → drained ≤ budget → IsBudget option budget
+    → next ≡ raised option setup past budget → (option ≡ None → budget ≤ next) → drained ≤ next
 room_in (Some given) setup past drained budget next few is raises more = omega (arith, few, is, raises)
 room_in None setup past drained budget next few is raises more = let m = more refl in omega (arith, few, m)
 

@@ -26,11 +26,13 @@ use Rattle.script_runs.proofs.Staging.{HasPlayed, set_cases, turn_moved}
 
 -- ---- the numbers of a part are small
 
-part_small : (script : Script) (actor : Actor) → IsKnown script.node_names actor → is_named (actor_word actor) script.lines ≡ true → IsReadable script → (part_of script actor).first + length (part_of script actor).restarts < 2 ^ 32
+part_small : (script : Script) (actor : Actor) → IsKnown script.node_names actor → is_named (actor_word actor) script.lines ≡ true
+    → IsReadable script → (part_of script actor).first + length (part_of script actor).restarts < 2 ^ 32
 part_small script actor known named readable =
     let lives : lives_of (part_of script actor) ≡ 1 + length (part_of script actor).restarts = ap (λ b. lives_by b (length (part_of script actor).restarts)) named in
     let life : IsLife (part_of script actor) (part_of script actor).first = (omega arith, omega (arith, lives)) in
-    let below = (life_between 5 (all_parts script) (seat_of_drains script) (place_of script.node_names actor) (part_of script actor) (part_of script actor).first (in_order script) (part_of_actor script actor readable.order known) life).1 in
+    let below = (life_between 5 (all_parts script) (seat_of_drains script) (place_of script.node_names actor) (part_of script actor)
+    (part_of script actor).first (in_order script) (part_of_actor script actor readable.order known) life).1 in
     let few = readable.few in
     let drains = small_drains script few readable.nodes in
     let restarts = few_restarts (actor_word actor) script.lines in
@@ -48,15 +50,19 @@ module _ (script : Script) (option : Option ℕ) (actor : Actor) (s : Stage) (re
       omega (arith, within, parts, each)
 
   pub player_there : (place : ℕ) (x : Player) → place ≡ place_of script.node_names actor → x ≡ get_or s.players.items place x → slice_get s.players.items (place_of script.node_names actor) ≡ Some x
-  player_there place x is read = subst (λ n. slice_get s.players.items n ≡ Some x) is (slice_get_read s.players.items (length s.players.items) place x refl (let w = place_within in omega (arith, w, is)) read)
+  player_there place x is read = subst (λ n. slice_get s.players.items n ≡ Some x) is (slice_get_read s.players.items (length s.players.items) place
+      x refl (let w = place_within in omega (arith, w, is)) read)
 
   pub its_part : (x : Player) → slice_get s.players.items (place_of script.node_names actor) ≡ Some x → part_of script actor ≡ x.part
-  its_part x at = one (part_of script actor) x.part (sym (part_of_actor script actor readable.order known) ∙ ap (λ ps. slice_get ps (place_of script.node_names actor)) (sym some.stands.parts) ∙ part_at_place s.players.items (place_of script.node_names actor) x at)
+  its_part x at = one (part_of script actor) x.part
+      (sym (part_of_actor script actor readable.order known) ∙ ap (λ ps. slice_get ps (place_of script.node_names actor)) (sym some.stands.parts)
+      ∙ part_at_place s.players.items (place_of script.node_names actor) x at)
 
   pub its_name : (x : Player) → slice_get s.players.items (place_of script.node_names actor) ≡ Some x → is_named (actor_word actor) script.lines ≡ true → x.part.named ≡ true
   its_name x at named = ap (λ (p : Part). p.named) (sym (its_part x at)) ∙ named
 
-  pub its_seats : (x : Player) → slice_get s.players.items (place_of script.node_names actor) ≡ Some x → is_named (actor_word actor) script.lines ≡ true → x.part.first + length x.part.restarts < 2 ^ 32
+  pub its_seats : (x : Player) → slice_get s.players.items (place_of script.node_names actor) ≡ Some x
+      → is_named (actor_word actor) script.lines ≡ true → x.part.first + length x.part.restarts < 2 ^ 32
   its_seats x at named = subst (λ (p : Part). p.first + length p.restarts < 2 ^ 32) (its_part x at) (part_small script actor known named readable)
 
   pub it_plays : (x : Player) → slice_get s.players.items (place_of script.node_names actor) ≡ Some x → is_named (actor_word actor) script.lines ≡ true → SomePlays x s.world.past
@@ -73,10 +79,13 @@ turned_made calls idle before after old new t = by t.made
 
 -- ---- a turn of an actor
 
-module _ (script : Script) (option : Option ℕ) (actor : Actor) (calls : ℕ) (old new : Stage) (place : ℕ) (x after : Player) (readable : IsReadable script) (known : IsKnown script.node_names actor) (named : is_named (actor_word actor) script.lines ≡ true)
-    (some : SomeStands script option old) (is : place ≡ place_of script.node_names actor) (read : x ≡ get_or old.players.items place x) (players : new.players.items ≡ set old.players.items place after) (part : after.part ≡ x.part) (held : after.held ≡ x.held)
+module _ (script : Script) (option : Option ℕ) (actor : Actor) (calls : ℕ) (old new : Stage) (place : ℕ) (x after : Player)
+    (readable : IsReadable script) (known : IsKnown script.node_names actor) (named : is_named (actor_word actor) script.lines ≡ true)
+    (some : SomeStands script option old) (is : place ≡ place_of script.node_names actor) (read : x ≡ get_or old.players.items place x)
+    (players : new.players.items ≡ set old.players.items place after) (part : after.part ≡ x.part) (held : after.held ≡ x.held)
     (setup : new.world.setup ≡ old.world.setup) (drainers : new.drainers ≡ old.drainers) (drained : new.drained ≡ old.drained) (budget : new.budget ≡ old.budget) (settled : new.settled ≡ old.settled)
-    (turns : (idle : ℕ → List Entry) → Plays x old.world.past idle → HasTurned all_pass calls idle old.world.past new.world.past x after) (lives : HasLivedOn calls old.world.past new.world.past x after) where
+    (turns : (idle : ℕ → List Entry) → Plays x old.world.past idle → HasTurned all_pass calls idle old.world.past new.world.past x after)
+    (lives : HasLivedOn calls old.world.past new.world.past x after) where
   at : slice_get old.players.items (place_of script.node_names actor) ≡ Some x
   at = player_there script option actor old readable known some place x is read
 
@@ -96,12 +105,15 @@ module _ (script : Script) (option : Option ℕ) (actor : Actor) (calls : ℕ) (
 
   pub turn_made : HasMoved script option (IsTurnLine all_pass [] (role_of actor) (part_of script actor) calls) old new
   turn_made =
-      turn_moved script option calls old new place x after actor readable.order (drains_after script) (subst (λ n. slice_get (actors_for script.node_names) n ≡ Some actor) (sym is) (actor_at script.node_names actor known))
+      turn_moved script option calls old new place x after actor readable.order (drains_after script)
+      (subst (λ n. slice_get (actors_for script.node_names) n ≡ Some actor) (sym is) (actor_at script.node_names actor known))
       (its_part script option actor old readable known some x at) played turns lives
 
 -- no player has then made more than 1,000 calls more
-pub made_after : (script : Script) (option : Option ℕ) (actor : Actor) (calls most : ℕ) (old : Stage) (past : List Entry) (place : ℕ) (x after : Player) → IsReadable script → IsKnown script.node_names actor → is_named (actor_word actor) script.lines ≡ true
-    → SomeStands script option old → place ≡ place_of script.node_names actor → x ≡ get_or old.players.items place x → ((idle : ℕ → List Entry) → Plays x old.world.past idle → HasTurned all_pass calls idle old.world.past past x after)
+pub made_after : (script : Script) (option : Option ℕ) (actor : Actor) (calls most : ℕ) (old : Stage) (past : List Entry) (place : ℕ)
+    (x after : Player) → IsReadable script → IsKnown script.node_names actor → is_named (actor_word actor) script.lines ≡ true
+    → SomeStands script option old → place ≡ place_of script.node_names actor → x ≡ get_or old.players.items place x
+    → ((idle : ℕ → List Entry) → Plays x old.world.past idle → HasTurned all_pass calls idle old.world.past past x after)
     → calls ≤ 1000 → MadeAtMost most old → EachPlayer (λ y. y.made ≤ most + 1000) (set old.players.items place after)
 made_after script option actor calls most old past place x after readable known named some is read turns few made =
     let within = place_within script option actor old readable known some in

@@ -83,12 +83,14 @@ differs_more : (name : List ℕ) (xs ys : List (List ℕ)) → differs_from name
 differs_more name [] ys a b = b
 differs_more name (x ∷ xs) ys a b = by (bytes_eq name x) a (differs_more name xs ys)
   where
-    by : (t : Bool) → (if t then false else differs_from name xs) ≡ true → (differs_from name xs ≡ true → differs_from name ys ≡ true → differs_from name (xs ++ ys) ≡ true) → (if t then false else differs_from name (xs ++ ys)) ≡ true
+    by : (t : Bool) → (if t then false else differs_from name xs) ≡ true
+        → (differs_from name xs ≡ true → differs_from name ys ≡ true → differs_from name (xs ++ ys) ≡ true) → (if t then false else differs_from name (xs ++ ys)) ≡ true
     by true a rest = absurd (true≢false (sym a))
     by false a rest = rest a b
 
 -- names that differ, and others that differ from each of them
-pub all_more : (xs ys : List (List ℕ)) → all_differ xs ≡ true → ((i : ℕ) (name : List ℕ) → slice_get xs i ≡ Some name → differs_from name ys ≡ true) → all_differ ys ≡ true → all_differ (xs ++ ys) ≡ true
+pub all_more : (xs ys : List (List ℕ)) → all_differ xs ≡ true → ((i : ℕ) (name : List ℕ) → slice_get xs i ≡ Some name → differs_from name ys ≡ true)
+    → all_differ ys ≡ true → all_differ (xs ++ ys) ≡ true
 all_more [] ys all apart later = later
 all_more (x ∷ xs) ys all apart later =
     let first = first_differs x xs all in

@@ -1,5 +1,36 @@
 -- What the reader of scripts gives keeps the limits of scripts: each is a script that a text can give.
-use Rattle.std.proofs.Common.{◌≡◌, ℕ, ◌≤◌, ◌+◌, List, [], ◌∷◌, ◌++◌, length, Bool, true, false, true≢false, cond, Option, Some, None, Result, Ok, Err, IfOk, refl, sym, ap, ◌∙◌, arith, subst, append_assoc, append-nil, if◌then◌else◌}
+use Rattle.std.proofs.Common.{
+  ◌≡◌,
+  ℕ,
+  ◌≤◌,
+  ◌+◌,
+  List,
+  [],
+  ◌∷◌,
+  ◌++◌,
+  length,
+  Bool,
+  true,
+  false,
+  true≢false,
+  cond,
+  Option,
+  Some,
+  None,
+  Result,
+  Ok,
+  Err,
+  IfOk,
+  refl,
+  sym,
+  ap,
+  ◌∙◌,
+  arith,
+  subst,
+  append_assoc,
+  append-nil,
+  if◌then◌else◌,
+}
 use Rattle.std.specs.Prelude.{◌&&◌, ◌||◌, bytes_eq, nat_le, nat_lt, is_some, option_and_then, option_map}
 use Rattle.std.specs.Ordering.{is_eq}
 use Rattle.std.proofs.lemmas.Bool.{leb-true, ltb-false}
@@ -10,9 +41,9 @@ use Rattle.std.proofs.lemmas.Slice.Eq.{bytes_eq-Decides}
 use Rattle.plain_data.specs.Pairs.{ArePairs, Pair, pair_at, pair_key, text_cmp, value_at}
 use Rattle.plain_data.specs.Rows.{IsAfter}
 use Rattle.plain_data.proofs.RowFacts.{rising_put}
-use Rattle.kube_types.specs.Bindings.{has_name}
-use Rattle.kube_types.specs.Named.{value_named}
-use Rattle.kube_types.specs.declared.objects.Object.{Object}
+use Rattle.kube_objects.specs.Bindings.{has_name}
+use Rattle.kube_parts.specs.Named.{value_named}
+use Rattle.kube_objects.specs.declared.objects.Object.{Object}
 use Rattle.call_types.specs.declared.request.Request.{Request}
 use Rattle.script_lines.specs.declared.actors.Actor.{Actor}
 use Rattle.script_lines.specs.declared.actors.Actor.TheVariants.{Worker, Agent}
@@ -96,7 +127,8 @@ module _ (imports : List Object) where
       let zero_more : counted (created line) ≡ 0 = ap counted none in
       omega (arith, few, more, zero_more)
 
-  asked_objects : (lines : List Line) (user : ℕ) (request : Request) (o : Option Object) → created_by request ≡ o → create_limit imports (lines ++ Call user request ∷ []) (is_some o) ≡ None → objects_of imports lines ≤ 1024
+  asked_objects : (lines : List Line) (user : ℕ) (request : Request) (o : Option Object) → created_by request ≡ o
+      → create_limit imports (lines ++ Call user request ∷ []) (is_some o) ≡ None → objects_of imports lines ≤ 1024
       → objects_of imports (lines ++ Call user request ∷ []) ≤ 1024
   asked_objects lines user request (Some o) is none few = few_objects imports (lines ++ Call user request ∷ []) none
   asked_objects lines user request None is none few = kept_objects lines (Call user request) is few
@@ -128,7 +160,8 @@ module _ (imports : List Object) where
       let long : length (agents_of imports (lines ++ line ∷ [])) ≡ length (agents_of imports lines) = ap length same in
       omega arith
 
-  created_few : (lines : List Line) (created : Option Object) → create_limit imports lines (is_some created) ≡ None → (option_and_then node_name created ≡ None → length (agents_of imports lines) ≤ 8) → length (agents_of imports lines) ≤ 8
+  created_few : (lines : List Line) (created : Option Object) → create_limit imports lines (is_some created) ≡ None
+      → (option_and_then node_name created ≡ None → length (agents_of imports lines) ≤ 8) → length (agents_of imports lines) ≤ 8
   created_few lines (Some o) none h = few_nodes imports lines none
   created_few lines None none h = h refl
 
@@ -184,7 +217,8 @@ found_node : (agents : List Pair) (name node : List ℕ) → option_map (λ (p :
 found_node [] name node found = absurd cc
 found_node (p ∷ ps) name node found = by (is_eq (text_cmp p.0 name)) found (found_node ps name node)
   where
-    by : (b : Bool) → option_map (λ (q : Pair). q.1) (if b then Some p else pair_at name ps) ≡ Some node → (option_map (λ (q : Pair). q.1) (pair_at name ps) ≡ Some node → has_name node (nodes_of ps) ≡ true)
+    by : (b : Bool) → option_map (λ (q : Pair). q.1) (if b then Some p else pair_at name ps) ≡ Some node
+        → (option_map (λ (q : Pair). q.1) (pair_at name ps) ≡ Some node → has_name node (nodes_of ps) ≡ true)
         → (bytes_eq p.1 node || has_name node (nodes_of ps)) ≡ true
     by true here rest = let same : p.1 ≡ node = cc in ap (λ b. b || has_name node (nodes_of ps)) (ap (λ (n : List ℕ). bytes_eq n node) same ∙ (bytes_eq-Decides node node).1 refl)
     by false later rest = at_last (bytes_eq p.1 node) (has_name node (nodes_of ps)) (rest later)

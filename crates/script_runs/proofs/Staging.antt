@@ -1,5 +1,37 @@
 -- What the moves of a script leave standing.
-use Rattle.std.proofs.Common.{◌≡◌, ◌≢◌, ◌⊎◌, ℕ, ◌<◌, ◌≤◌, ◌+◌, ◌-◌, zero, suc, List, [], ◌∷◌, ◌++◌, length, set, Bool, true, false, Option, Some, None, inl, inr, refl, sym, ◌∙◌, ap, subst, arith, if◌then◌else◌}
+use Rattle.std.proofs.Common.{
+  ◌≡◌,
+  ◌≢◌,
+  ◌⊎◌,
+  ℕ,
+  ◌<◌,
+  ◌≤◌,
+  ◌+◌,
+  ◌-◌,
+  zero,
+  suc,
+  List,
+  [],
+  ◌∷◌,
+  ◌++◌,
+  length,
+  set,
+  Bool,
+  true,
+  false,
+  Option,
+  Some,
+  None,
+  inl,
+  inr,
+  refl,
+  sym,
+  ◌∙◌,
+  ap,
+  subst,
+  arith,
+  if◌then◌else◌,
+}
 use Rattle.std.specs.Prelude.{◌==◌, bytes_eq, slice_get}
 use Rattle.std.proofs.lemmas.Bool.Decides.{Decides-eqb}
 use Rattle.std.proofs.lemmas.Slice.Eq.{bytes_eq-Decides}
@@ -61,7 +93,8 @@ abbrev told_at : (ℕ → List Call) → ℕ → List Entry
 told_at idle seat = entries (idle seat)
 
 -- entries of other seats leave a player
-pub plays_on : (x : Player) (h later : List Entry) (idle then_idle : ℕ → List Entry) → x.part.named ≡ true → ((seat : ℕ) → IsLife x.part seat → own seat later ≡ own seat h) → ((seat : ℕ) → IsLife x.part seat → then_idle seat ≡ idle seat) → Plays x h idle → Plays x later then_idle
+pub plays_on : (x : Player) (h later : List Entry) (idle then_idle : ℕ → List Entry) → x.part.named ≡ true
+    → ((seat : ℕ) → IsLife x.part seat → own seat later ≡ own seat h) → ((seat : ℕ) → IsLife x.part seat → then_idle seat ≡ idle seat) → Plays x h idle → Plays x later then_idle
 plays_on x h later idle then_idle named same_own same_idle plays =
     let at = life_at x h idle named plays in
     record {
@@ -115,7 +148,8 @@ module _ (script : Script) (option : Option ℕ) (user : ℕ) (request : Request
   abbrev entry : Entry
   entry = record { seat = user; kind = seats.User; request = request; reply = reply; told = true }
 
-  pub user_moved : user < 5 → new.world.past ≡ entry ∷ old.world.past → new.world.setup ≡ old.world.setup → new.players ≡ old.players → new.drainers ≡ old.drainers → new.drained ≡ old.drained → new.budget ≡ old.budget → new.settled ≡ old.settled
+  pub user_moved : user < 5 → new.world.past ≡ entry ∷ old.world.past → new.world.setup ≡ old.world.setup → new.players ≡ old.players
+      → new.drainers ≡ old.drainers → new.drained ≡ old.drained → new.budget ≡ old.budget → new.settled ≡ old.settled
       → HasMoved script option (IsUserCall user request) old new
   user_moved low past setup players drainers drained budget settled p stands = record {
     after = record p { past = entry ∷ p.past };
@@ -126,13 +160,17 @@ module _ (script : Script) (option : Option ℕ) (user : ℕ) (request : Request
       parts = ap (λ (xs : _). parts_in xs.items) players ∙ stands.parts;
       plays = λ place x at named.
           let there = ap (λ (xs : _). slice_get xs.items place) (sym players) ∙ at in
-          plays_on x old.world.past new.world.past (told_at p.idle) (told_at p.idle) named (λ seat life. others seat (above place x there seat life)) (λ seat life. refl) (stands.plays place x there named);
+          plays_on x old.world.past new.world.past (told_at p.idle) (told_at p.idle) named (λ seat life. others seat (above place x there seat life))
+          (λ seat life. refl) (stands.plays place x there named);
       lives = λ place actor x is at named.
           let there = ap (λ (xs : _). slice_get xs.items place) (sym players) ∙ at in
-          lives_on (role_of actor) x old.world.past new.world.past p.idle p.idle (life_at x old.world.past (told_at p.idle) named (stands.plays place x there named)) (λ seat life. others seat (above place x there seat life)) (λ seat life. refl) (stands.lives place actor x is there named);
+          lives_on (role_of actor) x old.world.past new.world.past p.idle p.idle
+          (life_at x old.world.past (told_at p.idle) named (stands.plays place x there named))
+          (λ seat life. others seat (above place x there seat life)) (λ seat life. refl) (stands.lives place actor x is there named);
       made = λ place x at. stands.made place x (ap (λ (xs : _). slice_get xs.items place) (sym players) ∙ at);
       held = λ place x at. stands.held place x (ap (λ (xs : _). slice_get xs.items place) (sym players) ∙ at);
-      drainers = subst (λ ds. AreStanding ds new.world.past) (sym drainers) (drainers_on old.drainers old.world.past new.world.past (λ seat own. others seat (drains_above seat (subst (λ ss. IsOneOf ss seat) stands.seats own))) stands.drainers);
+      drainers = subst (λ ds. AreStanding ds new.world.past) (sym drainers)
+          (drainers_on old.drainers old.world.past new.world.past (λ seat own. others seat (drains_above seat (subst (λ ss. IsOneOf ss seat) stands.seats own))) stands.drainers);
       seats = subst (λ ds. seats_of ds ≡ drain_seats script) (sym drainers) stands.seats;
       roles = subst (λ ds. roles_of ds ≡ drain_roles script) (sym drainers) stands.roles;
       rests = λ given is unspent. subst AreAtRest (sym drainers) (stands.rests given is (omega (arith, drained, unspent)));
@@ -148,7 +186,8 @@ module _ (script : Script) (option : Option ℕ) (user : ℕ) (request : Request
       others seat high = ap (own seat) past ∙ own_other entry old.world.past seat (λ e. absurd (omega (arith, e, high, low)))
 
       above : (place : ℕ) (x : Player) → slice_get old.players.items place ≡ Some x → (seat : ℕ) → IsLife x.part seat → 5 ≤ seat
-      above place x there seat life = (life_between 5 (all_parts script) (seat_of_drains script) place x.part seat (in_order script) (ap (λ ps. slice_get ps place) (sym stands.parts) ∙ part_at_place old.players.items place x there) life).0
+      above place x there seat life = (life_between 5 (all_parts script) (seat_of_drains script) place x.part seat (in_order script)
+          (ap (λ ps. slice_get ps place) (sym stands.parts) ∙ part_at_place old.players.items place x there) life).0
 
       drains_above : (seat : ℕ) → IsOneOf (drain_seats script) seat → 5 ≤ seat
       drains_above seat own = after_users (all_lives (all_actors script) script.lines) seat (drains_last script seat own)
@@ -156,7 +195,8 @@ module _ (script : Script) (option : Option ℕ) (user : ℕ) (request : Request
 -- ---- an actor's turn
 
 -- a player of a list in which one has been put is that one, or stands at another place
-pub set_cases : (xs : List Player) (place : ℕ) (after : Player) (j : ℕ) (y : Player) → place < length xs → slice_get (set xs place after) j ≡ Some y → ((j ≡ place) × (after ≡ y)) ⊎ ((j ≢ place) × (slice_get xs j ≡ Some y))
+pub set_cases : (xs : List Player) (place : ℕ) (after : Player) (j : ℕ) (y : Player) → place < length xs → slice_get (set xs place after) j ≡ Some y
+    → ((j ≡ place) × (after ≡ y)) ⊎ ((j ≢ place) × (slice_get xs j ≡ Some y))
 set_cases xs place after j y within here = by (same_or_not j place)
   where
     by : (j ≡ place) ⊎ (j ≢ place) → ((j ≡ place) × (after ≡ y)) ⊎ ((j ≢ place) × (slice_get xs j ≡ Some y))
@@ -189,13 +229,15 @@ pub record HasPlayed (old new : Stage) (place : ℕ) (x after : Player) : Type 0
   pub budget : new.budget ≡ old.budget
   pub settled : new.settled ≡ old.settled
 
-module _ (script : Script) (option : Option ℕ) (old new : Stage) (place : ℕ) (x after : Player) (order : NamesInOrder script.node_names) (last : drain_seat script ≡ seat_of_drains script) (played : HasPlayed old new place x after) (p : Progress) (stands : StageStands script option p old) where
+module _ (script : Script) (option : Option ℕ) (old new : Stage) (place : ℕ) (x after : Player) (order : NamesInOrder script.node_names)
+    (last : drain_seat script ≡ seat_of_drains script) (played : HasPlayed old new place x after) (p : Progress) (stands : StageStands script option p old) where
   part_there : (j : ℕ) (y : Player) → slice_get old.players.items j ≡ Some y → slice_get (all_parts script) j ≡ Some y.part
   part_there j y at = ap (λ ps. slice_get ps j) (sym stands.parts) ∙ part_at_place old.players.items j y at
 
   -- another's seats are no lives of this one
   not_mine : (j : ℕ) (y : Player) (seat : ℕ) → slice_get old.players.items j ≡ Some y → j ≢ place → IsLife y.part seat → IsLife x.part seat → ⊥
-  not_mine j y seat at differs other mine = differs (one_owner 5 (all_parts script) (seat_of_drains script) j place y.part x.part seat (in_order script) (part_there j y at) (part_there place x played.there) other mine)
+  not_mine j y seat at differs other mine =
+      differs (one_owner 5 (all_parts script) (seat_of_drains script) j place y.part x.part seat (in_order script) (part_there j y at) (part_there place x played.there) other mine)
 
   not_drains : (seat : ℕ) → IsOneOf (drain_seats script) seat → IsLife x.part seat → ⊥
   not_drains seat own life =
@@ -211,8 +253,11 @@ module _ (script : Script) (option : Option ℕ) (old new : Stage) (place : ℕ)
   none_held : after.held ≡ []
   none_held = played.held ∙ stands.held place x played.there
 
-  stands_on : (count : ℕ) (idle : ℕ → List Call) → after.made ≡ x.made + count → IsGrown old.world.past new.world.past → ((seat : ℕ) → (IsLife x.part seat → ⊥) → own seat new.world.past ≡ own seat old.world.past) → ((seat : ℕ) → (IsLife x.part seat → ⊥) → idle seat ≡ p.idle seat)
-      → Plays after new.world.past (told_at idle) → ((actor : Actor) → slice_get (actors_for script.node_names) place ≡ Some actor → Lives (role_of actor) after new.world.past idle) → StageStands script option (record p { past = new.world.past; made = and_made x.part.name count p.made; idle = idle }) new
+  stands_on : (count : ℕ) (idle : ℕ → List Call) → after.made ≡ x.made + count → IsGrown old.world.past new.world.past
+      → ((seat : ℕ) → (IsLife x.part seat → ⊥) → own seat new.world.past ≡ own seat old.world.past) → ((seat : ℕ) → (IsLife x.part seat → ⊥) → idle seat ≡ p.idle seat)
+      → Plays after new.world.past (told_at idle)
+      → ((actor : Actor) → slice_get (actors_for script.node_names) place ≡ Some actor → Lives (role_of actor) after new.world.past idle)
+      → StageStands script option (record p { past = new.world.past; made = and_made x.part.name count p.made; idle = idle }) new
   stands_on count idle more grown others same_idle plays lives = record {
     past = refl;
     setup = played.setup ∙ stands.setup;
@@ -221,7 +266,8 @@ module _ (script : Script) (option : Option ℕ) (old new : Stage) (place : ℕ)
     lives = λ j actor y there at named. each_lives j actor y there named (player_at j y at);
     made = λ j y at. each_made j y (player_at j y at);
     held = λ j y at. each_held j y (player_at j y at);
-    drainers = subst (λ ds. AreStanding ds new.world.past) (sym played.drainers) (drainers_on old.drainers old.world.past new.world.past (λ seat own. others seat (not_drains seat (subst (λ ss. IsOneOf ss seat) stands.seats own))) stands.drainers);
+    drainers = subst (λ ds. AreStanding ds new.world.past) (sym played.drainers)
+        (drainers_on old.drainers old.world.past new.world.past (λ seat own. others seat (not_drains seat (subst (λ ss. IsOneOf ss seat) stands.seats own))) stands.drainers);
     seats = subst (λ ds. seats_of ds ≡ drain_seats script) (sym played.drainers) stands.seats;
     roles = subst (λ ds. roles_of ds ≡ drain_roles script) (sym played.drainers) stands.roles;
     rests = λ given is unspent. let d = played.drained in subst AreAtRest (sym played.drainers) (stands.rests given is (omega (arith, d, unspent)));
@@ -234,48 +280,66 @@ module _ (script : Script) (option : Option ℕ) (old new : Stage) (place : ℕ)
     where
       each_plays : (j : ℕ) (y : Player) → y.part.named ≡ true → ((j ≡ place) × (after ≡ y)) ⊎ ((j ≢ place) × (slice_get old.players.items j ≡ Some y)) → Plays y new.world.past (told_at idle)
       each_plays j y named (inl is) = subst (λ z. Plays z new.world.past (told_at idle)) is.1 plays
-      each_plays j y named (inr other) = plays_on y old.world.past new.world.past (told_at p.idle) (told_at idle) named (λ seat life. others seat (not_mine j y seat other.1 other.0 life)) (λ seat life. ap entries (same_idle seat (not_mine j y seat other.1 other.0 life))) (stands.plays j y other.1 named)
+      each_plays j y named (inr other) = plays_on y old.world.past new.world.past (told_at p.idle) (told_at idle) named (λ seat life. others seat
+          (not_mine j y seat other.1 other.0 life)) (λ seat life. ap entries (same_idle seat (not_mine j y seat other.1 other.0 life))) (stands.plays j y other.1 named)
 
-      each_lives : (j : ℕ) (actor : Actor) (y : Player) → slice_get (actors_for script.node_names) j ≡ Some actor → y.part.named ≡ true → ((j ≡ place) × (after ≡ y)) ⊎ ((j ≢ place) × (slice_get old.players.items j ≡ Some y)) → Lives (role_of actor) y new.world.past idle
-      each_lives j actor y there named (inl is) = subst (λ z. Lives (role_of actor) z new.world.past idle) is.1 (lives actor (subst (λ n. slice_get (actors_for script.node_names) n ≡ Some actor) is.0 there))
-      each_lives j actor y there named (inr other) = lives_on (role_of actor) y old.world.past new.world.past p.idle idle (life_at y old.world.past (told_at p.idle) named (stands.plays j y other.1 named)) (λ seat life. others seat (not_mine j y seat other.1 other.0 life)) (λ seat life. same_idle seat (not_mine j y seat other.1 other.0 life)) (stands.lives j actor y there other.1 named)
+      each_lives : (j : ℕ) (actor : Actor) (y : Player) → slice_get (actors_for script.node_names) j ≡ Some actor → y.part.named ≡ true
+          → ((j ≡ place) × (after ≡ y)) ⊎ ((j ≢ place) × (slice_get old.players.items j ≡ Some y)) → Lives (role_of actor) y new.world.past idle
+      each_lives j actor y there named (inl is) =
+          subst (λ z. Lives (role_of actor) z new.world.past idle) is.1 (lives actor (subst (λ n. slice_get (actors_for script.node_names) n ≡ Some actor) is.0 there))
+      each_lives j actor y there named (inr other) =
+          lives_on (role_of actor) y old.world.past new.world.past p.idle idle
+          (life_at y old.world.past (told_at p.idle) named (stands.plays j y other.1 named))
+          (λ seat life. others seat (not_mine j y seat other.1 other.0 life)) (λ seat life. same_idle seat (not_mine j y seat other.1 other.0 life)) (stands.lives j actor y there other.1 named)
 
       each_made : (j : ℕ) (y : Player) → ((j ≡ place) × (after ≡ y)) ⊎ ((j ≢ place) × (slice_get old.players.items j ≡ Some y)) → y.made ≡ and_made x.part.name count p.made y.part.name
-      each_made j y (inl is) = subst (λ z. z.made ≡ and_made x.part.name count p.made z.part.name) is.1 (more ∙ ap (λ n. n + count) (stands.made place x played.there) ∙ sym (own_made x.part.name count p.made) ∙ ap (λ (q : Part). and_made x.part.name count p.made q.name) (sym played.part))
-      each_made j y (inr other) = stands.made j y other.1 ∙ sym (other_made x.part.name y.part.name count p.made (other_name (names_in (all_parts script)) j place y.part.name x.part.name (names_differ script order) (name_at (all_parts script) j y.part (part_there j y other.1)) (name_at (all_parts script) place x.part (part_there place x played.there)) other.0))
+      each_made j y (inl is) = subst (λ z. z.made ≡ and_made x.part.name count p.made z.part.name) is.1 (more ∙ ap (λ n. n + count)
+          (stands.made place x played.there) ∙ sym (own_made x.part.name count p.made) ∙ ap (λ (q : Part). and_made x.part.name count p.made q.name) (sym played.part))
+      each_made j y (inr other) = stands.made j y other.1
+          ∙ sym (other_made x.part.name y.part.name count p.made
+          (other_name (names_in (all_parts script)) j place y.part.name x.part.name (names_differ script order)
+          (name_at (all_parts script) j y.part (part_there j y other.1)) (name_at (all_parts script) place x.part (part_there place x played.there)) other.0))
 
       each_held : (j : ℕ) (y : Player) → ((j ≡ place) × (after ≡ y)) ⊎ ((j ≢ place) × (slice_get old.players.items j ≡ Some y)) → y.held ≡ []
       each_held j y (inl is) = subst (λ (z : Player). z.held ≡ []) is.1 none_held
       each_held j y (inr other) = stands.held j y other.1
 
   calls_at : (count : ℕ) → AreCalls all_pass after.held x.part new.world.past (x.made + 1) count old.world.past → AreCalls all_pass [] x.part new.world.past (p.made x.part.name + 1) count p.past
-  calls_at count calls = subst (λ h. AreCalls all_pass [] x.part new.world.past (p.made x.part.name + 1) count h) stands.past (subst (λ n. AreCalls all_pass [] x.part new.world.past (n + 1) count old.world.past) (stands.made place x played.there)
+  calls_at count calls = subst (λ h. AreCalls all_pass [] x.part new.world.past (p.made x.part.name + 1) count h) stands.past (subst
+      (λ n. AreCalls all_pass [] x.part new.world.past (n + 1) count old.world.past) (stands.made place x played.there)
       (subst (λ held. AreCalls all_pass held x.part new.world.past (x.made + 1) count old.world.past) none_held calls))
 
   module _ (role : Role) (calls : ℕ) (each : (actor : Actor) → slice_get (actors_for script.node_names) place ≡ Some actor → role_of actor ≡ role) where
     -- the counts and the parts as the move has them
-    needed_at : (count : ℕ) → after.made ≡ x.made + count → AreNeededLives after.held role after.part after.made new.world.past p.idle → AreNeededLives [] role x.part (p.made x.part.name + count) new.world.past p.idle
+    needed_at : (count : ℕ) → after.made ≡ x.made + count → AreNeededLives after.held role after.part after.made new.world.past p.idle
+        → AreNeededLives [] role x.part (p.made x.part.name + count) new.world.past p.idle
     needed_at count more needed =
         subst (λ n. AreNeededLives [] role x.part n new.world.past p.idle) (more ∙ ap (λ n. n + count) (stands.made place x played.there))
         (subst (λ (q : Part). AreNeededLives [] role q after.made new.world.past p.idle) played.part
         (subst (λ held. AreNeededLives held role after.part after.made new.world.past p.idle) none_held needed))
 
-    of_actor : (idle : ℕ → List Call) → Lives role after new.world.past idle → (actor : Actor) → slice_get (actors_for script.node_names) place ≡ Some actor → Lives (role_of actor) after new.world.past idle
+    of_actor : (idle : ℕ → List Call) → Lives role after new.world.past idle → (actor : Actor)
+        → slice_get (actors_for script.node_names) place ≡ Some actor → Lives (role_of actor) after new.world.past idle
     of_actor idle lives actor there = subst (λ r. Lives r after new.world.past idle) (sym (each actor there)) lives
 
-    all_turned : HasMadeAll all_pass calls (told_at p.idle) old.world.past new.world.past x after → LivedAll role calls new.world.past p.idle x after → HasTurned all_pass calls (told_at p.idle) old.world.past new.world.past x after → Leads script option (IsTurnLine all_pass [] role x.part calls) p new
+    all_turned : HasMadeAll all_pass calls (told_at p.idle) old.world.past new.world.past x after → LivedAll role calls new.world.past p.idle x after
+        → HasTurned all_pass calls (told_at p.idle) old.world.past new.world.past x after → Leads script option (IsTurnLine all_pass [] role x.part calls) p new
     all_turned all lived t = record {
       after = record p { past = new.world.past; made = and_made x.part.name calls p.made };
       move = inl (record {
         past = new.world.past;
         made = calls_at calls all.calls_are;
-        needed = needed_at calls all.made (all_needed role after new.world.past p.idle lived.lives.began (λ s later below. (((all.plays).unborn s later below).0, lived.lives.unborn s later below)) lived.needed);
+        needed = needed_at calls all.made (all_needed role after new.world.past p.idle lived.lives.began
+            (λ s later below. (((all.plays).unborn s later below).0, lived.lives.unborn s later below)) lived.needed);
         is = refl;
       });
-      stands = stands_on calls p.idle all.made (calls_grow all_pass after.held x.part new.world.past (x.made + 1) calls old.world.past all.calls_are) t.others (λ seat other. refl) all.plays (of_actor p.idle lived.lives);
+      stands = stands_on calls p.idle all.made
+          (calls_grow all_pass after.held x.part new.world.past (x.made + 1) calls old.world.past all.calls_are) t.others (λ seat other. refl) all.plays (of_actor p.idle lived.lives);
     }
 
-    fewer_turned : HasMadeFewer all_pass calls (told_at p.idle) old.world.past new.world.past x after → LivedFewer role calls new.world.past p.idle x after → role.kind ≡ x.part.kind → HasTurned all_pass calls (told_at p.idle) old.world.past new.world.past x after → Leads script option (IsTurnLine all_pass [] role x.part calls) p new
+    fewer_turned : HasMadeFewer all_pass calls (told_at p.idle) old.world.past new.world.past x after
+        → LivedFewer role calls new.world.past p.idle x after → role.kind ≡ x.part.kind
+        → HasTurned all_pass calls (told_at p.idle) old.world.past new.world.past x after → Leads script option (IsTurnLine all_pass [] role x.part calls) p new
     fewer_turned few lived kind t = record {
       after = record p { past = new.world.past; made = and_made x.part.name few.count p.made; idle = then_idle };
       move = inr (record {
@@ -295,7 +359,9 @@ module _ (script : Script) (option : Option ℕ) (old new : Stage) (place : ℕ)
         done = λ unstale. lived.done (λ told. unstale (subst (λ k. WasToldStale k (own after.seat new.world.past)) kind told));
         is = refl;
       });
-      stands = stands_on few.count then_idle few.made (calls_grow all_pass after.held x.part new.world.past (x.made + 1) few.count old.world.past few.calls_are) t.others (λ seat other. not_idle after.seat seat made_so_far p.idle (λ e. other (mine seat e))) plays (of_actor then_idle lived.lives);
+      stands = stands_on few.count then_idle few.made
+          (calls_grow all_pass after.held x.part new.world.past (x.made + 1) few.count old.world.past few.calls_are) t.others
+          (λ seat other. not_idle after.seat seat made_so_far p.idle (λ e. other (mine seat e))) plays (of_actor then_idle lived.lives);
     }
       where
         made_so_far : List Call
@@ -326,12 +392,16 @@ module _ (script : Script) (option : Option ℕ) (old new : Stage) (place : ℕ)
             by false = refl
 
         plays : Plays after new.world.past (told_at then_idle)
-        plays = plays_on after new.world.past new.world.past told_then (told_at then_idle) (ap (λ (q : Part). q.named) played.part ∙ played.named) (λ seat life. refl) (λ seat life. same_told seat) few.plays
+        plays = plays_on after new.world.past new.world.past told_then (told_at then_idle) (ap (λ (q : Part). q.named) played.part ∙ played.named)
+            (λ seat life. refl) (λ seat life. same_told seat) few.plays
 
-    turned : HasTurned all_pass calls (told_at p.idle) old.world.past new.world.past x after → LivedAll role calls new.world.past p.idle x after ⊎ LivedFewer role calls new.world.past p.idle x after → role.kind ≡ x.part.kind → Leads script option (IsTurnLine all_pass [] role x.part calls) p new
+    turned : HasTurned all_pass calls (told_at p.idle) old.world.past new.world.past x after → LivedAll role calls new.world.past p.idle x after
+        ⊎ LivedFewer role calls new.world.past p.idle x after → role.kind ≡ x.part.kind → Leads script option (IsTurnLine all_pass [] role x.part calls) p new
     turned t lived kind = by t.made lived
       where
-        by : HasMadeAll all_pass calls (told_at p.idle) old.world.past new.world.past x after ⊎ HasMadeFewer all_pass calls (told_at p.idle) old.world.past new.world.past x after → LivedAll role calls new.world.past p.idle x after ⊎ LivedFewer role calls new.world.past p.idle x after
+        by : HasMadeAll all_pass calls (told_at p.idle) old.world.past new.world.past x after
+            ⊎ HasMadeFewer all_pass calls (told_at p.idle) old.world.past new.world.past x after → LivedAll role calls new.world.past p.idle x after
+            ⊎ LivedFewer role calls new.world.past p.idle x after
             → Leads script option (IsTurnLine all_pass [] role x.part calls) p new
         by (inl all) (inl lived_all) = all_turned all lived_all t
         by (inr few) (inr lived_few) = fewer_turned few lived_few kind t
@@ -343,8 +413,11 @@ role_kind : (actor : Actor) → (role_of actor).kind ≡ seat_kind_of actor
 role_kind (Worker w) = refl
 role_kind (Agent node) = refl
 
-pub turn_moved : (script : Script) (option : Option ℕ) (calls : ℕ) (old new : Stage) (place : ℕ) (x after : Player) (actor : Actor) → NamesInOrder script.node_names → drain_seat script ≡ seat_of_drains script → slice_get (actors_for script.node_names) place ≡ Some actor → part_of script actor ≡ x.part → HasPlayed old new place x after
-    → ((idle : ℕ → List Entry) → Plays x old.world.past idle → HasTurned all_pass calls idle old.world.past new.world.past x after) → HasLivedOn calls old.world.past new.world.past x after → HasMoved script option (IsTurnLine all_pass [] (role_of actor) (part_of script actor) calls) old new
+pub turn_moved : (script : Script) (option : Option ℕ) (calls : ℕ) (old new : Stage) (place : ℕ) (x after : Player) (actor : Actor)
+    → NamesInOrder script.node_names → drain_seat script ≡ seat_of_drains script → slice_get (actors_for script.node_names) place ≡ Some actor
+    → part_of script actor ≡ x.part → HasPlayed old new place x after
+    → ((idle : ℕ → List Entry) → Plays x old.world.past idle → HasTurned all_pass calls idle old.world.past new.world.past x after)
+    → HasLivedOn calls old.world.past new.world.past x after → HasMoved script option (IsTurnLine all_pass [] (role_of actor) (part_of script actor) calls) old new
 turn_moved script option calls old new place x after actor order last there is played turns lives p stands =
     subst (λ q. Leads script option (IsTurnLine all_pass [] (role_of actor) q calls) p new) (sym is)
     (turned script option old new place x after order last played p stands (role_of actor) calls (λ other at. ap role_of (one other actor (sym at ∙ there)))
@@ -374,7 +447,8 @@ given_budget : (option : Option ℕ) (given budget : ℕ) → option ≡ Some gi
 given_budget (Some x) given budget is most = most ∙ one x given is
 given_budget None given budget is most = none_some is
 
-pub drain_moved : (script : Script) (option : Option ℕ) (old new : Stage) (made : ℕ) → drain_seat script ≡ seat_of_drains script → HasDrained script option old new made → HasMoved script option (IsDrain all_pass script option) old new
+pub drain_moved : (script : Script) (option : Option ℕ) (old new : Stage) (made : ℕ) → drain_seat script ≡ seat_of_drains script
+    → HasDrained script option old new made → HasMoved script option (IsDrain all_pass script option) old new
 drain_moved script option old new made last d p stands = record {
   after = record p { past = new.world.past; drained = p.drained + made; budget = new.budget };
   move = record {
@@ -383,7 +457,8 @@ drain_moved script option old new made last d p stands = record {
     budget = new.budget;
     drainers = old.drainers;
     ran = new.drainers;
-    raises = d.budget ∙ ap (λ s. raised option s old.world.past old.budget) stands.setup ∙ ap (λ h. raised option script.setup h old.budget) stands.past ∙ ap (raised option script.setup p.past) stands.budget;
+    raises = d.budget ∙ ap (λ s. raised option s old.world.past old.budget) stands.setup
+        ∙ ap (λ h. raised option script.setup h old.budget) stands.past ∙ ap (raised option script.setup p.past) stands.budget;
     seats = stands.seats;
     roles = stands.roles;
     stand = subst (AreStanding old.drainers) stands.past stands.drainers;
@@ -398,10 +473,13 @@ drain_moved script option old new made last d p stands = record {
     parts = ap (λ (xs : _). parts_in xs.items) d.players ∙ stands.parts;
     plays = λ place x at named.
         let there = ap (λ (xs : _). slice_get xs.items place) (sym d.players) ∙ at in
-        plays_on x old.world.past new.world.past (told_at p.idle) (told_at p.idle) named (λ s life. d.others s (λ own. below place x there s life (subst (λ ss. IsOneOf ss s) stands.seats own))) (λ s life. refl) (stands.plays place x there named);
+        plays_on x old.world.past new.world.past (told_at p.idle) (told_at p.idle) named
+        (λ s life. d.others s (λ own. below place x there s life (subst (λ ss. IsOneOf ss s) stands.seats own))) (λ s life. refl) (stands.plays place x there named);
     lives = λ place actor x is at named.
         let there = ap (λ (xs : _). slice_get xs.items place) (sym d.players) ∙ at in
-        lives_on (role_of actor) x old.world.past new.world.past p.idle p.idle (life_at x old.world.past (told_at p.idle) named (stands.plays place x there named)) (λ s life. d.others s (λ own. below place x there s life (subst (λ ss. IsOneOf ss s) stands.seats own))) (λ s life. refl) (stands.lives place actor x is there named);
+        lives_on (role_of actor) x old.world.past new.world.past p.idle p.idle
+        (life_at x old.world.past (told_at p.idle) named (stands.plays place x there named))
+        (λ s life. d.others s (λ own. below place x there s life (subst (λ ss. IsOneOf ss s) stands.seats own))) (λ s life. refl) (stands.lives place actor x is there named);
     made = λ place x at. stands.made place x (ap (λ (xs : _). slice_get xs.items place) (sym d.players) ∙ at);
     held = λ place x at. stands.held place x (ap (λ (xs : _). slice_get xs.items place) (sym d.players) ∙ at);
     drainers = d.standing;
@@ -429,10 +507,12 @@ drain_moved script option old new made last d p stands = record {
     rests given is unspent =
         let all = given_budget option given new.budget is d.most in
         let made_is = d.drained in
-        drains_rest all_pass old.world.setup new.drainers new.world.past (new.budget - old.drained - made) old.drainers old.world.past (new.budget - old.drained) d.rounds (omega (arith, all, made_is, unspent)) (stands.rests given is (omega (arith, made_is, unspent)))
+        drains_rest all_pass old.world.setup new.drainers new.world.past (new.budget - old.drained - made) old.drainers old.world.past
+        (new.budget - old.drained) d.rounds (omega (arith, all, made_is, unspent)) (stands.rests given is (omega (arith, made_is, unspent)))
 
     below : (place : ℕ) (x : Player) → slice_get old.players.items place ≡ Some x → (s : ℕ) → IsLife x.part s → IsOneOf (drain_seats script) s → ⊥
     below place x there s life own =
-        let b = (life_between 5 (all_parts script) (seat_of_drains script) place x.part s (in_order script) (ap (λ ps. slice_get ps place) (sym stands.parts) ∙ part_at_place old.players.items place x there) life).1 in
+        let b = (life_between 5 (all_parts script) (seat_of_drains script) place x.part s (in_order script)
+        (ap (λ ps. slice_get ps place) (sym stands.parts) ∙ part_at_place old.players.items place x there) life).1 in
         let d = drains_last script s own in
         absurd (omega (arith, b, d, last))

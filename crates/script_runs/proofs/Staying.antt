@@ -1,5 +1,35 @@
 -- What keeps a settled world settled.
-use Rattle.std.proofs.Common.{◌≡◌, ◌⊎◌, ◌∙◌, ◌+◌, ◌-◌, ℕ, List, [], ◌∷◌, ◌++◌, length, drop, take, Bool, true, false, Option, Some, None, inl, inr, refl, sym, ap, subst, arith, append_assoc, true≢false, if◌then◌else◌}
+use Rattle.std.proofs.Common.{
+  ◌≡◌,
+  ◌⊎◌,
+  ◌∙◌,
+  ◌+◌,
+  ◌-◌,
+  ℕ,
+  List,
+  [],
+  ◌∷◌,
+  ◌++◌,
+  length,
+  drop,
+  take,
+  Bool,
+  true,
+  false,
+  Option,
+  Some,
+  None,
+  inl,
+  inr,
+  refl,
+  sym,
+  ap,
+  subst,
+  arith,
+  append_assoc,
+  true≢false,
+  if◌then◌else◌,
+}
 use Rattle.std.specs.Prelude.{nat_lt, reverse}
 use Rattle.std.specs.List.{list_any}
 use Rattle.std.proofs.lemmas.List.{length-drop, length-reverse, reverse-append, reverse-reverse, take_all}
@@ -62,7 +92,8 @@ is_user : (kind : SeatKind) (request : Request) → is_for_devices request ≡ t
 is_user seats.User request is not_there = refl
 is_user _ request is not_there = absurd (true≢false (sym is ∙ not_there))
 
-asked : (w : World) (kind : SeatKind) (request : Request) (a : Option DeviceAnswer) → is_for_devices request ≡ true → is_answered_there kind request ≡ false → KeepsDevices w (on_devices w kind request a)
+asked : (w : World) (kind : SeatKind) (request : Request) (a : Option DeviceAnswer) → is_for_devices request ≡ true
+    → is_answered_there kind request ≡ false → KeepsDevices w (on_devices w kind request a)
 asked w kind request a is not_there = subst (λ k. KeepsDevices w (on_devices w k request a)) (sym (is_user kind request is not_there)) (of_user w request a)
 
 pub keeps_devices : (setup : Setup) (w : World) (kind : SeatKind) (request : Request) → is_answered_there kind request ≡ false → KeepsDevices w (effect setup w kind request)
@@ -85,14 +116,17 @@ record IsSame (old new : World) : Type 0 where
   store : new.store ≡ old.store
   devices : new.devices ≡ old.devices
 
-one_same : (setup : Setup) (w : World) (kind : SeatKind) (request : Request) → is_answered_there kind request ≡ false → (world_after w (effect setup w kind request)).store.version ≡ w.store.version → IsSame w (world_after w (effect setup w kind request))
+one_same : (setup : Setup) (w : World) (kind : SeatKind) (request : Request) → is_answered_there kind request ≡ false
+    → (world_after w (effect setup w kind request)).store.version ≡ w.store.version → IsSame w (world_after w (effect setup w kind request))
 one_same setup w kind request there version = record { store = by (versions_count_writes setup w kind request); devices = (keeps_devices setup w kind request there).keeps }
   where
-    by : KeepsStore w (world_after w (effect setup w kind request)) ⊎ WritesOnce w (world_after w (effect setup w kind request)) (reply_to (effect setup w kind request)) → (world_after w (effect setup w kind request)).store ≡ w.store
+    by : KeepsStore w (world_after w (effect setup w kind request))
+        ⊎ WritesOnce w (world_after w (effect setup w kind request)) (reply_to (effect setup w kind request)) → (world_after w (effect setup w kind request)).store ≡ w.store
     by (inl k) = k.store
     by (inr k) = let more = k.version in absurd (omega (arith, more, version))
 
-all_same : (setup : Setup) (newer past : List Entry) → list_any calls_device newer ≡ false → (world setup (newer ++ past)).store.version ≡ (world setup past).store.version → IsSame (world setup past) (world setup (newer ++ past))
+all_same : (setup : Setup) (newer past : List Entry) → list_any calls_device newer ≡ false
+    → (world setup (newer ++ past)).store.version ≡ (world setup past).store.version → IsSame (world setup past) (world setup (newer ++ past))
 all_same setup [] past none version = record { store = refl; devices = refl }
 all_same setup (e ∷ newer) past none version =
     let each = or_parts (calls_device e) (list_any calls_device newer) none in
@@ -125,21 +159,25 @@ since_is entries newer older are =
     ap (drop (length older)) turned ∙ ap (λ n. drop n (reverse older ++ reverse newer)) (sym (length-reverse older)) ∙ drop_past (reverse older) (reverse newer)
 
 none_since : (entries newer older : List Entry) → reverse entries ≡ newer ++ older → list_any calls_device (drop (length older) entries) ≡ false → list_any calls_device newer ≡ false
-none_since entries newer older are none = list_any-IsPermutation calls_device newer (reverse newer) (IsPermutation-reverse newer) ∙ (ap (list_any calls_device) (sym (since_is entries newer older are)) ∙ none)
+none_since entries newer older are none = list_any-IsPermutation calls_device newer (reverse newer) (IsPermutation-reverse newer)
+    ∙ (ap (list_any calls_device) (sym (since_is entries newer older are)) ∙ none)
 
 -- what is read from a place to the end
 pub to_the_end : {X : Type 0} (place : ℕ) (xs : List X) → take (length xs - place) (drop place xs) ≡ drop place xs
 to_the_end place xs = let rest = length-drop place xs in take_all (length xs - place) (drop place xs) (omega (arith, rest))
 
-pub stays : (setup : Setup) (past entries : List Entry) (at : SettledAt) → WasSettled setup past at → reverse entries ≡ past → (world setup past).store.version ≡ at.version → list_any calls_device (drop at.entries entries) ≡ false → IsSettled setup (world setup past)
+pub stays : (setup : Setup) (past entries : List Entry) (at : SettledAt) → WasSettled setup past at → reverse entries ≡ past
+    → (world setup past).store.version ≡ at.version → list_any calls_device (drop at.entries entries) ≡ false → IsSettled setup (world setup past)
 stays setup past entries at was is version none =
     let here : reverse entries ≡ was.newer ++ was.older = is ∙ was.are in
     let quiet = none_since entries was.newer was.older here (ap (λ n. list_any calls_device (drop n entries)) was.entries ∙ none) in
     let still : (world setup (was.newer ++ was.older)).store.version ≡ (world setup was.older).store.version = ap (λ h. (world setup h).store.version) (sym was.are) ∙ version ∙ sym was.version in
-    subst (λ h. IsSettled setup (world setup h)) (sym was.are) (same_settled setup (world setup was.older) (world setup (was.newer ++ was.older)) (all_same setup was.newer was.older quiet still) was.settled)
+    subst (λ h. IsSettled setup (world setup h)) (sym was.are)
+    (same_settled setup (world setup was.older) (world setup (was.newer ++ was.older)) (all_same setup was.newer was.older quiet still) was.settled)
 
 -- a drain has just ended settled
-pub noted_now : (setup : Setup) (past entries : List Entry) (version : ℕ) → reverse entries ≡ past → (world setup past).store.version ≡ version → IsSettled setup (world setup past) → WasSettled setup past (record { entries = length entries; version = version })
+pub noted_now : (setup : Setup) (past entries : List Entry) (version : ℕ) → reverse entries ≡ past → (world setup past).store.version ≡ version
+    → IsSettled setup (world setup past) → WasSettled setup past (record { entries = length entries; version = version })
 noted_now setup past entries version is at settled = record {
   newer = [];
   older = past;
@@ -180,6 +218,8 @@ noted_on setup past new (Some at) grown was = record {
   settled = was.settled;
 }
 
-pub stays_noted : (old new : Stage) → new.world.setup ≡ old.world.setup → new.settled ≡ old.settled → IsGrown old.world.past new.world.past → IsNoted old.world.setup old.world.past old.settled → IsNoted new.world.setup new.world.past new.settled
+pub stays_noted : (old new : Stage) → new.world.setup ≡ old.world.setup → new.settled ≡ old.settled → IsGrown old.world.past new.world.past
+    → IsNoted old.world.setup old.world.past old.settled → IsNoted new.world.setup new.world.past new.settled
 stays_noted old new setup settled grown was =
-    subst (IsNoted new.world.setup new.world.past) (sym settled) (subst (λ u. IsNoted u new.world.past old.settled) (sym setup) (noted_on old.world.setup old.world.past new.world.past old.settled grown was))
+    subst (IsNoted new.world.setup new.world.past) (sym settled)
+    (subst (λ u. IsNoted u new.world.past old.settled) (sym setup) (noted_on old.world.setup old.world.past new.world.past old.settled grown was))

@@ -13,7 +13,8 @@ use Rattle.script_runs.specs.Replays.{IsReplay, Progress}
 
 -- each life of each actor that a turn line names is diligent
 abbrev pub AreDiligent : Script → Progress → Type 0
-AreDiligent script end = (place : ℕ) (actor : Actor) (calls : ℕ) → slice_get script.lines place ≡ Some (Turn actor calls) → (seat : ℕ) → (part_of script actor).first ≤ seat → seat < (part_of script actor).first + lives_of (part_of script actor)
+AreDiligent script end = (place : ℕ) (actor : Actor) (calls : ℕ) → slice_get script.lines place ≡ Some (Turn actor calls) → (seat : ℕ)
+    → (part_of script actor).first ≤ seat → seat < (part_of script actor).first + lives_of (part_of script actor)
     → IsDiligentLife [] (role_of actor) (part_of script actor) seat (end.made (part_of script actor).name) end.past
 
 -- the replay is one that ends so, and its actors were diligent

@@ -36,4 +36,5 @@ DrainsComeTo = (lets : Lets) (script : Script) (option : Option ℕ) (before aft
 
 -- where no call is held back each call leaves its entry
 abbrev pub CallsLeaveEntries : Type 0
-CallsLeaveEntries = (script : Script) (option : Option ℕ) (before after : Progress) → IsDrain all_pass script option before after → IsLonger (drain_seats script) (after.drained - before.drained) before.past after.past
+CallsLeaveEntries = (script : Script) (option : Option ℕ) (before after : Progress) → IsDrain all_pass script option before after
+    → IsLonger (drain_seats script) (after.drained - before.drained) before.past after.past

@@ -1,10 +1,10 @@
 -- Examples of the definitions: cases that hold, and cases beside them that do not. A choice of this project.
 use Rattle.std.specs.Prelude.{ℕ, ◌≡◌, ◌≢◌, true, false, List, [], ◌∷◌, Some, None, codes}
-use Rattle.kube_types.specs.declared.objects.Meta.{Meta}
-use Rattle.kube_types.specs.declared.objects.Object.{Object}
-use Rattle.kube_types.specs.declared.objects.Object.TheVariants.{Node, Pod}
-use Rattle.kube_types.specs.Uids.{uid_of_serial}
-use Rattle.kube_types.specs.declared.parts.Kind.TheVariants as kinds
+use Rattle.kube_objects.specs.declared.objects.Meta.{Meta}
+use Rattle.kube_objects.specs.declared.objects.Object.{Object}
+use Rattle.kube_objects.specs.declared.objects.Object.TheVariants.{Node, Pod}
+use Rattle.kube_parts.specs.Uids.{uid_of_serial}
+use Rattle.kube_parts.specs.declared.parts.Kind.TheVariants as kinds
 use Rattle.call_types.specs.declared.entry.Entry.{Entry}
 use Rattle.call_types.specs.declared.request.Request.TheVariants as requests
 use Rattle.call_types.specs.declared.request.SeatKind.TheVariants as seats

@@ -3,7 +3,7 @@
 use Rattle.std.specs.Prelude.{ℕ, ◌≡◌, ◌≤◌, ◌<◌, true, List, [], ◌∷◌, Ok, length, ⊤}
 use Rattle.plain_data.specs.Pairs.{text_cmp}
 use Rattle.plain_data.specs.Rows.{IsRising}
-use Rattle.kube_types.specs.Bindings.{has_name}
+use Rattle.kube_objects.specs.Bindings.{has_name}
 use Rattle.binder_model.specs.Imports.{ImportsPass}
 use Rattle.script_lines.specs.declared.actors.Actor.{Actor}
 use Rattle.script_lines.specs.declared.actors.Actor.TheVariants.{Worker, Agent}

@@ -98,7 +98,8 @@ part_at takes name kind first lines = record {
 
 -- the part of an actor, which takes part where a turn line names it
 abbrev pub part_of : Script → Actor → Part
-part_of script actor = part_at (is_named (actor_word actor) script.lines) (actor_word actor) (seat_kind_of actor) (first_actor_seat + lives_before (actor_word actor) (all_actors script) script.lines) script.lines
+part_of script actor = part_at (is_named (actor_word actor) script.lines) (actor_word actor) (seat_kind_of actor) (first_actor_seat + lives_before
+    (actor_word actor) (all_actors script) script.lines) script.lines
 
 -- the drains' actors
 

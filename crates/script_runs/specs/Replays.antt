@@ -114,7 +114,8 @@ IsMove script option Drain before after = IsDrain all_pass script option before 
 -- the lines in order, up to the progress `end`
 pub data AreMoves (script : Script) (option : Option ℕ) (end : Progress) : List Line → Progress → Type 0 where
   NoMoves : {lines : List Line} {now : Progress} → lines ≡ [] → end ≡ now → AreMoves script option end lines now
-  MoreMoves : {lines : List Line} {now : Progress} (line : Line) (rest : List Line) (next : Progress) → lines ≡ line ∷ rest → IsMove script option line now next → AreMoves script option end rest next → AreMoves script option end lines now
+  MoreMoves : {lines : List Line} {now : Progress} (line : Line) (rest : List Line) (next : Progress) → lines ≡ line ∷ rest
+      → IsMove script option line now next → AreMoves script option end rest next → AreMoves script option end lines now
 
 -- ---- the whole
 

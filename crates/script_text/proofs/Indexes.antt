@@ -6,14 +6,32 @@ use Rattle.std.proofs.lemmas.List.Concat.{flat_map-append}
 use Rattle.std.proofs.lemmas.List.Sums.{sum_by-append}
 use Rattle.std.proofs.lemmas.Bool.{lt-ltb, le-ltb}
 use Rattle.plain_data.specs.Pairs.{Pair}
-use Rattle.kube_types.specs.declared.objects.Object.{Object}
+use Rattle.kube_objects.specs.declared.objects.Object.{Object}
 use Rattle.script_lines.specs.declared.actors.Actor.{Actor}
 use Rattle.script_text.specs.declared.script.Line.{Line}
 use Rattle.script_text.specs.declared.script.Line.TheVariants.{Call, Lose, Restart, Turn, Drain}
 use Rattle.script_text.specs.declared.numbers.NumberRow.{NumberRow}
 use Rattle.script_text.specs.declared.index.Index.{Index}
 use Rattle.script_lines.specs.Actors.{actor_word}
-use Rattle.script_text.specs.Said.{and_node, created, created_node, node_name, imported_node, creates, has_begun, agents_after, imported_after, agents_of, objects_of, loss_of, losses_of, restart_of, restarts_of, turn_calls, calls_of}
+use Rattle.script_text.specs.Said.{
+  and_node,
+  created,
+  created_node,
+  node_name,
+  imported_node,
+  creates,
+  has_begun,
+  agents_after,
+  imported_after,
+  agents_of,
+  objects_of,
+  loss_of,
+  losses_of,
+  restart_of,
+  restarts_of,
+  turn_calls,
+  calls_of,
+}
 use Rattle.script_text.specs.Steps.Indexed.{IsIndex}
 use Rattle.script_text.specs.Steps.Numbers.{numbers_at, and_number}
 use Rattle.call_types.specs.declared.request.Request.{Request}
@@ -102,7 +120,8 @@ module _ (imports : List Object) where
     calls = g.calls ∙ ap (λ n. n + turn_calls line) h.calls ∙ sym (sum_more turn_calls lines line);
   }
 
-  pub create_noted : (old new : Index) (lines : List Line) (line : Line) (o : Object) → IsIndex old imports lines → created line ≡ Some o → HasOneMore old new (node_name o) → IsIndex new imports (lines ++ line ∷ [])
+  pub create_noted : (old new : Index) (lines : List Line) (line : Line) (o : Object) → IsIndex old imports lines → created line ≡ Some o
+      → HasOneMore old new (node_name o) → IsIndex new imports (lines ++ line ∷ [])
   create_noted old new lines line o h e c = grown old new lines line h (grows_create old new line o e c)
 
   pub loss_noted : (old new : Index) (lines : List Line) (actor : Actor) (call : ℕ) (after : Bool) → IsIndex old imports lines
@@ -141,7 +160,8 @@ module _ (imports : List Object) where
       } in
       subst (λ (i : Index). IsIndex i imports (lines ++ Turn actor calls ∷ [])) (sym e) (grown old _ lines (Turn actor calls) h g)
 
-  pub call_noted : (old : Index) (lines : List Line) (user : ℕ) (request : Request) → IsIndex old imports lines → created (Call user request) ≡ None → IsIndex old imports (lines ++ Call user request ∷ [])
+  pub call_noted : (old : Index) (lines : List Line) (user : ℕ) (request : Request) → IsIndex old imports lines → created (Call user request) ≡ None
+      → IsIndex old imports (lines ++ Call user request ∷ [])
   call_noted old lines user request h e = grown old old lines (Call user request) h (record {
     agents = same_agents old.agents (Call user request) e;
     losses = λ name. sym (append-nil (numbers_at name old.losses));
@@ -161,74 +181,94 @@ module _ (imports : List Object) where
 
   -- ---- limits
 
-  pub objects_passed : (old : Index) (lines : List Line) (line : Line) (o : Object) → IsIndex old imports lines → created line ≡ Some o → most_objects ≤ old.objects → create_limit imports (lines ++ line ∷ []) true ≡ Some TooManyObjects
+  pub objects_passed : (old : Index) (lines : List Line) (line : Line) (o : Object) → IsIndex old imports lines → created line ≡ Some o
+      → most_objects ≤ old.objects → create_limit imports (lines ++ line ∷ []) true ≡ Some TooManyObjects
   objects_passed old lines line o h e over =
       let many : most_objects < objects_of imports (lines ++ line ∷ []) = let more = creates_more lines line o e in omega (arith, more, h.objects, over) in
       rw (lt-ltb most_objects (objects_of imports (lines ++ line ∷ [])) many) refl
 
-  few_objects : (old : Index) (lines : List Line) (line : Line) (o : Object) → IsIndex old imports lines → created line ≡ Some o → old.objects < most_objects → ltb most_objects (objects_of imports (lines ++ line ∷ [])) ≡ false
+  few_objects : (old : Index) (lines : List Line) (line : Line) (o : Object) → IsIndex old imports lines → created line ≡ Some o
+      → old.objects < most_objects → ltb most_objects (objects_of imports (lines ++ line ∷ [])) ≡ false
   few_objects old lines line o h e under =
       le-ltb most_objects (objects_of imports (lines ++ line ∷ [])) (let more = creates_more lines line o e in omega (arith, more, h.objects, under))
 
-  pub nodes_passed : (old new : Index) (lines : List Line) (line : Line) (o : Object) → IsIndex old imports lines → created line ≡ Some o → HasOneMore old new (node_name o) → old.objects < most_objects → most_nodes < length new.agents → create_limit imports (lines ++ line ∷ []) true ≡ Some TooManyNodes
+  pub nodes_passed : (old new : Index) (lines : List Line) (line : Line) (o : Object) → IsIndex old imports lines → created line ≡ Some o
+      → HasOneMore old new (node_name o) → old.objects < most_objects → most_nodes < length new.agents → create_limit imports (lines ++ line ∷ []) true ≡ Some TooManyNodes
   nodes_passed old new lines line o h e c under over =
       let is = create_noted old new lines line o h e c in
-      let many : ltb most_nodes (length (agents_of imports (lines ++ line ∷ []))) ≡ true = ap (λ (a : List Pair). ltb most_nodes (length a)) (sym is.agents) ∙ lt-ltb most_nodes (length new.agents) over in
+      let many : ltb most_nodes (length (agents_of imports (lines ++ line ∷ []))) ≡ true =
+      ap (λ (a : List Pair). ltb most_nodes (length a)) (sym is.agents) ∙ lt-ltb most_nodes (length new.agents) over in
       rw (few_objects old lines line o h e under, many) refl
 
-  pub none_passed : (old new : Index) (lines : List Line) (line : Line) (o : Object) → IsIndex old imports lines → created line ≡ Some o → HasOneMore old new (node_name o) → old.objects < most_objects → length new.agents ≤ most_nodes → create_limit imports (lines ++ line ∷ []) true ≡ None
+  pub none_passed : (old new : Index) (lines : List Line) (line : Line) (o : Object) → IsIndex old imports lines → created line ≡ Some o
+      → HasOneMore old new (node_name o) → old.objects < most_objects → length new.agents ≤ most_nodes → create_limit imports (lines ++ line ∷ []) true ≡ None
   none_passed old new lines line o h e c under few =
       let is = create_noted old new lines line o h e c in
-      let none : ltb most_nodes (length (agents_of imports (lines ++ line ∷ []))) ≡ false = ap (λ (a : List Pair). ltb most_nodes (length a)) (sym is.agents) ∙ le-ltb most_nodes (length new.agents) few in
+      let none : ltb most_nodes (length (agents_of imports (lines ++ line ∷ []))) ≡ false =
+      ap (λ (a : List Pair). ltb most_nodes (length a)) (sym is.agents) ∙ le-ltb most_nodes (length new.agents) few in
       rw (few_objects old lines line o h e under, none) refl
 
   -- ---- numbers of an actor, after its name
 
-  loss_index : (old : Index) (lines : List Line) (actor : Actor) (call : ℕ) (after : Bool) (name : List ℕ) (rows : List NumberRow) → IsIndex old imports lines → name ≡ actor_word actor → rows ≡ and_number name call old.losses
+  loss_index : (old : Index) (lines : List Line) (actor : Actor) (call : ℕ) (after : Bool) (name : List ℕ) (rows : List NumberRow)
+      → IsIndex old imports lines → name ≡ actor_word actor → rows ≡ and_number name call old.losses
       → IsIndex (record old { losses = rows }) imports (lines ++ Lose actor call after ∷ [])
   loss_index old lines actor call after name rows h is added =
       loss_noted old _ lines actor call after h (λ i. record old { losses = (added ∙ ap (λ k. and_number k call old.losses) is) i })
 
-  losses_counted : (old : Index) (lines : List Line) (actor : Actor) (call : ℕ) (after : Bool) (name : List ℕ) (rows : List NumberRow) → IsIndex old imports lines → name ≡ actor_word actor → rows ≡ and_number name call old.losses
+  losses_counted : (old : Index) (lines : List Line) (actor : Actor) (call : ℕ) (after : Bool) (name : List ℕ) (rows : List NumberRow)
+      → IsIndex old imports lines → name ≡ actor_word actor → rows ≡ and_number name call old.losses
       → length (losses_of (actor_word actor) (lines ++ Lose actor call after ∷ [])) ≡ length (numbers_at name rows)
   losses_counted old lines actor call after name rows h is added =
       let index = loss_index old lines actor call after name rows h is added in
       ap length (sym (index.losses (actor_word actor)) ∙ ap (λ k. numbers_at k rows) (sym is))
 
-  pub loss_passed : (old : Index) (lines : List Line) (actor : Actor) (call : ℕ) (after : Bool) (name : List ℕ) (rows : List NumberRow) → IsIndex old imports lines → name ≡ actor_word actor → rows ≡ and_number name call old.losses
+  pub loss_passed : (old : Index) (lines : List Line) (actor : Actor) (call : ℕ) (after : Bool) (name : List ℕ) (rows : List NumberRow)
+      → IsIndex old imports lines → name ≡ actor_word actor → rows ≡ and_number name call old.losses
       → most_losses < length (numbers_at name rows) → line_limit imports (lines ++ Lose actor call after ∷ []) (Lose actor call after) ≡ Some TooManyLosses
   loss_passed old lines actor call after name rows h is added over =
       let counted = losses_counted old lines actor call after name rows h is added in
       rw (lt-ltb most_losses (length (losses_of (actor_word actor) (lines ++ Lose actor call after ∷ []))) (omega (arith, counted, over))) refl
 
-  pub loss_kept : (old : Index) (lines : List Line) (actor : Actor) (call : ℕ) (after : Bool) (name : List ℕ) (rows : List NumberRow) → IsIndex old imports lines → name ≡ actor_word actor → rows ≡ and_number name call old.losses
-      → length (numbers_at name rows) ≤ most_losses → IsIndex (record old { losses = rows }) imports (lines ++ Lose actor call after ∷ []) × (line_limit imports (lines ++ Lose actor call after ∷ []) (Lose actor call after) ≡ None)
+  pub loss_kept : (old : Index) (lines : List Line) (actor : Actor) (call : ℕ) (after : Bool) (name : List ℕ) (rows : List NumberRow)
+      → IsIndex old imports lines → name ≡ actor_word actor → rows ≡ and_number name call old.losses
+      → length (numbers_at name rows) ≤ most_losses → IsIndex (record old { losses = rows }) imports (lines ++ Lose actor call after ∷ [])
+      × (line_limit imports (lines ++ Lose actor call after ∷ []) (Lose actor call after) ≡ None)
   loss_kept old lines actor call after name rows h is added few =
-      let counted = losses_counted old lines actor call after name rows h is added in
-      (loss_index old lines actor call after name rows h is added, rw (le-ltb most_losses (length (losses_of (actor_word actor) (lines ++ Lose actor call after ∷ []))) (omega (arith, counted, few))) refl)
+      let counted = losses_counted old lines actor call after name rows h is added in (
+        loss_index old lines actor call after name rows h is added,
+        rw (le-ltb most_losses (length (losses_of (actor_word actor) (lines ++ Lose actor call after ∷ []))) (omega (arith, counted, few))) refl,
+      )
 
-  restart_index : (old : Index) (lines : List Line) (actor : Actor) (after : ℕ) (name : List ℕ) (rows : List NumberRow) → IsIndex old imports lines → name ≡ actor_word actor → rows ≡ and_number name after old.restarts
+  restart_index : (old : Index) (lines : List Line) (actor : Actor) (after : ℕ) (name : List ℕ) (rows : List NumberRow) → IsIndex old imports lines
+      → name ≡ actor_word actor → rows ≡ and_number name after old.restarts
       → IsIndex (record old { restarts = rows }) imports (lines ++ Restart actor after ∷ [])
   restart_index old lines actor after name rows h is added =
       restart_noted old _ lines actor after h (λ i. record old { restarts = (added ∙ ap (λ k. and_number k after old.restarts) is) i })
 
-  restarts_counted : (old : Index) (lines : List Line) (actor : Actor) (after : ℕ) (name : List ℕ) (rows : List NumberRow) → IsIndex old imports lines → name ≡ actor_word actor → rows ≡ and_number name after old.restarts
+  restarts_counted : (old : Index) (lines : List Line) (actor : Actor) (after : ℕ) (name : List ℕ) (rows : List NumberRow)
+      → IsIndex old imports lines → name ≡ actor_word actor → rows ≡ and_number name after old.restarts
       → length (restarts_of (actor_word actor) (lines ++ Restart actor after ∷ [])) ≡ length (numbers_at name rows)
   restarts_counted old lines actor after name rows h is added =
       let index = restart_index old lines actor after name rows h is added in
       ap length (sym (index.restarts (actor_word actor)) ∙ ap (λ k. numbers_at k rows) (sym is))
 
-  pub restart_passed : (old : Index) (lines : List Line) (actor : Actor) (after : ℕ) (name : List ℕ) (rows : List NumberRow) → IsIndex old imports lines → name ≡ actor_word actor → rows ≡ and_number name after old.restarts
+  pub restart_passed : (old : Index) (lines : List Line) (actor : Actor) (after : ℕ) (name : List ℕ) (rows : List NumberRow)
+      → IsIndex old imports lines → name ≡ actor_word actor → rows ≡ and_number name after old.restarts
       → most_restarts < length (numbers_at name rows) → line_limit imports (lines ++ Restart actor after ∷ []) (Restart actor after) ≡ Some TooManyRestarts
   restart_passed old lines actor after name rows h is added over =
       let counted = restarts_counted old lines actor after name rows h is added in
       rw (lt-ltb most_restarts (length (restarts_of (actor_word actor) (lines ++ Restart actor after ∷ []))) (omega (arith, counted, over))) refl
 
-  pub restart_kept : (old : Index) (lines : List Line) (actor : Actor) (after : ℕ) (name : List ℕ) (rows : List NumberRow) → IsIndex old imports lines → name ≡ actor_word actor → rows ≡ and_number name after old.restarts
-      → length (numbers_at name rows) ≤ most_restarts → IsIndex (record old { restarts = rows }) imports (lines ++ Restart actor after ∷ []) × (line_limit imports (lines ++ Restart actor after ∷ []) (Restart actor after) ≡ None)
+  pub restart_kept : (old : Index) (lines : List Line) (actor : Actor) (after : ℕ) (name : List ℕ) (rows : List NumberRow)
+      → IsIndex old imports lines → name ≡ actor_word actor → rows ≡ and_number name after old.restarts
+      → length (numbers_at name rows) ≤ most_restarts → IsIndex (record old { restarts = rows }) imports (lines ++ Restart actor after ∷ [])
+      × (line_limit imports (lines ++ Restart actor after ∷ []) (Restart actor after) ≡ None)
   restart_kept old lines actor after name rows h is added few =
-      let counted = restarts_counted old lines actor after name rows h is added in
-      (restart_index old lines actor after name rows h is added, rw (le-ltb most_restarts (length (restarts_of (actor_word actor) (lines ++ Restart actor after ∷ []))) (omega (arith, counted, few))) refl)
+      let counted = restarts_counted old lines actor after name rows h is added in (
+        restart_index old lines actor after name rows h is added,
+        rw (le-ltb most_restarts (length (restarts_of (actor_word actor) (lines ++ Restart actor after ∷ []))) (omega (arith, counted, few))) refl,
+      )
 
   pub turn_kept : (old : Index) (lines : List Line) (actor : Actor) (calls all : ℕ) → IsIndex old imports lines → all ≡ old.calls + calls → all ≤ most_calls
       → IsIndex (record old { calls = all }) imports (lines ++ Turn actor calls ∷ []) × (line_limit imports (lines ++ Turn actor calls ∷ []) (Turn actor calls) ≡ None)
@@ -243,7 +283,8 @@ module _ (imports : List Object) where
       let limit : line_limit imports (lines ++ Call user request ∷ []) (Call user request) ≡ None = ap (λ o. create_limit imports (lines ++ Call user request ∷ []) (is_some o)) none in
       subst (λ l. IsIndex old imports (lines ++ l ∷ []) × (line_limit imports (lines ++ l ∷ []) l ≡ None)) (sym is) (call_noted old lines user request h none, limit)
 
-  pub drain_kept : (old : Index) (lines : List Line) (line : Line) → IsIndex old imports lines → line ≡ Drain → IsIndex old imports (lines ++ line ∷ []) × (line_limit imports (lines ++ line ∷ []) line ≡ None)
+  pub drain_kept : (old : Index) (lines : List Line) (line : Line) → IsIndex old imports lines → line ≡ Drain
+      → IsIndex old imports (lines ++ line ∷ []) × (line_limit imports (lines ++ line ∷ []) line ≡ None)
   drain_kept old lines line h is = subst (λ l. IsIndex old imports (lines ++ l ∷ []) × (line_limit imports (lines ++ l ∷ []) l ≡ None)) (sym is) (drain_noted old lines h, refl)
 
 -- ---- an imported object
@@ -271,7 +312,8 @@ agents_imported imports lines o e =
 objects_imported : (imports : List Object) (lines : List Line) (o : Object) → objects_of (imports ++ o ∷ []) lines ≡ objects_of imports lines + 1
 objects_imported imports lines o = let long = length-append imports (o ∷ []) in omega (arith, long)
 
-import_noted : (old new : Index) (imports : List Object) (lines : List Line) (o : Object) → IsIndex old imports lines → has_begun lines ≡ false → HasOneMore old new (imported_node o) → IsIndex new (imports ++ o ∷ []) lines
+import_noted : (old new : Index) (imports : List Object) (lines : List Line) (o : Object) → IsIndex old imports lines → has_begun lines ≡ false
+    → HasOneMore old new (imported_node o) → IsIndex new (imports ++ o ∷ []) lines
 import_noted old new imports lines o h e m = record {
   agents = m.agents ∙ ap (λ a. and_node a (imported_node o)) h.agents ∙ sym (agents_imported imports lines o e);
   losses = λ name. ap (numbers_at name) m.losses ∙ h.losses name;
@@ -280,23 +322,27 @@ import_noted old new imports lines o h e m = record {
   calls = m.calls ∙ h.calls;
 }
 
-pub imports_passed : (old : Index) (imports : List Object) (lines : List Line) (o : Object) → IsIndex old imports lines → most_objects ≤ old.objects → object_limit (imports ++ o ∷ []) lines ≡ Some TooManyObjects
+pub imports_passed : (old : Index) (imports : List Object) (lines : List Line) (o : Object) → IsIndex old imports lines → most_objects ≤ old.objects
+    → object_limit (imports ++ o ∷ []) lines ≡ Some TooManyObjects
 imports_passed old imports lines o h over =
     let many : most_objects < objects_of (imports ++ o ∷ []) lines = let more = objects_imported imports lines o in omega (arith, more, h.objects, over) in
     rw (lt-ltb most_objects (objects_of (imports ++ o ∷ []) lines) many) refl
 
-few_imports : (old : Index) (imports : List Object) (lines : List Line) (o : Object) → IsIndex old imports lines → old.objects < most_objects → ltb most_objects (objects_of (imports ++ o ∷ []) lines) ≡ false
+few_imports : (old : Index) (imports : List Object) (lines : List Line) (o : Object) → IsIndex old imports lines → old.objects < most_objects
+    → ltb most_objects (objects_of (imports ++ o ∷ []) lines) ≡ false
 few_imports old imports lines o h under =
     le-ltb most_objects (objects_of (imports ++ o ∷ []) lines) (let more = objects_imported imports lines o in omega (arith, more, h.objects, under))
 
-pub imported_nodes_passed : (old new : Index) (imports : List Object) (lines : List Line) (o : Object) → IsIndex old imports lines → has_begun lines ≡ false → HasOneMore old new (imported_node o) → old.objects < most_objects → most_nodes < length new.agents
+pub imported_nodes_passed : (old new : Index) (imports : List Object) (lines : List Line) (o : Object) → IsIndex old imports lines
+    → has_begun lines ≡ false → HasOneMore old new (imported_node o) → old.objects < most_objects → most_nodes < length new.agents
     → object_limit (imports ++ o ∷ []) lines ≡ Some TooManyNodes
 imported_nodes_passed old new imports lines o h e m under over =
     let is = import_noted old new imports lines o h e m in
     let many : ltb most_nodes (length (agents_of (imports ++ o ∷ []) lines)) ≡ true = ap (λ (a : List Pair). ltb most_nodes (length a)) (sym is.agents) ∙ lt-ltb most_nodes (length new.agents) over in
     rw (few_imports old imports lines o h under, many) refl
 
-pub import_kept : (old new : Index) (imports : List Object) (lines : List Line) (o : Object) → IsIndex old imports lines → has_begun lines ≡ false → HasOneMore old new (imported_node o) → old.objects < most_objects → length new.agents ≤ most_nodes
+pub import_kept : (old new : Index) (imports : List Object) (lines : List Line) (o : Object) → IsIndex old imports lines → has_begun lines ≡ false
+    → HasOneMore old new (imported_node o) → old.objects < most_objects → length new.agents ≤ most_nodes
     → IsIndex new (imports ++ o ∷ []) lines × (object_limit (imports ++ o ∷ []) lines ≡ None)
 import_kept old new imports lines o h e m under few =
     let is = import_noted old new imports lines o h e m in

@@ -4,7 +4,7 @@ use Rattle.script_lines.specs.declared.errors.Reason.{Reason}
 use Rattle.script_lines.specs.declared.errors.LineError.{LineError}
 use Rattle.script_lines.specs.declared.errors.LineError.TheVariants as lines
 use Rattle.script_lines.specs.Answers.{MemberGives}
-use Rattle.kube_types.specs.declared.objects.Object.{Object}
+use Rattle.kube_objects.specs.declared.objects.Object.{Object}
 use Rattle.script_text.specs.declared.script.Line.{Line}
 use Rattle.script_text.specs.LineReaders.{as_import, as_line}
 use Rattle.script_text.specs.Steps.Results.{import_result, line_result}

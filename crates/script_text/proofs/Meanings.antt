@@ -1,8 +1,8 @@
 -- The meaning of a line that names no actor is the same whatever agents are known, and objects are imported before any call.
 use Rattle.std.proofs.Common.{◌≡◌, ℕ, List, Bool, true, false, Option, Some, None, Result, Ok, Err, IfOk, refl, ap, subst}
 use Rattle.serde_json.specs.Data.{Data}
-use Rattle.kube_types.specs.declared.names.ImportFault.{ImportFault}
-use Rattle.kube_types.specs.declared.objects.Object.{Object}
+use Rattle.kube_parts.specs.declared.names.ImportFault.{ImportFault}
+use Rattle.kube_objects.specs.declared.objects.Object.{Object}
 use Rattle.binder_model.specs.Imports.{import_fault}
 use Rattle.object_text.specs.declared.errors.Member.TheVariants as manifests
 use Rattle.script_lines.specs.declared.line_member.LineMember.TheVariants as members
@@ -17,7 +17,26 @@ use Rattle.plain_data.specs.Pairs.{Pair}
 use Rattle.script_lines.specs.declared.verbs.Verb.{Verb}
 use Rattle.script_lines.specs.declared.verbs.Verb.TheVariants as verbs
 use Rattle.script_text.specs.Said.{Said, has_begun}
-use Rattle.script_text.specs.LineReaders.{create_line, update_line, edit_line, delete_line, get_line, list_line, time_line, pool_line, fault_line, import_line, unless_fault, lose_line, restart_line, turn_line, verb_at, as_line, meaning_by, meaning_of}
+use Rattle.script_text.specs.LineReaders.{
+  create_line,
+  update_line,
+  edit_line,
+  delete_line,
+  get_line,
+  list_line,
+  time_line,
+  pool_line,
+  fault_line,
+  import_line,
+  unless_fault,
+  lose_line,
+  restart_line,
+  turn_line,
+  verb_at,
+  as_line,
+  meaning_by,
+  meaning_of,
+}
 use Rattle.script_text.specs.Steps.Indexed.{CanTake}
 use Rattle.script_text.specs.Steps.Known.{IfNamed}
 
@@ -48,7 +67,8 @@ of_line lines (Err reason) = tt
 
 of_pool : (lines : List Line) (d : Data) → CanBe lines (pool_line d)
 unfolding pool_line
-of_pool lines d = past (text_at (members.Of manifests.Name) d) _ (λ name. past (text_at (members.Of manifests.Provisioner) d) _ (λ provisioner. past (size_at d) _ (λ amount. past (topology_at d) _ (λ topology. tt))))
+of_pool lines d = past (text_at (members.Of manifests.Name) d) _
+    (λ name. past (text_at (members.Of manifests.Provisioner) d) _ (λ provisioner. past (size_at d) _ (λ amount. past (topology_at d) _ (λ topology. tt))))
   where
     past : {A : Type 0} (r : Result A Reason) (f : A → Result Meaning Reason) → ((a : A) → CanBe lines (f a)) → CanBe lines (r >>= f)
     past (Ok a) f k = k a

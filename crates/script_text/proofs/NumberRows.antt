@@ -43,7 +43,8 @@ put_found rows name n i row numbers at is more =
     let same : (record { name = row.name; numbers = numbers }) ≡ new = (λ j. record { name = named j; numbers = numbered j }) in
     ap (λ r. set rows i r) same ∙ sym (put_at nat_list_cmp_total row_name name new refl rows i at)
 
-pub put_absent : (rows : List NumberRow) (name : List ℕ) (n i : ℕ) (row : NumberRow) → AreNumbers rows → IsNumbersGap rows name i → row.name ≡ name → row.numbers ≡ n ∷ [] → insert rows i row ≡ and_number name n rows
+pub put_absent : (rows : List NumberRow) (name : List ℕ) (n i : ℕ) (row : NumberRow) → AreNumbers rows → IsNumbersGap rows name i → row.name ≡ name
+    → row.numbers ≡ n ∷ [] → insert rows i row ≡ and_number name n rows
 put_absent rows name n i row rising gap named one =
     let none : numbers_at name rows ≡ [] = ap numbers_in (find_gap nat_list_cmp_total row_name name rows i rising gap) in
     let numbered : row.numbers ≡ numbers_at name rows ++ n ∷ [] = one ∙ ap (λ ns. ns ++ n ∷ []) (sym none) in

@@ -5,10 +5,22 @@ use Rattle.std.specs.List.{list_all, slice_split}
 use Rattle.std.specs.declared.result.Result.{Result}
 use Rattle.serde_json.specs.Data.{Data}
 use Rattle.plain_data.specs.Pairs.{Pair}
-use Rattle.kube_types.specs.declared.objects.Object.{Object}
+use Rattle.kube_objects.specs.declared.objects.Object.{Object}
 use Rattle.object_text.specs.Reading.{is_object, value_of}
 use Rattle.script_lines.specs.declared.errors.Reason.{Reason}
-use Rattle.script_lines.specs.declared.errors.Reason.TheVariants.{TooLong, NotObject, UnknownDo, TooManyLines, TooManyObjects, TooManyNodes, TooManyPools, TooManyFaults, TooManyRestarts, TooManyLosses, TooManyTurns}
+use Rattle.script_lines.specs.declared.errors.Reason.TheVariants.{
+  TooLong,
+  NotObject,
+  UnknownDo,
+  TooManyLines,
+  TooManyObjects,
+  TooManyNodes,
+  TooManyPools,
+  TooManyFaults,
+  TooManyRestarts,
+  TooManyLosses,
+  TooManyTurns,
+}
 use Rattle.script_lines.specs.declared.errors.BadLine.{BadLine}
 use Rattle.script_lines.specs.declared.verbs.Verb.{Verb}
 use Rattle.script_lines.specs.declared.verbs.Verb.TheVariants as verbs

@@ -4,9 +4,9 @@ use Rattle.std.specs.Prelude.{ℕ, ◌==◌, List, if◌then◌else◌, Ok, Err,
 use Rattle.std.specs.declared.result.Result.{Result}
 use Rattle.serde_json.specs.Data.{Data}
 use Rattle.plain_data.specs.Pairs.{Pair}
-use Rattle.kube_types.specs.Keys.{meta_of}
-use Rattle.kube_types.specs.declared.objects.Object.{Object}
-use Rattle.kube_types.specs.declared.names.ImportFault.{ImportFault}
+use Rattle.kube_objects.specs.Keys.{meta_of}
+use Rattle.kube_objects.specs.declared.objects.Object.{Object}
+use Rattle.kube_parts.specs.declared.names.ImportFault.{ImportFault}
 use Rattle.binder_model.specs.Imports.{import_fault}
 use Rattle.call_types.specs.declared.request.Request.TheVariants as asks
 use Rattle.object_text.specs.declared.errors.Member.TheVariants as manifests

@@ -4,9 +4,9 @@ use Rattle.std.specs.List.{flat_map, count_by, sum_by, list_any}
 use Rattle.std.specs.Ordering.{nat_cmp}
 use Rattle.plain_data.specs.Pairs.{Pair}
 use Rattle.plain_data.specs.Rows.{put}
-use Rattle.kube_types.specs.Bindings.{is_empty}
-use Rattle.kube_types.specs.declared.objects.Object.{Object}
-use Rattle.kube_types.specs.declared.objects.Object.TheVariants as objects
+use Rattle.kube_objects.specs.Bindings.{is_empty}
+use Rattle.kube_objects.specs.declared.objects.Object.{Object}
+use Rattle.kube_objects.specs.declared.objects.Object.TheVariants as objects
 use Rattle.call_types.specs.declared.request.Request.{Request}
 use Rattle.call_types.specs.declared.request.Request.TheVariants as asks
 use Rattle.call_types.specs.declared.setup.Pool.{Pool}

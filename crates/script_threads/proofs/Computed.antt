@@ -1,6 +1,6 @@
 -- The examples compute.
 use Rattle.std.proofs.Common.{◌≡◌, ◌⊎◌, ℕ, zero, suc, ◌+◌, ◌<◌, ◌≤◌, Bool, List, [], ◌∷◌, ◌++◌, Some, None, inl, inr, refl, sym, ◌∙◌, ap, ne_eqb, arith}
-use Rattle.kube_types.specs.declared.parts.Kind.TheVariants.{Node, Pod}
+use Rattle.kube_parts.specs.declared.parts.Kind.TheVariants.{Node, Pod}
 use Rattle.call_types.specs.declared.entry.Entry.{Entry}
 use Rattle.call_types.specs.declared.request.Request.{Request}
 use Rattle.call_types.specs.declared.request.Request.TheVariants as requests
@@ -49,7 +49,12 @@ no_calls past actor part none = record {
   calls_are = NoCalls refl refl;
   own_are = λ seat life. none seat life.0;
   whole = inl refl;
-  diligent = λ seat life. record { calls = []; are = record { of_seat = sym (none seat life.0); left = refl }; diligent = λ kind first fourth earlier between later is. absurd (not_longer later (Some fourth) (between ++ Some first ∷ earlier) is) };
+  diligent = λ seat life. record {
+    calls = [];
+    are = record { of_seat = sym (none seat life.0); left = refl };
+    diligent = λ kind first fourth earlier
+        between later is. absurd (not_longer later (Some fourth) (between ++ Some first ∷ earlier) is);
+  };
   silent = λ seat life. record { calls = []; are = record { of_seat = sym (none seat life.0); left = refl }; silent = tt };
 }
 
@@ -99,7 +104,10 @@ work = record {
   in_order = record {
     done = record {
       users = of_users;
-      actors = (idle binder_1 5 (omega arith), (idle ops_1 6 (omega arith), (idle scheduler_1 7 (omega arith), (idle claims_1 8 (omega arith), (idle (worker workers.Volumes One) 9 (omega arith), tt)))));
+      actors = (
+        idle binder_1 5 (omega arith),
+        (idle ops_1 6 (omega arith), (idle scheduler_1 7 (omega arith), (idle claims_1 8 (omega arith), (idle (worker workers.Volumes One) 9 (omega arith), tt)))),
+      );
     };
     others = λ seat out. beside seat (high seat out);
   };

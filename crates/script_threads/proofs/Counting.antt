@@ -38,7 +38,8 @@ no_other : (actor : Actor) (after : ℕ) (actors : List Actor) → differs_from 
 no_other actor after [] differs = refl
 no_other actor after (x ∷ actors) differs = by (bytes_eq (actor_word actor) (actor_word x)) differs (no_other actor after actors)
   where
-    by : (b : Bool) → (if b then false else differs_from (actor_word actor) (map actor_word actors)) ≡ true → (differs_from (actor_word actor) (map actor_word actors) ≡ true → restarts_at actors (kinds_of_line.Restart actor after) ≡ 0)
+    by : (b : Bool) → (if b then false else differs_from (actor_word actor) (map actor_word actors)) ≡ true
+        → (differs_from (actor_word actor) (map actor_word actors) ≡ true → restarts_at actors (kinds_of_line.Restart actor after) ≡ 0)
         → length (if b then after ∷ [] else []) + restarts_at actors (kinds_of_line.Restart actor after) ≡ 0
     by true d rest = absurd (true≢false (sym d))
     by false d rest = let r = rest d in omega (arith, r)
@@ -105,7 +106,8 @@ seats_sum lines first (actor ∷ actors) =
     omega (arith, here, rest)
 
 -- those of some of the workers of a kind, and of others
-some_of_kind : (f : Actor → ℕ) (workers : ℕ) (kind : WorkerKind) (some all : List Actor) → sum_by f some ≤ sum_by f all → sum_by f (workers_of workers kind ++ some) ≤ sum_by f (all_workers_of kind ++ all)
+some_of_kind : (f : Actor → ℕ) (workers : ℕ) (kind : WorkerKind) (some all : List Actor) → sum_by f some ≤ sum_by f all
+    → sum_by f (workers_of workers kind ++ some) ≤ sum_by f (all_workers_of kind ++ all)
 some_of_kind f workers kind some all fewer =
     let few = sum_by-take-le f (all_workers_of kind) workers in
     let ones = sum_by-append f (workers_of workers kind) some in

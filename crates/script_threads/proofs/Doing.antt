@@ -68,7 +68,8 @@ each_on calls h later lines first (actor ∷ actors) same did =
       each_on calls h later lines (after_lives part) actors (λ seat low high. same seat (omega (arith, low)) high) did.1,
     )
 
-pub done_on : (script : Script) (workers calls : ℕ) (h later : List Entry) → ((seat : ℕ) → seat < drain_seat workers script → own seat later ≡ own seat h) → AreDone script workers calls h → AreDone script workers calls later
+pub done_on : (script : Script) (workers calls : ℕ) (h later : List Entry)
+    → ((seat : ℕ) → seat < drain_seat workers script → own seat later ≡ own seat h) → AreDone script workers calls h → AreDone script workers calls later
 done_on script workers calls h later same done =
     let rise = seats_rise script.lines first_actor_seat (started workers script) in
     record {
@@ -83,7 +84,8 @@ no_entries past [] none = tt
 no_entries past (seat ∷ seats) none = (none seat (inl refl), no_entries past seats (λ other one. none other (inr one)))
 
 -- new drainers at the seats after those of the actors have no entries yet
-pub none_yet : (script : Script) (workers calls first : ℕ) (past : List Entry) (ds : List Drainer) → IsThreadedWork script workers calls past → first ≡ drain_seat workers script → AreNew first script.node_names ds → HaveNoEntries (seats_of ds) past
+pub none_yet : (script : Script) (workers calls first : ℕ) (past : List Entry) (ds : List Drainer) → IsThreadedWork script workers calls past
+    → first ≡ drain_seat workers script → AreNew first script.node_names ds → HaveNoEntries (seats_of ds) past
 none_yet script workers calls first past ds work is new =
     no_entries past (seats_of ds) (λ seat one.
     let low = after_first first script.node_names seat (subst (λ ss. IsOneOf ss seat) (new_seats_for first script.node_names ds new) one) in
@@ -101,7 +103,8 @@ pub record HasDrained (script : Script) (first : ℕ) (option : Option ℕ) (bef
   pub few : made_of d ≤ budget
   pub ends : EndsWith after.setup after.past budget d
 
-module _ (script : Script) (workers calls first : ℕ) (option : Option ℕ) (before after : History) (old ran : List Drainer) (budget : ℕ) (d : Drained) (drained : HasDrained script first option before after old ran budget d) (is : first ≡ drain_seat workers script) where
+module _ (script : Script) (workers calls first : ℕ) (option : Option ℕ) (before after : History) (old ran : List Drainer) (budget : ℕ) (d : Drained)
+    (drained : HasDrained script first option before after old ran budget d) (is : first ≡ drain_seat workers script) where
   abbrev end : Progress
   end = record (progress_after before.past option) { past = after.past; drained = 0 + made_of d; budget = budget }
 
@@ -147,4 +150,5 @@ module _ (script : Script) (workers calls first : ℕ) (option : Option ℕ) (be
       rounds =
           let all : budget ≡ budget - 0 = omega arith in
           let rest : budget - made_of d ≡ budget - (0 + made_of d) = omega arith in
-          subst₂ (λ m n. Drains all_pass script.setup ran after.past m old before.past n) rest all (subst (λ s. Drains all_pass s ran after.past (budget - made_of d) old before.past budget) drained.setup drained.rounds)
+          subst₂ (λ m n. Drains all_pass script.setup ran after.past m old before.past n) rest all
+          (subst (λ s. Drains all_pass s ran after.past (budget - made_of d) old before.past budget) drained.setup drained.rounds)

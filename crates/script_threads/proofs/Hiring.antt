@@ -86,14 +86,16 @@ pub record HaveDone (calls : ℕ) (past : List Entry) (lines : List Line) (first
   pub each : EachStarted (HasMadeCalls calls past) lines first actors
   pub asked : (seat : ℕ) → first ≤ seat → seat < seat_after lines first actors → AreByActors (own seat past)
 
-done_first : (calls : ℕ) (past : List Entry) (lines : List Line) (first : ℕ) (actor : Actor) (actors : List Actor) → HasActedIn (role_of actor) (started_part lines actor first) calls past → HaveDone calls past lines (after_lives (started_part lines actor first)) actors
+done_first : (calls : ℕ) (past : List Entry) (lines : List Line) (first : ℕ) (actor : Actor) (actors : List Actor)
+    → HasActedIn (role_of actor) (started_part lines actor first) calls past → HaveDone calls past lines (after_lives (started_part lines actor first)) actors
     → HaveDone calls past lines first (actor ∷ actors)
 done_first calls past lines first actor actors acted rest = record {
   each = (made_calls calls past actor (started_part lines actor first) acted, rest.each);
   asked = λ seat low high. by seat low high (nat_lt seat (after_lives (started_part lines actor first))) refl;
 }
   where
-    by : (seat : ℕ) → first ≤ seat → seat < seat_after lines (after_lives (started_part lines actor first)) actors → (b : Bool) → nat_lt seat (after_lives (started_part lines actor first)) ≡ b → AreByActors (own seat past)
+    by : (seat : ℕ) → first ≤ seat → seat < seat_after lines (after_lives (started_part lines actor first)) actors → (b : Bool)
+        → nat_lt seat (after_lives (started_part lines actor first)) ≡ b → AreByActors (own seat past)
     by seat low high true e = acted.actors seat low (ltb-true seat (after_lives (started_part lines actor first)) e)
     by seat low high false e = rest.asked seat (ltb-false seat (after_lives (started_part lines actor first)) e) high
 
@@ -111,11 +113,14 @@ module _ {L : Type 0} where
   user_needs : (script : Script) (first : ℕ) (h : Hired (OneOf (UserLines L) (ActorCalls L))) → IsUserHired script h → Needs h.worker (seats_at [] (numbers_from first h.seats))
   user_needs script first h user = subst (λ w. Needs w (seats_at [] (numbers_from first h.seats))) (sym user.is) ((first, []), ap (λ n. seats_at [] (numbers_from first n)) user.seats)
 
-  actor_needs : (lines : List Line) (calls : ℕ) (actor : Actor) (first : ℕ) (h : Hired (OneOf (UserLines L) (ActorCalls L))) → IsActorHired lines calls actor first h → Needs h.worker (seats_at [] (numbers_from first h.seats))
+  actor_needs : (lines : List Line) (calls : ℕ) (actor : Actor) (first : ℕ) (h : Hired (OneOf (UserLines L) (ActorCalls L)))
+      → IsActorHired lines calls actor first h → Needs h.worker (seats_at [] (numbers_from first h.seats))
   actor_needs lines calls actor first h a =
-      subst (λ w. Needs w (seats_at [] (numbers_from first h.seats))) (sym a.is) (subst (λ n. MayAct a.worker.player a.worker.calls (seats_at [] (numbers_from first n))) (sym a.hired.seats) a.hired.may)
+      subst (λ w. Needs w (seats_at [] (numbers_from first h.seats))) (sym a.is)
+      (subst (λ n. MayAct a.worker.player a.worker.calls (seats_at [] (numbers_from first n))) (sym a.hired.seats) a.hired.may)
 
-  actors_need : (lines : List Line) (calls first : ℕ) (actors : List Actor) (crew : List (Hired (OneOf (UserLines L) (ActorCalls L)))) → AreHired lines calls first actors crew → Each (λ w seats. Needs w (seats_at [] seats)) first crew
+  actors_need : (lines : List Line) (calls first : ℕ) (actors : List Actor) (crew : List (Hired (OneOf (UserLines L) (ActorCalls L))))
+      → AreHired lines calls first actors crew → Each (λ w seats. Needs w (seats_at [] seats)) first crew
   actors_need lines calls first [] crew hired = subst (Each (λ w seats. Needs w (seats_at [] seats)) first) (sym hired) tt
   actors_need lines calls first (actor ∷ actors) [] hired = absurd hired
   actors_need lines calls first (actor ∷ actors) (h ∷ crew) hired = (
@@ -123,7 +128,8 @@ module _ {L : Type 0} where
     subst (λ n. Each (λ w seats. Needs w (seats_at [] seats)) (first + n) crew) (sym hired.0.hired.seats) (actors_need lines calls (after_lives (started_part lines actor first)) actors crew hired.1),
   )
 
-  pub crew_needs : (script : Script) (workers calls : ℕ) (crew : List (Hired (OneOf (UserLines L) (ActorCalls L)))) (given : List Entry) → IsCrew script workers calls crew → given ≡ [] → Each (λ w seats. Needs w (seats_at given seats)) 1 crew
+  pub crew_needs : (script : Script) (workers calls : ℕ) (crew : List (Hired (OneOf (UserLines L) (ActorCalls L)))) (given : List Entry)
+      → IsCrew script workers calls crew → given ≡ [] → Each (λ w seats. Needs w (seats_at given seats)) 1 crew
   crew_needs script workers calls crew given c none =
       let a = c.one_is.seats in
       let b = c.two_is.seats in
@@ -146,7 +152,8 @@ module _ {L : Type 0} where
 
   -- ---- how many seats they have
 
-  actors_seats : (lines : List Line) (calls first : ℕ) (actors : List Actor) (crew : List (Hired (OneOf (UserLines L) (ActorCalls L)))) → AreHired lines calls first actors crew → first + all_seats crew ≡ seat_after lines first actors
+  actors_seats : (lines : List Line) (calls first : ℕ) (actors : List Actor) (crew : List (Hired (OneOf (UserLines L) (ActorCalls L))))
+      → AreHired lines calls first actors crew → first + all_seats crew ≡ seat_after lines first actors
   actors_seats lines calls first [] crew hired = let none = ap (λ ws. all_seats ws) hired in omega (arith, none)
   actors_seats lines calls first (actor ∷ actors) [] hired = absurd hired
   actors_seats lines calls first (actor ∷ actors) (h ∷ crew) hired =
@@ -164,7 +171,8 @@ module _ {L : Type 0} where
       let rest = actors_seats script.lines calls first_actor_seat (started workers script) c.actors c.hired in
       omega (arith, a, b, d, e, all, rest)
 
-  pub few_crew : (script : Script) (workers calls : ℕ) (crew : List (Hired (OneOf (UserLines L) (ActorCalls L)))) → IsReadable script → IsCrew script workers calls crew → (0 < all_seats crew) × (all_seats crew < 65536)
+  pub few_crew : (script : Script) (workers calls : ℕ) (crew : List (Hired (OneOf (UserLines L) (ActorCalls L)))) → IsReadable script
+      → IsCrew script workers calls crew → (0 < all_seats crew) × (all_seats crew < 65536)
   few_crew script workers calls crew readable c =
       let seats = crew_seats script workers calls crew c in
       let few = few_seats script workers readable in
@@ -174,25 +182,29 @@ module _ {L : Type 0} where
   -- ---- what they leave
 
   abbrev Does : OneOf (UserLines L) (ActorCalls L) → List (ℕ × List Entry) → List (ℕ × List Entry) → Type 0
-  Does worker before after = does_of (λ user seats then. DoLines user.script.now.lines seats then) (λ actor seats then. HasActed actor.player.actor.role actor.player.part actor.calls then) worker before after
+  Does worker before after = does_of (λ user seats then. DoLines user.script.now.lines seats then) (λ actor seats then. HasActed
+      actor.player.actor.role actor.player.part actor.calls then) worker before after
 
   module _ (given past : List Entry) (none : given ≡ []) where
     abbrev HasDone : Hired (OneOf (UserLines L) (ActorCalls L)) → ℕ → Type 0
     HasDone h first = Does h.worker (seats_at given (numbers_from first h.seats)) (seats_at past (numbers_from first h.seats))
 
-    user_done : (script : Script) (user first : ℕ) (h : Hired (OneOf (UserLines L) (ActorCalls L))) → IsUserHired script h → first ≡ user → HasDone h first → AreOfLines user script.lines (own user past)
+    user_done : (script : Script) (user first : ℕ) (h : Hired (OneOf (UserLines L) (ActorCalls L))) → IsUserHired script h → first ≡ user
+        → HasDone h first → AreOfLines user script.lines (own user past)
     user_done script user first h u here done =
         did given past script.lines u.user.script.now.lines user first h.seats none (ap (λ (s : Script). s.lines) u.of) here u.seats
         (subst (λ w. Does w (seats_at given (numbers_from first h.seats)) (seats_at past (numbers_from first h.seats))) u.is done)
 
-    actor_done : (lines : List Line) (calls : ℕ) (actor : Actor) (first : ℕ) (h : Hired (OneOf (UserLines L) (ActorCalls L))) → IsActorHired lines calls actor first h → HasDone h first → HasActedIn (role_of actor) (started_part lines actor first) calls past
+    actor_done : (lines : List Line) (calls : ℕ) (actor : Actor) (first : ℕ) (h : Hired (OneOf (UserLines L) (ActorCalls L)))
+        → IsActorHired lines calls actor first h → HasDone h first → HasActedIn (role_of actor) (started_part lines actor first) calls past
     actor_done lines calls actor first h a done =
         let acted : HasActed a.worker.player.actor.role a.worker.player.part a.worker.calls (seats_at past (numbers_from first h.seats))
         = subst (λ w. Does w (seats_at given (numbers_from first h.seats)) (seats_at past (numbers_from first h.seats))) a.is done in
         let of_role = subst (λ role. HasActed role a.worker.player.part a.worker.calls (seats_at past (numbers_from first h.seats))) a.hired.role acted in
         let of_part = subst (λ part. HasActed (role_of actor) part a.worker.calls (seats_at past (numbers_from first h.seats))) a.hired.part_is of_role in
         let so_many = subst (λ n. HasActed (role_of actor) (started_part lines actor first) n (seats_at past (numbers_from first h.seats))) a.hired.calls_are of_part in
-        actors_in_histories (role_of actor) (started_part lines actor first) calls past refl (subst (λ n. HasActed (role_of actor) (started_part lines actor first) calls (seats_at past (numbers_from first n))) a.hired.seats so_many)
+        actors_in_histories (role_of actor) (started_part lines actor first) calls past refl
+        (subst (λ n. HasActed (role_of actor) (started_part lines actor first) calls (seats_at past (numbers_from first n))) a.hired.seats so_many)
 
     actors_done : (lines : List Line) (calls first : ℕ) (actors : List Actor) (crew : List (Hired (OneOf (UserLines L) (ActorCalls L)))) → AreHired lines calls first actors crew
         → Each (λ w seats. Does w (seats_at given seats) (seats_at past seats)) first crew → HaveDone calls past lines first actors
@@ -200,9 +212,11 @@ module _ {L : Type 0} where
     actors_done lines calls first (actor ∷ actors) [] hired done = absurd hired
     actors_done lines calls first (actor ∷ actors) (h ∷ crew) hired done =
         let rest = subst (λ n. Each (λ w seats. Does w (seats_at given seats) (seats_at past seats)) (first + n) crew) hired.0.hired.seats done.1 in
-        done_first calls past lines first actor actors (actor_done lines calls actor first h hired.0 done.0) (actors_done lines calls (after_lives (started_part lines actor first)) actors crew hired.1 rest)
+        done_first calls past lines first actor actors (actor_done lines calls actor first h hired.0 done.0)
+        (actors_done lines calls (after_lives (started_part lines actor first)) actors crew hired.1 rest)
 
-    module _ (script : Script) (workers calls : ℕ) (crew : List (Hired (OneOf (UserLines L) (ActorCalls L)))) (c : IsCrew script workers calls crew) (does : Each (λ w seats. Does w (seats_at given seats) (seats_at past seats)) 1 crew) (adds : AddsNoSeats (all_seats crew) given past) where
+    module _ (script : Script) (workers calls : ℕ) (crew : List (Hired (OneOf (UserLines L) (ActorCalls L)))) (c : IsCrew script workers calls crew)
+        (does : Each (λ w seats. Does w (seats_at given seats) (seats_at past seats)) 1 crew) (adds : AddsNoSeats (all_seats crew) given past) where
       each_done : Each (λ w seats. Does w (seats_at given seats) (seats_at past seats)) 1 (c.one ∷ c.two ∷ c.three ∷ c.four ∷ c.actors)
       each_done = subst (Each (λ w seats. Does w (seats_at given seats) (seats_at past seats)) 1) c.are does
 
@@ -210,7 +224,8 @@ module _ {L : Type 0} where
       users_done zero some few = absurd (omega (arith, some))
       users_done (suc zero) some few = user_done script 1 1 c.one c.one_is refl each_done.0
       users_done (suc (suc zero)) some few = let a = c.one_is.seats in user_done script 2 (1 + c.one.seats) c.two c.two_is (omega (arith, a)) each_done.1.0
-      users_done (suc (suc (suc zero))) some few = let a = c.one_is.seats in let b = c.two_is.seats in user_done script 3 (1 + c.one.seats + c.two.seats) c.three c.three_is (omega (arith, a, b)) each_done.1.1.0
+      users_done (suc (suc (suc zero))) some few = let a = c.one_is.seats in let b = c.two_is.seats in
+          user_done script 3 (1 + c.one.seats + c.two.seats) c.three c.three_is (omega (arith, a, b)) each_done.1.1.0
       users_done (suc (suc (suc (suc zero)))) some few =
           let a = c.one_is.seats in
           let b = c.two_is.seats in
@@ -225,7 +240,8 @@ module _ {L : Type 0} where
           let d = c.three_is.seats in
           let e = c.four_is.seats in
           let fifth : 1 + c.one.seats + c.two.seats + c.three.seats + c.four.seats ≡ first_actor_seat = omega (arith, a, b, d, e) in
-          actors_done script.lines calls first_actor_seat (started workers script) c.actors c.hired (subst (λ n. Each (λ w seats. Does w (seats_at given seats) (seats_at past seats)) n c.actors) fifth each_done.1.1.1.1)
+          actors_done script.lines calls first_actor_seat (started workers script) c.actors c.hired
+          (subst (λ n. Each (λ w seats. Does w (seats_at given seats) (seats_at past seats)) n c.actors) fifth each_done.1.1.1.1)
 
       beside : (seat : ℕ) → (seat ≡ 0) ⊎ (drain_seat workers script ≤ seat) → own seat past ≡ []
       beside seat (inl first) = adds seat (inl first) ∙ ap (own seat) none
@@ -248,7 +264,8 @@ module _ {L : Type 0} where
 
   -- ---- how they are hired
 
-  hired_more : (lines : List Line) (calls first : ℕ) (ones others : List Actor) (xs ys : List (Hired (OneOf (UserLines L) (ActorCalls L)))) → AreHired lines calls first ones xs → AreHired lines calls (seat_after lines first ones) others ys → AreHired lines calls first (ones ++ others) (xs ++ ys)
+  hired_more : (lines : List Line) (calls first : ℕ) (ones others : List Actor) (xs ys : List (Hired (OneOf (UserLines L) (ActorCalls L))))
+      → AreHired lines calls first ones xs → AreHired lines calls (seat_after lines first ones) others ys → AreHired lines calls first (ones ++ others) (xs ++ ys)
   hired_more lines calls first [] others xs ys a b = subst (λ zs. AreHired lines calls first others (zs ++ ys)) (sym a) b
   hired_more lines calls first (actor ∷ ones) others [] ys a b = absurd a
   hired_more lines calls first (actor ∷ ones) others (h ∷ xs) ys a b = (a.0, hired_more lines calls (after_lives (started_part lines actor first)) ones others xs ys a.1 b)
@@ -256,7 +273,8 @@ module _ {L : Type 0} where
   pub none_joined : (lines : List Line) (calls first : ℕ) (crew : List (Hired (OneOf (UserLines L) (ActorCalls L)))) → HaveJoined lines calls first first [] crew crew
   none_joined lines calls first crew = record { joined = []; are = sym (append-nil crew); hired = refl; seat = refl }
 
-  pub one_joins : (lines : List Line) (calls first seat : ℕ) (actors : List Actor) (actor : Actor) (h : Hired (OneOf (UserLines L) (ActorCalls L))) (before now after : List (Hired (OneOf (UserLines L) (ActorCalls L)))) → HaveJoined lines calls first seat actors before now → IsActorHired lines calls actor seat h → after ≡ now ++ h ∷ []
+  pub one_joins : (lines : List Line) (calls first seat : ℕ) (actors : List Actor) (actor : Actor) (h : Hired (OneOf (UserLines L) (ActorCalls L)))
+      (before now after : List (Hired (OneOf (UserLines L) (ActorCalls L)))) → HaveJoined lines calls first seat actors before now → IsActorHired lines calls actor seat h → after ≡ now ++ h ∷ []
       → HaveJoined lines calls first (seat + h.seats) (actors ++ actor ∷ []) before after
   one_joins lines calls first seat actors actor h before now after a one is = record {
     joined = a.joined ++ h ∷ [];

@@ -1,7 +1,7 @@
 -- Examples of the definitions: cases that hold, and cases beside them that do not. A choice of this project.
 use Rattle.std.specs.Prelude.{ℕ, ◌≡◌, ◌≢◌, true, [], ◌∷◌, None, codes}
-use Rattle.kube_types.specs.declared.parts.Kind.{Kind}
-use Rattle.kube_types.specs.declared.parts.Kind.TheVariants.{Node, Pod}
+use Rattle.kube_parts.specs.declared.parts.Kind.{Kind}
+use Rattle.kube_parts.specs.declared.parts.Kind.TheVariants.{Node, Pod}
 use Rattle.call_types.specs.declared.entry.Entry.{Entry}
 use Rattle.call_types.specs.declared.reply.Reply.TheVariants as replies
 use Rattle.call_types.specs.declared.request.Request.TheVariants as requests
@@ -21,7 +21,8 @@ use Rattle.script_threads.specs.Threads.{IsThreadedWork}
 
 pub record StartedExamples : Type 0 where
   pub one_of_each : started_for 1 (codes "n1" ∷ []) ≡ binder_1 ∷ ops_1 ∷ scheduler_1 ∷ claims_1 ∷ worker workers.Volumes One ∷ agent_of (codes "n1") ∷ []
-  pub kind_by_kind : started_for 2 [] ≡ binder_1 ∷ binder_2 ∷ ops_1 ∷ worker workers.Ops Two ∷ scheduler_1 ∷ worker workers.Scheduler Two ∷ claims_1 ∷ worker workers.Claims Two ∷ worker workers.Volumes One ∷ worker workers.Volumes Two ∷ []
+  pub kind_by_kind : started_for 2 [] ≡ binder_1 ∷ binder_2 ∷ ops_1 ∷ worker workers.Ops Two ∷ scheduler_1 ∷ worker workers.Scheduler Two ∷ claims_1
+      ∷ worker workers.Claims Two ∷ worker workers.Volumes One ∷ worker workers.Volumes Two ∷ []
   pub without_a_turn_too : lives_of (started_part two_binders.lines binder_2 8) ≡ 2
   pub a_life_more_for_each_restart : lives_of (started_part two_binders.lines binder_1 5) ≡ 3
   pub the_lost_calls : (started_part two_binders.lines binder_1 5).losses ≡ two_losses

@@ -22,7 +22,8 @@ workers_of workers kind = take workers (map (λ w. Worker w) (four kind))
 
 -- so many workers of each kind, and then an agent of each of these nodes
 abbrev pub started_for : ℕ → List (List ℕ) → List Actor
-started_for workers nodes = workers_of workers Binder ++ (workers_of workers Ops ++ (workers_of workers Scheduler ++ (workers_of workers Claims ++ (workers_of workers Volumes ++ map (λ node. Agent node) nodes))))
+started_for workers nodes = workers_of workers Binder ++ (workers_of workers Ops ++
+    (workers_of workers Scheduler ++ (workers_of workers Claims ++ (workers_of workers Volumes ++ map (λ node. Agent node) nodes))))
 
 -- the actors of a run
 abbrev pub started : ℕ → Script → List Actor

@@ -1,11 +1,11 @@
 -- What the machine's first call comes to is what is due of provisioning.
 use Rattle.std.proofs.Common.{◌≡◌, ◌∙◌, true, List, Option, Some, None, refl, sym, ap}
-use Rattle.kube_types.specs.declared.key.Key.{Key}
-use Rattle.kube_types.specs.declared.objects.Claim.{Claim as ClaimData}
-use Rattle.kube_types.specs.declared.objects.Object.{Object}
-use Rattle.kube_types.specs.declared.objects.Object.TheVariants.{Claim}
-use Rattle.kube_types.specs.Bindings.{is_completed}
-use Rattle.kube_types.specs.Keys.{row_at}
+use Rattle.kube_objects.specs.declared.key.Key.{Key}
+use Rattle.kube_objects.specs.declared.objects.Claim.{Claim as ClaimData}
+use Rattle.kube_objects.specs.declared.objects.Object.{Object}
+use Rattle.kube_objects.specs.declared.objects.Object.TheVariants.{Claim}
+use Rattle.kube_objects.specs.Bindings.{is_completed}
+use Rattle.kube_objects.specs.Keys.{row_at}
 use Rattle.call_types.specs.declared.setup.Setup.{Setup}
 use Rattle.binder_model.specs.Due.{provision_due}
 use Rattle.binder_model.specs.Store.{State}
@@ -20,7 +20,8 @@ use Rattle.reclaim_ops.proofs.Dues.{begins_what_is_due}
 use Rattle.settle_check.specs.Steps.Asking.{call_due}
 
 -- a claim that stands under the key is decided
-pub decided_for : (rows : List Object) (key stands_under : Key) (c : ClaimData) (op : Option ProvisionOp) → key ≡ stands_under → row_at stands_under rows ≡ Some (Claim c) → op ≡ claim_begins rows (row_at key rows) → op ≡ claim_for rows c
+pub decided_for : (rows : List Object) (key stands_under : Key) (c : ClaimData) (op : Option ProvisionOp) → key ≡ stands_under
+    → row_at stands_under rows ≡ Some (Claim c) → op ≡ claim_begins rows (row_at key rows) → op ≡ claim_for rows c
 decided_for rows key stands_under c op same at is = is ∙ ap (claim_begins rows) (ap (λ (k : Key). row_at k rows) same ∙ at)
 
 module _ (setup : Setup) (w : World) where
@@ -41,7 +42,8 @@ module _ (setup : Setup) (w : World) where
       let here : None ≡ claim_for w.store.rows c = sym none ∙ is ∙ ap (λ (t : State). claim_for t.rows c) same in ap (due_of_provision setup w) here ∙ begins_what_is_due setup w c
 
   -- a machine begins, with its first call
-  pub one_begins : (s : State) (c : ClaimData) (found : Option ProvisionOp) (op : ProvisionOp) → s ≡ w.store → found ≡ claim_for s.rows c → found ≡ Some op → call_due setup w op.class.delayed (provision_call op) ≡ provision_due setup w c
+  pub one_begins : (s : State) (c : ClaimData) (found : Option ProvisionOp) (op : ProvisionOp) → s ≡ w.store → found ≡ claim_for s.rows c
+      → found ≡ Some op → call_due setup w op.class.delayed (provision_call op) ≡ provision_due setup w c
   one_begins s c found op same is some =
       let here : Some op ≡ claim_for w.store.rows c = sym some ∙ is ∙ ap (λ (t : State). claim_for t.rows c) same in first_call op ∙ ap (due_of_provision setup w) here ∙ begins_what_is_due setup w c
 

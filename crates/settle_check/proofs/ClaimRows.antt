@@ -1,6 +1,6 @@
 -- The rows of the table on claims are exact, and say what is due by the conditions.
 use Rattle.std.proofs.Common.{◌≡◌, Bool, true, false, [], ◌∷◌, Some, count_by, refl, if◌then◌else◌}
-use Rattle.kube_types.specs.declared.names.Due.TheVariants as dues
+use Rattle.kube_parts.specs.declared.names.Due.TheVariants as dues
 use Rattle.case_table.specs.Cases.{IsExact, action_of, row_fits}
 use Rattle.case_table.proofs.Each.{each_list}
 use Rattle.claim_sync.specs.ClaimLaw.{due_of}
@@ -9,7 +9,8 @@ use Rattle.claim_sync.proofs.Rows.{chosen}
 use Rattle.settle_check.specs.DueTables.{due_number}
 use Rattle.settle_check.specs.ClaimDues.{claim_due_rows}
 
-one_row : (guarded completed deleting named matched assignable lost seen blocked takable other writing : Bool) → count_by (row_fits (guarded ∷ completed ∷ deleting ∷ named ∷ matched ∷ assignable ∷ lost ∷ seen ∷ blocked ∷ takable ∷ other ∷ writing ∷ [])) claim_due_rows ≡ 1
+one_row : (guarded completed deleting named matched assignable lost seen blocked takable other writing : Bool)
+    → count_by (row_fits (guarded ∷ completed ∷ deleting ∷ named ∷ matched ∷ assignable ∷ lost ∷ seen ∷ blocked ∷ takable ∷ other ∷ writing ∷ [])) claim_due_rows ≡ 1
 unfolding claim_due_rows claim_rows unbound_rows completed_rows
 one_row true true deleting true matched assignable true true blocked takable true writing = refl
 one_row true true deleting true matched assignable true true blocked takable false true = refl

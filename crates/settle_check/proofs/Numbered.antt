@@ -1,7 +1,7 @@
 -- What is due is what its number says.
 use Rattle.std.proofs.Common.{◌≡◌, Option, Some, None, refl}
-use Rattle.kube_types.specs.declared.names.Due.{Due}
-use Rattle.kube_types.specs.declared.names.Due.TheVariants as dues
+use Rattle.kube_parts.specs.declared.names.Due.{Due}
+use Rattle.kube_parts.specs.declared.names.Due.TheVariants as dues
 use Rattle.settle_check.specs.DueTables.{due_number, due_numbered}
 
 pub numbered_back : (action : Option Due) → due_numbered (due_number action) ≡ action

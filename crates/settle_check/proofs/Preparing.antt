@@ -3,16 +3,16 @@ use Rattle.std.proofs.Common.{ℕ, ◌≡◌, ◌<◌, ◌∙◌, true, false, t
 use Rattle.std.specs.Bool.{Decides}
 use Rattle.std.specs.List.{list_all}
 use Rattle.std.proofs.lemmas.Option.{slice_get_within}
-use Rattle.kube_types.specs.declared.key.Key.{Key}
-use Rattle.kube_types.specs.declared.parts.Kind.TheVariants as kinds
-use Rattle.kube_types.specs.declared.objects.Claim.{Claim as ClaimData}
-use Rattle.kube_types.specs.declared.objects.Node.{Node as NodeData}
-use Rattle.kube_types.specs.declared.objects.Pod.{Pod as PodData}
-use Rattle.kube_types.specs.declared.objects.Object.{Object}
-use Rattle.kube_types.specs.declared.objects.Object.TheVariants.{Claim, Node}
-use Rattle.kube_types.specs.Bindings.{class_of_claim}
-use Rattle.kube_types.specs.Keys.{AreRows, key_of, row_at, rows_of}
-use Rattle.kube_types.proofs.RowPlaces.{place_of_row}
+use Rattle.kube_objects.specs.declared.key.Key.{Key}
+use Rattle.kube_parts.specs.declared.parts.Kind.TheVariants as kinds
+use Rattle.kube_objects.specs.declared.objects.Claim.{Claim as ClaimData}
+use Rattle.kube_objects.specs.declared.objects.Node.{Node as NodeData}
+use Rattle.kube_objects.specs.declared.objects.Pod.{Pod as PodData}
+use Rattle.kube_objects.specs.declared.objects.Object.{Object}
+use Rattle.kube_objects.specs.declared.objects.Object.TheVariants.{Claim, Node}
+use Rattle.kube_objects.specs.Bindings.{class_of_claim}
+use Rattle.kube_objects.specs.Keys.{AreRows, key_of, row_at, rows_of}
+use Rattle.kube_objects.proofs.RowPlaces.{place_of_row}
 use Rattle.call_types.specs.declared.setup.Setup.{Setup}
 use Rattle.binder_model.specs.Choice.{AreShares, IsProvisioned, Share, TakesVolume, claim_in, claims_of, others_of}
 use Rattle.binder_model.specs.Due.{CanPrepare, is_served_on, shares_are_served}
@@ -34,7 +34,8 @@ module _ (setup : Setup) (w : World) (n : NodeData) where
   stored_served : (c : ClaimData) → IsStored w.store.rows c → key_is_served setup w n (key_of (Claim c)) ≡ is_served_on setup w n c c.meta.uid (row_at (class_key (class_of_claim c)) w.store.rows)
   stored_served c at = ap (λ (o : Option Object). claim_is_served setup w n (claim_in o)) at
 
-  keys_served : (cs : List ClaimData) (shares : List Share) (taken : List ℕ) → Each (IsStored w.store.rows) cs → AreShares w.store.rows n taken cs shares → list_all (key_is_served setup w n) (provisions_of cs shares) ≡ shares_are_served setup w n cs shares
+  keys_served : (cs : List ClaimData) (shares : List Share) (taken : List ℕ) → Each (IsStored w.store.rows) cs
+      → AreShares w.store.rows n taken cs shares → list_all (key_is_served setup w n) (provisions_of cs shares) ≡ shares_are_served setup w n cs shares
   keys_served [] [] taken stored are = refl
   keys_served [] (TakesVolume place ∷ shares) taken stored are = absurd are
   keys_served [] (IsProvisioned ∷ shares) taken stored are = absurd are
@@ -54,14 +55,16 @@ module _ (setup : Setup) (w : World) (order : AreRows w.store.rows) (plain : Hav
 
   given_is : (n : NodeData) (binds : List (Key × Key)) (keys : List Key) (pr : Prepares w.store.rows (claims_of w.store.rows p) n binds keys)
       → list_all (key_is_served setup w n) keys ≡ shares_are_served setup w n (others_of w.store.rows p) pr.shares
-  given_is n binds keys pr = ap (list_all (key_is_served setup w n)) pr.provisions_are ∙ keys_served setup w n (others_of w.store.rows p) pr.shares (set_aside w.store.rows) (others_stored w.store.rows p) pr.serves.shared
+  given_is n binds keys pr = ap (list_all (key_is_served setup w n)) pr.provisions_are
+      ∙ keys_served setup w n (others_of w.store.rows p) pr.shares (set_aside w.store.rows) (others_stored w.store.rows p) pr.serves.shared
 
   -- what would be prepared on a node
   pub decided_on : (n : NodeData) (found : Option Choice) → IsPreparedOn w.store.rows (claims_of w.store.rows p) n found → Decides (is_given setup w n found) (CanPrepareOn setup w p n)
   decided_on n None none = (not_true, λ can. absurd (none (can.shares, serves_here w.store.rows order plain p n can.shares can.serves)))
   decided_on n (Some (Prepare name binds keys)) found = (
     λ e. record { shares = found.1.shares; serves = serves_there w.store.rows order plain p n found.1.shares found.1.serves; given = sym (given_is n binds keys found.1) ∙ e },
-    λ can. given_is n binds keys found.1 ∙ (ap (shares_are_served setup w n (others_of w.store.rows p)) (one_shares n found.1.shares can.shares found.1.serves (serves_here w.store.rows order plain p n can.shares can.serves)) ∙ can.given),
+    λ can. given_is n binds keys found.1 ∙ (ap (shares_are_served setup w n (others_of w.store.rows p))
+        (one_shares n found.1.shares can.shares found.1.serves (serves_here w.store.rows order plain p n can.shares can.serves)) ∙ can.given),
   )
   decided_on n (Some (Assign name)) found = absurd found
   decided_on n (Some Wait) found = absurd found

@@ -6,11 +6,11 @@ use Rattle.std.specs.Ordering.{is_lt}
 use Rattle.std.specs.declared.cmp.Ordering.{Ordering}
 use Rattle.std.specs.declared.cmp.Ordering.TheVariants.{Less, Greater}
 use Rattle.std.proofs.lemmas.Cmp.{tied_itself}
-use Rattle.kube_types.specs.declared.key.Key.{Key}
-use Rattle.kube_types.specs.declared.names.Due.{Due}
-use Rattle.kube_types.specs.declared.objects.Object.{Object}
-use Rattle.kube_types.specs.Keys.{AreRows, key_cmp, key_of, row_at}
-use Rattle.kube_types.proofs.KeyOrder.{key_cmp_total, row_at_key}
+use Rattle.kube_objects.specs.declared.key.Key.{Key}
+use Rattle.kube_parts.specs.declared.names.Due.{Due}
+use Rattle.kube_objects.specs.declared.objects.Object.{Object}
+use Rattle.kube_objects.specs.Keys.{AreRows, key_cmp, key_of, row_at}
+use Rattle.kube_objects.proofs.KeyOrder.{key_cmp_total, row_at_key}
 use Rattle.call_types.specs.declared.setup.Setup.{Setup}
 use Rattle.binder_model.specs.Told.{SomeOf}
 use Rattle.binder_model.specs.World.{World}

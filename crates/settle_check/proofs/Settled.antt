@@ -1,11 +1,11 @@
 -- Where something is due the world is not settled.
 use Rattle.std.proofs.Common.{Bool, true, false, Some, None}
-use Rattle.kube_types.specs.declared.key.Key.{Key}
-use Rattle.kube_types.specs.declared.names.Due.{Due}
-use Rattle.kube_types.specs.declared.objects.Pod.{Pod as PodData}
-use Rattle.kube_types.specs.declared.objects.Object.{Object}
-use Rattle.kube_types.specs.declared.objects.Object.TheVariants.{Class, Node, Volume, Claim, Pod}
-use Rattle.kube_types.specs.Bindings.{is_scheduled}
+use Rattle.kube_objects.specs.declared.key.Key.{Key}
+use Rattle.kube_parts.specs.declared.names.Due.{Due}
+use Rattle.kube_objects.specs.declared.objects.Pod.{Pod as PodData}
+use Rattle.kube_objects.specs.declared.objects.Object.{Object}
+use Rattle.kube_objects.specs.declared.objects.Object.TheVariants.{Class, Node, Volume, Claim, Pod}
+use Rattle.kube_objects.specs.Bindings.{is_scheduled}
 use Rattle.call_types.specs.declared.setup.Setup.{Setup}
 use Rattle.binder_model.specs.Choice.{Assigns, GoesNowhere, Searches, Step, Waits, step_of}
 use Rattle.binder_model.specs.Due.{IsDue, IsFirstDue, IsPodDue, IsSettled, IsStepDue}

@@ -1,7 +1,7 @@
 -- The rows of the table on volumes are exact, and say what is due by the conditions.
 use Rattle.std.proofs.Common.{◌≡◌, Bool, true, false, not, ◌&&◌, [], ◌∷◌, Option, Some, None, count_by, refl, if◌then◌else◌}
-use Rattle.kube_types.specs.declared.names.Due.{Due}
-use Rattle.kube_types.specs.declared.names.Due.TheVariants as dues
+use Rattle.kube_parts.specs.declared.names.Due.{Due}
+use Rattle.kube_parts.specs.declared.names.Due.TheVariants as dues
 use Rattle.binder_model.specs.Due.{or_due}
 use Rattle.case_table.specs.Cases.{IsExact, action_of, row_fits}
 use Rattle.case_table.proofs.Each.{each_list}
@@ -11,7 +11,8 @@ use Rattle.volume_sync.proofs.Rows.{chosen}
 use Rattle.settle_check.specs.DueTables.{due_number}
 use Rattle.settle_check.specs.VolumeDues.{ended_rows, idle_rows, settled_rows, volume_due_rows}
 
-one_row : (refers available ended seen none this settled erased policy deleting protected : Bool) → count_by (row_fits (refers ∷ available ∷ ended ∷ seen ∷ none ∷ this ∷ settled ∷ erased ∷ policy ∷ deleting ∷ protected ∷ [])) volume_due_rows ≡ 1
+one_row : (refers available ended seen none this settled erased policy deleting protected : Bool)
+    → count_by (row_fits (refers ∷ available ∷ ended ∷ seen ∷ none ∷ this ∷ settled ∷ erased ∷ policy ∷ deleting ∷ protected ∷ [])) volume_due_rows ≡ 1
 unfolding volume_due_rows volume_rows free_rows referred_rows idle_rows ended_rows settled_rows
 one_row true available true seen none this true erased true true protected = refl
 one_row true available true seen none this false erased true true protected = refl

@@ -1,8 +1,8 @@
 -- The table of what is due for a claim, but for provisioning: the binder's table, behind what protection has to do.
 -- A choice of this project.
 use Rattle.std.specs.Prelude.{ℕ, List, [], ◌∷◌, Some, slice_index_or}
-use Rattle.kube_types.specs.declared.names.Due.{Due}
-use Rattle.kube_types.specs.declared.names.Due.TheVariants as dues
+use Rattle.kube_parts.specs.declared.names.Due.{Due}
+use Rattle.kube_parts.specs.declared.names.Due.TheVariants as dues
 use Rattle.case_table.specs.declared.rows.Need.{Need}
 use Rattle.case_table.specs.declared.rows.Need.TheVariants.{Yes, No, Any}
 use Rattle.case_table.specs.declared.rows.CaseRow.{CaseRow}

@@ -1,7 +1,7 @@
 -- What the tables of what is due have in common. A choice of this project.
 use Rattle.std.specs.Prelude.{ℕ, ◌+◌, ◌==◌, List, ◌++◌, Option, Some, None, drop, take, if◌then◌else◌}
-use Rattle.kube_types.specs.declared.names.Due.{Due}
-use Rattle.kube_types.specs.declared.names.Due.TheVariants as dues
+use Rattle.kube_parts.specs.declared.names.Due.{Due}
+use Rattle.kube_parts.specs.declared.names.Due.TheVariants as dues
 
 -- all but what stands at the place: a condition of the binder's table is left out
 abbrev pub without : {X : Type 0} → ℕ → List X → List X

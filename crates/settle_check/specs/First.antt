@@ -1,8 +1,8 @@
 -- The first object for which something is due, by its key. A choice of this project.
 use Rattle.std.specs.Prelude.{Option, Some, None}
-use Rattle.kube_types.specs.declared.key.Key.{Key}
-use Rattle.kube_types.specs.declared.names.Due.{Due}
-use Rattle.kube_types.specs.Keys.{key_of}
+use Rattle.kube_objects.specs.declared.key.Key.{Key}
+use Rattle.kube_parts.specs.declared.names.Due.{Due}
+use Rattle.kube_objects.specs.Keys.{key_of}
 use Rattle.settle_check.specs.declared.first.FirstDue.{FirstDue}
 
 abbrev pub first_key : Option FirstDue → Option (Key × Due)

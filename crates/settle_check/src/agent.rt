@@ -3,7 +3,7 @@
 ghost use Rattle.std.specs.Prelude.{◌≡◌};
 ghost use Rattle.std.specs.List.{list_all, list_any};
 ghost use Rattle.std.specs.Option.{option_copied};
-ghost use Rattle.kube_types.specs.Keys.{row_at};
+ghost use Rattle.kube_objects.specs.Keys.{row_at};
 ghost use Rattle.binder_model.specs.BindWrites.{is_claim_bound};
 ghost use Rattle.binder_model.specs.Choice.{claim_named};
 ghost use Rattle.binder_model.specs.Due.{agent_due, carried_by, is_pod_mounted, is_ready};

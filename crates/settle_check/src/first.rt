@@ -1,7 +1,7 @@
 //! The first action that is due.
 
 ghost use Rattle.std.specs.Prelude.{◌≡◌, IfOk, Some};
-ghost use Rattle.kube_types.specs.Keys.{key_of, row_at};
+ghost use Rattle.kube_objects.specs.Keys.{key_of, row_at};
 ghost use Rattle.binder_model.specs.Due.{IsDue, IsFirstDue};
 ghost use Rattle.settle_check.specs.ClaimDues.{claim_due_rows};
 ghost use Rattle.settle_check.specs.First.{first_key};

@@ -1,8 +1,8 @@
 //! What the actors have to do together for a claim and for a pod.
 
 ghost use Rattle.std.specs.Prelude.{◌≡◌, IfOk, Some};
-ghost use Rattle.kube_types.specs.declared.objects.Object.TheVariants as objects;
-ghost use Rattle.kube_types.specs.Keys.{row_at};
+ghost use Rattle.kube_objects.specs.declared.objects.Object.TheVariants as objects;
+ghost use Rattle.kube_objects.specs.Keys.{row_at};
 ghost use Rattle.binder_model.specs.Due.{IsDue};
 ghost use Rattle.binder_model.specs.ObjectKeys.{claim_key};
 ghost use Rattle.settle_check.specs.ClaimDues.{claim_due_rows};

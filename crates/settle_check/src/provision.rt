@@ -3,8 +3,8 @@
 
 ghost use Rattle.std.specs.Prelude.{◌≡◌, ◌||◌, IfOk, Some};
 ghost use Rattle.std.specs.Option.{option_copied};
-ghost use Rattle.kube_types.specs.declared.objects.Object.TheVariants as objects;
-ghost use Rattle.kube_types.specs.Keys.{row_at};
+ghost use Rattle.kube_objects.specs.declared.objects.Object.TheVariants as objects;
+ghost use Rattle.kube_objects.specs.Keys.{row_at};
 ghost use Rattle.binder_model.specs.Devices.{has_data, pool_fits};
 ghost use Rattle.binder_model.specs.Due.{provision_due};
 ghost use Rattle.binder_model.specs.ObjectKeys.{claim_key};

@@ -4,9 +4,9 @@
 ghost use Rattle.std.specs.Prelude.{◌≡◌, false, IfOk, Some};
 ghost use Rattle.std.specs.Bool.{Decides};
 ghost use Rattle.std.specs.List.{list_all};
-ghost use Rattle.kube_types.specs.declared.objects.Object.TheVariants as objects;
-ghost use Rattle.kube_types.specs.Bindings.{class_of_claim, is_scheduled};
-ghost use Rattle.kube_types.specs.Keys.{row_at};
+ghost use Rattle.kube_objects.specs.declared.objects.Object.TheVariants as objects;
+ghost use Rattle.kube_objects.specs.Bindings.{class_of_claim, is_scheduled};
+ghost use Rattle.kube_objects.specs.Keys.{row_at};
 ghost use Rattle.binder_model.specs.Due.{CanPrepare, IsDue, is_served, is_served_on};
 ghost use Rattle.binder_model.specs.ObjectKeys.{class_key};
 ghost use Rattle.delayed_binding.specs.ChoiceLaw.{HaveNoNamespace, IsDueBy};

@@ -1,14 +1,14 @@
 -- Budgets, classes, shared claims, nodes of scripts and numbers of volumes, computed.
 use Rattle.std.specs.Prelude.{slice_get}
 use Rattle.std.proofs.Common.{ℕ, zero, suc, ◌≡◌, ◌≢◌, ◌∙◌, Bool, true, false, true≢false, not, List, [], ◌∷◌, Option, Some, None, arith, inl, inr, bytes_eq, codes, length, refl, sym, ap, subst}
-use Rattle.kube_types.specs.declared.key.Key.{Key}
-use Rattle.kube_types.specs.declared.parts.VolumePhase.TheVariants as volumes
-use Rattle.kube_types.specs.declared.objects.Claim.{Claim as ClaimData}
-use Rattle.kube_types.specs.declared.objects.Object.{Object}
-use Rattle.kube_types.specs.declared.objects.Object.TheVariants.{Claim, Class, Node, Pod, Volume}
-use Rattle.kube_types.specs.Bindings.{class_of_claim, is_completed, is_scheduled, no_provisioner}
-use Rattle.kube_types.specs.Keys.{key_of, row_at}
-use Rattle.kube_types.proofs.KeyOrder.{row_at_key}
+use Rattle.kube_objects.specs.declared.key.Key.{Key}
+use Rattle.kube_parts.specs.declared.parts.VolumePhase.TheVariants as volumes
+use Rattle.kube_objects.specs.declared.objects.Claim.{Claim as ClaimData}
+use Rattle.kube_objects.specs.declared.objects.Object.{Object}
+use Rattle.kube_objects.specs.declared.objects.Object.TheVariants.{Claim, Class, Node, Pod, Volume}
+use Rattle.kube_objects.specs.Bindings.{class_of_claim, is_completed, is_scheduled, no_provisioner}
+use Rattle.kube_objects.specs.Keys.{key_of, row_at}
+use Rattle.kube_objects.proofs.KeyOrder.{row_at_key}
 use Rattle.binder_model.specs.BindWrites.{completed_with}
 use Rattle.binder_model.specs.Choice.{claim_in, claim_named}
 use Rattle.binder_model.specs.Devices.{device_answer, take_node}
@@ -26,9 +26,31 @@ use Rattle.actor_rounds.specs.Drainers.{agent_of, seats_for}
 use Rattle.settle_progress.specs.Epochs.Epochs.{IsCurrent}
 use Rattle.settle_progress.proofs.Drains.Rounds.{is_agent}
 use Rattle.script_runs.specs.Parts.{drain_roles}
-use Rattle.kube_types.specs.VolumePlaces.{count_before, has_size, those_in}
+use Rattle.volume_index.specs.VolumePlaces.{count_before, has_size, those_in}
 use Rattle.settle_budget.specs.Drains.Measured.{SharesWell, WaitingPodNames, is_immediate}
-use Rattle.settling_examples.specs.Ending.{AgentExamples, AllowanceExamples, BudgetExamples, CallExamples, ClassExamples, LineExamples, NamingExamples, NumberExamples, SharingExamples, SizeExamples, class_of, copies, faults_upto, one_node, pod_on, script_naming, setup_with, shared_rows, takes, three_volumes, world_with}
+use Rattle.settling_examples.specs.Ending.{
+  AgentExamples,
+  AllowanceExamples,
+  BudgetExamples,
+  CallExamples,
+  ClassExamples,
+  LineExamples,
+  NamingExamples,
+  NumberExamples,
+  SharingExamples,
+  SizeExamples,
+  class_of,
+  copies,
+  faults_upto,
+  one_node,
+  pod_on,
+  script_naming,
+  setup_with,
+  shared_rows,
+  takes,
+  three_volumes,
+  world_with,
+}
 
 abbrev is_agent_role : Role → Bool
 is_agent_role r = is_agent r.kind
@@ -97,7 +119,8 @@ only_claim delayed d c node namespace name e =
     ]
 
 -- where one of the pods has a node, only the other waits
-only_waiting : (delayed : Bool) (d : ClaimData) (key : Key) (namespace name : List ℕ) → WaitingPodNames (world_with (shared_rows delayed d (codes "n"))) key namespace name → key_of (Pod (pod_on (codes "q") [])) ≡ key
+only_waiting : (delayed : Bool) (d : ClaimData) (key : Key) (namespace name : List ℕ)
+    → WaitingPodNames (world_with (shared_rows delayed d (codes "n"))) key namespace name → key_of (Pod (pod_on (codes "q") [])) ≡ key
 only_waiting delayed d key namespace name p =
     elim (found_stands key (Pod p.pod) (shared_rows delayed d (codes "n")) p.there) [
       | inl is ↦ cc
@@ -113,14 +136,16 @@ key_named name = key_of (Pod (pod_on name []))
 two_keys : key_named (codes "p") ≢ key_named (codes "q")
 two_keys e = true≢false (ap (λ (k : Key). bytes_eq k.name (codes "p")) e)
 
-names_it : (name : List ℕ) → row_at (key_named name) (shared_rows true open_claim []) ≡ Some (Pod (pod_on name [])) → WaitingPodNames (world_with (shared_rows true open_claim [])) (key_named name) (codes "ns") (codes "c")
+names_it : (name : List ℕ) → row_at (key_named name) (shared_rows true open_claim []) ≡ Some (Pod (pod_on name []))
+    → WaitingPodNames (world_with (shared_rows true open_claim [])) (key_named name) (codes "ns") (codes "c")
 names_it name there = record { pod = pod_on name []; there = there; waits = refl; same = refl; names = inl refl }
 
 pub sharing_examples : SharingExamples
 unfolding completed_with
 sharing_examples = record {
   of_completed = λ first second namespace name c a b differ e. inl (subst (λ d. is_completed d ≡ true) (only_claim true completed c [] namespace name e) refl);
-  of_immediate = λ first second namespace name c a b differ e. inr (subst (λ d. is_immediate (row_at (class_key (class_of_claim d)) (shared_rows false open_claim [])) ≡ true) (only_claim false open_claim c [] namespace name e) refl);
+  of_immediate = λ first second namespace name c a b differ e. inr
+      (subst (λ d. is_immediate (row_at (class_key (class_of_claim d)) (shared_rows false open_claim [])) ≡ true) (only_claim false open_claim c [] namespace name e) refl);
   of_one = λ first second namespace name c a b differ e. absurd (differ (sym (only_waiting true open_claim first namespace name a) ∙ only_waiting true open_claim second namespace name b));
   of_late = λ shares. elim (shares (key_named (codes "p")) (key_named (codes "q")) (codes "ns") (codes "c") open_claim (names_it (codes "p") refl) (names_it (codes "q") refl) two_keys refl) [
     | inl done ↦ true≢false (sym done)
@@ -158,7 +183,8 @@ naming_examples = record {
 -- ---- agents
 
 -- the only agent of these drains has the seat 10
-only_agent : (place seat : ℕ) (node : List ℕ) → slice_get (seats_for 5 (codes "n" ∷ [])) place ≡ Some seat → slice_get (drain_roles one_node) place ≡ Some (agent_of node) → (10 ≡ seat) × (codes "n" ≡ node)
+only_agent : (place seat : ℕ) (node : List ℕ) → slice_get (seats_for 5 (codes "n" ∷ [])) place ≡ Some seat
+    → slice_get (drain_roles one_node) place ≡ Some (agent_of node) → (10 ≡ seat) × (codes "n" ≡ node)
 only_agent zero seat node at role = absurd (true≢false (sym (ap is_agent_role (one _ _ role))))
 only_agent (suc zero) seat node at role = absurd (true≢false (sym (ap is_agent_role (one _ _ role))))
 only_agent (suc (suc zero)) seat node at role = absurd (true≢false (sym (ap is_agent_role (one _ _ role))))
@@ -173,7 +199,8 @@ agent_examples = record {
   none_taken = λ place seat node at role epoch told. none_some told;
   took_last = λ place seat node at role.
       let is = only_agent place seat node at role in
-      subst (λ n. IsCurrent one_node.setup (takes 10 2 ∷ takes 4 1 ∷ []) n seat) is.1 (subst (λ s. IsCurrent one_node.setup (takes 10 2 ∷ takes 4 1 ∷ []) (codes "n") s) is.0 (λ epoch told. sym (one 2 epoch told)));
+      subst (λ n. IsCurrent one_node.setup (takes 10 2 ∷ takes 4 1 ∷ []) n seat) is.1
+      (subst (λ s. IsCurrent one_node.setup (takes 10 2 ∷ takes 4 1 ∷ []) (codes "n") s) is.0 (λ epoch told. sym (one 2 epoch told)));
   overtaken = λ none. let same : 1 ≡ 2 = none 5 10 (codes "n") refl refl 1 refl in omega (arith, same);
 }
 

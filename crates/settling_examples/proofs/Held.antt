@@ -1,8 +1,8 @@
 -- A gate that holds back the Mounts of one pod, computed.
 use Rattle.std.proofs.Common.{◌≡◌, Bool, true, false, true≢false, [], Option, Some, None, refl, sym, ap, subst}
-use Rattle.kube_types.specs.declared.uid.Uid.{Uid}
-use Rattle.kube_types.specs.declared.objects.Object.TheVariants.{Pod}
-use Rattle.kube_types.specs.Uids.{uid_of_serial}
+use Rattle.kube_parts.specs.declared.uid.Uid.{Uid}
+use Rattle.kube_objects.specs.declared.objects.Object.TheVariants.{Pod}
+use Rattle.kube_parts.specs.Uids.{uid_of_serial}
 use Rattle.call_types.specs.declared.request.Request.TheVariants as requests
 use Rattle.binder_model.specs.Imports.{imported_object}
 use Rattle.binder_model.specs.Same.{same_uid}

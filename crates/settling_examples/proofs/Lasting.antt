@@ -1,9 +1,9 @@
 -- Which writes and calls last, computed.
 use Rattle.std.proofs.Common.{Bool, true, false, true≢false, List, [], ◌∷◌, Option, Some, None, inl, inr, refl, sym, ap}
-use Rattle.kube_types.specs.declared.objects.Ref.{Ref}
-use Rattle.kube_types.specs.declared.objects.Object.{Object}
-use Rattle.kube_types.specs.declared.objects.Object.TheVariants.{Volume}
-use Rattle.kube_types.specs.Bindings.{is_available}
+use Rattle.kube_objects.specs.declared.objects.Ref.{Ref}
+use Rattle.kube_objects.specs.declared.objects.Object.{Object}
+use Rattle.kube_objects.specs.declared.objects.Object.TheVariants.{Volume}
+use Rattle.kube_objects.specs.Bindings.{is_available}
 use Rattle.binder_model.specs.BindWrites.{taken_for}
 use Rattle.binder_model.specs.Devices.{Data}
 use Rattle.settling_examples.specs.Lasting.{AlikeExamples, LastingExamples}

@@ -1,8 +1,8 @@
 -- Worlds that are near, computed.
 use Rattle.std.proofs.Common.{Bool, false, true≢false, not, List, ◌∷◌, refl, ap}
-use Rattle.kube_types.specs.declared.objects.Object.{Object}
-use Rattle.kube_types.specs.declared.objects.Object.TheVariants.{Claim}
-use Rattle.kube_types.specs.Bindings.{is_completed}
+use Rattle.kube_objects.specs.declared.objects.Object.{Object}
+use Rattle.kube_objects.specs.declared.objects.Object.TheVariants.{Claim}
+use Rattle.kube_objects.specs.Bindings.{is_completed}
 use Rattle.binder_model.specs.BindWrites.{completed_with}
 use Rattle.settling_examples.specs.Near.{NearExamples}
 

@@ -3,7 +3,7 @@ use Rattle.std.proofs.Common.{None, inl, refl}
 use Rattle.std.specs.Fmt.{digits}
 use mathlib.Core.Bool.{xor}
 use Rattle.uuid.specs.Text.{by_index}
-use Rattle.kube_types.specs.Uids.{uid_of_serial, uid_text}
+use Rattle.kube_parts.specs.Uids.{uid_of_serial, uid_text}
 use Rattle.binder_model.specs.Answers.{after, create, guard_on, list, outcome, refuse, refuse_field, refuse_rule, reply_of}
 use Rattle.binder_model.specs.Devices.{device_answer, provision, provision_new, unless_planned}
 use Rattle.binder_model.specs.Fields.{claim_fault, class_fault, create_fault, faulty, kind_fault, volume_fault}
@@ -16,7 +16,9 @@ use Rattle.model_laws.specs.Worked.{c}
 use Rattle.settling_examples.specs.Objects.{ObjectExamples, data_1, made, pool_setup, slow_stands}
 
 made_run : Run pool_setup made
-unfolding effect on_devices device_answer unless_planned provision provision_new outcome create list refuse refuse_field refuse_rule guard_on guard breaks create_fault kind_fault class_fault volume_fault claim_fault faulty digits lacks_node admitted_object without_status created_object with_meta provisioned_volume reply_to world_after reply_of after log_after xor
+unfolding effect on_devices device_answer unless_planned provision provision_new outcome create list refuse refuse_field refuse_rule guard_on guard
+    breaks create_fault kind_fault class_fault volume_fault claim_fault faulty digits lacks_node admitted_object without_status created_object
+    with_meta provisioned_volume reply_to world_after reply_of after log_after xor
 made_run = ((
   (
     ((((tt, refl, tt), refl, tt), refl, (tt, (refl, tt))), refl, ((refl, tt), (refl, tt))),
@@ -58,5 +60,7 @@ made_run = ((
 ))
 
 pub object_examples : ObjectExamples
-unfolding effect on_devices device_answer unless_planned provision provision_new outcome create list refuse refuse_field refuse_rule guard_on guard breaks create_fault kind_fault class_fault volume_fault claim_fault faulty digits uid_text by_index lacks_node admitted_object without_status created_object with_meta provisioned_volume reply_to world_after reply_of after log_after xor
+unfolding effect on_devices device_answer unless_planned provision provision_new outcome create list refuse refuse_field refuse_rule guard_on guard
+    breaks create_fault kind_fault class_fault volume_fault claim_fault faulty digits uid_text by_index lacks_node admitted_object without_status
+    created_object with_meta provisioned_volume reply_to world_after reply_of after log_after xor
 object_examples = record { is_run = made_run; asked_for = refl; stand = refl; made_too = refl; not_asked_for = refl; refused = refl; counted = refl }

@@ -1,11 +1,11 @@
 -- What ops may still write, and claims of which nothing is due of provisioning, computed.
 use Rattle.std.proofs.Common.{◌≡◌, ◌∙◌, List, [], Option, Some, refl, sym, ap}
 use Rattle.std.specs.Prelude.{codes}
-use Rattle.kube_types.specs.declared.objects.Claim.{Claim as ClaimData}
-use Rattle.kube_types.specs.declared.objects.Object.{Object}
-use Rattle.kube_types.specs.declared.objects.Object.TheVariants.{Claim}
-use Rattle.kube_types.specs.Bindings.{no_provisioner}
-use Rattle.kube_types.specs.Uids.{uid_text}
+use Rattle.kube_objects.specs.declared.objects.Claim.{Claim as ClaimData}
+use Rattle.kube_objects.specs.declared.objects.Object.{Object}
+use Rattle.kube_objects.specs.declared.objects.Object.TheVariants.{Claim}
+use Rattle.kube_objects.specs.Bindings.{no_provisioner}
+use Rattle.kube_parts.specs.Uids.{uid_text}
 use Rattle.uuid.specs.Text.{by_index}
 use Rattle.binder_model.specs.Due.{provision_due}
 use Rattle.binder_model.specs.Imports.{imported_object}

@@ -2,14 +2,14 @@
 -- turn lines of a script, and the number of a volume: small cases.
 -- A choice of this project.
 use Rattle.std.specs.Prelude.{ℕ, ◌≡◌, zero, suc, Bool, true, false, List, [], ◌∷◌, Option, Some, None, codes}
-use Rattle.kube_types.specs.declared.parts.Policy.TheVariants as policies
-use Rattle.kube_types.specs.declared.parts.VolumePhase.TheVariants as volumes
-use Rattle.kube_types.specs.declared.objects.Claim.{Claim as ClaimData}
-use Rattle.kube_types.specs.declared.objects.Class.{Class as ClassData}
-use Rattle.kube_types.specs.declared.objects.Pod.{Pod as PodData}
-use Rattle.kube_types.specs.declared.objects.Object.{Object}
-use Rattle.kube_types.specs.declared.objects.Object.TheVariants.{Claim, Class, Pod, Volume}
-use Rattle.kube_types.specs.Bindings.{no_provisioner}
+use Rattle.kube_parts.specs.declared.parts.Policy.TheVariants as policies
+use Rattle.kube_parts.specs.declared.parts.VolumePhase.TheVariants as volumes
+use Rattle.kube_objects.specs.declared.objects.Claim.{Claim as ClaimData}
+use Rattle.kube_objects.specs.declared.objects.Class.{Class as ClassData}
+use Rattle.kube_objects.specs.declared.objects.Pod.{Pod as PodData}
+use Rattle.kube_objects.specs.declared.objects.Object.{Object}
+use Rattle.kube_objects.specs.declared.objects.Object.TheVariants.{Claim, Class, Pod, Volume}
+use Rattle.kube_objects.specs.Bindings.{no_provisioner}
 use Rattle.call_types.specs.declared.entry.Entry.{Entry}
 use Rattle.call_types.specs.declared.reply.Reply.TheVariants.{Epoch}
 use Rattle.call_types.specs.declared.request.Request.TheVariants.{TakeNode}
@@ -28,7 +28,7 @@ use Rattle.settle_round_calls.specs.Rest.ShortRounds.{HasShortRounds, stated_cal
 use Rattle.settle_budget.specs.Drains.Measured.{SharesWell}
 use Rattle.settle_budget.specs.Drains.Selections.{NoneProvisionsLate}
 use Rattle.replay_laws.specs.Drains.Naming.{ArePodsOnNamed}
-use Rattle.kube_types.specs.VolumePlaces.{IsNth, has_size}
+use Rattle.volume_index.specs.VolumePlaces.{IsNth, has_size}
 use Rattle.replay_laws.specs.Settles.Settling.{AllowsSettling, LeaveAgents, NoAgentIsStale}
 
 -- a world of these objects

@@ -1,9 +1,9 @@
 -- Which writes and calls last, on single objects.
 -- A choice of this project.
 use Rattle.std.specs.Prelude.{true, false, [], ◌∷◌, codes}
-use Rattle.kube_types.specs.declared.parts.VolumePhase.TheVariants as volumes
-use Rattle.kube_types.specs.declared.objects.Volume.{Volume as VolumeData}
-use Rattle.kube_types.specs.declared.objects.Object.TheVariants.{Claim, Volume}
+use Rattle.kube_parts.specs.declared.parts.VolumePhase.TheVariants as volumes
+use Rattle.kube_objects.specs.declared.objects.Volume.{Volume as VolumeData}
+use Rattle.kube_objects.specs.declared.objects.Object.TheVariants.{Claim, Volume}
 use Rattle.call_types.specs.declared.reply.Refusal.TheVariants.{BackFault, Exhausted, NotFound}
 use Rattle.call_types.specs.declared.reply.Reply.TheVariants.{Done, Left, Refused}
 use Rattle.binder_model.specs.Devices.{Devices, no_devices}

@@ -1,9 +1,9 @@
 -- Worlds that are near: small cases.
 -- A choice of this project.
 use Rattle.std.specs.Prelude.{List, ℕ, [], ◌∷◌, codes}
-use Rattle.kube_types.specs.declared.objects.Claim.{Claim as ClaimData}
-use Rattle.kube_types.specs.declared.objects.Object.TheVariants.{Claim}
-use Rattle.kube_types.specs.Bindings.{selected_node}
+use Rattle.kube_objects.specs.declared.objects.Claim.{Claim as ClaimData}
+use Rattle.kube_objects.specs.declared.objects.Object.TheVariants.{Claim}
+use Rattle.kube_objects.specs.Bindings.{selected_node}
 use Rattle.settle_measure.specs.Left.Small.{completed, open_claim}
 use Rattle.settle_alike.specs.Near.Near.{AreNear}
 use Rattle.settling_examples.specs.Ending.{world_with}

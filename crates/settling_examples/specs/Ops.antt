@@ -1,16 +1,16 @@
 -- What the provisioner and reclaimer may still write, for an object and for all, and claims of which nothing is due of provisioning: small cases.
 -- A choice of this project.
 use Rattle.std.specs.Prelude.{ℕ, ◌≡◌, false, List, [], ◌∷◌, Option, Some, None, codes}
-use Rattle.kube_types.specs.declared.key.Key.{Key}
-use Rattle.kube_types.specs.declared.parts.VolumePhase.{VolumePhase}
-use Rattle.kube_types.specs.declared.parts.VolumePhase.TheVariants as volumes
-use Rattle.kube_types.specs.declared.objects.Claim.{Claim as ClaimData}
-use Rattle.kube_types.specs.declared.objects.Volume.{Volume as VolumeData}
-use Rattle.kube_types.specs.declared.objects.Object.{Object}
-use Rattle.kube_types.specs.declared.objects.Object.TheVariants.{Claim, Class, Node, Pod, Volume}
-use Rattle.kube_types.specs.declared.uid.Uid.{Uid}
-use Rattle.kube_types.specs.Bindings.{no_provisioner}
-use Rattle.kube_types.specs.Uids.{uid_of_serial}
+use Rattle.kube_objects.specs.declared.key.Key.{Key}
+use Rattle.kube_parts.specs.declared.parts.VolumePhase.{VolumePhase}
+use Rattle.kube_parts.specs.declared.parts.VolumePhase.TheVariants as volumes
+use Rattle.kube_objects.specs.declared.objects.Claim.{Claim as ClaimData}
+use Rattle.kube_objects.specs.declared.objects.Volume.{Volume as VolumeData}
+use Rattle.kube_objects.specs.declared.objects.Object.{Object}
+use Rattle.kube_objects.specs.declared.objects.Object.TheVariants.{Claim, Class, Node, Pod, Volume}
+use Rattle.kube_parts.specs.declared.uid.Uid.{Uid}
+use Rattle.kube_objects.specs.Bindings.{no_provisioner}
+use Rattle.kube_parts.specs.Uids.{uid_of_serial}
 use Rattle.call_types.specs.declared.setup.Setup.{Setup}
 use Rattle.binder_model.specs.ObjectKeys.{claim_key}
 use Rattle.binder_model.specs.Provisioning.{data_name}

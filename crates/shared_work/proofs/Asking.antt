@@ -17,7 +17,8 @@ pub passed_over : (line : Line) (lines : List Line) (before end : ℕ × List En
 passed_over line lines before end none done = (done.0, done.1, done.2 ∙ ap (λ (asked : List Request). map (user_call before.0) (asked ++ asked_by before.0 lines)) (sym none))
 
 -- a line in which it asks this
-pub asked_first : (line : Line) (request : Request) (lines : List Line) (before now end : ℕ × List Entry) → asked_in before.0 line ≡ request ∷ [] → HasAsked request before now → HasDone lines now end → HasDone (line ∷ lines) before end
+pub asked_first : (line : Line) (request : Request) (lines : List Line) (before now end : ℕ × List Entry) → asked_in before.0 line ≡ request ∷ []
+    → HasAsked request before now → HasDone lines now end → HasDone (line ∷ lines) before end
 asked_first line request lines before now end asks asked done =
     let e : Entry = record { seat = before.0; kind = User; request = request; reply = asked.0; told = true } in
     let same : now.0 ≡ before.0 = ap (λ (s : ℕ × List Entry). s.0) asked.1 in
@@ -54,5 +55,6 @@ module _ (lines : List Line) (i : ℕ) (line : Line) (lt : i < length lines) (is
   pub over_line : asked_in before.0 line ≡ [] → HasDone (drop (i + 1) lines) before end → HasDone (drop i lines) before end
   over_line none done = subst (λ (ls : List Line). HasDone ls before end) (sym from_here) (passed_over line (drop (i + 1) lines) before end none done)
 
-  pub with_line : (request : Request) (now : ℕ × List Entry) → asked_in before.0 line ≡ request ∷ [] → HasAsked request before now → HasDone (drop (i + 1) lines) now end → HasDone (drop i lines) before end
+  pub with_line : (request : Request) (now : ℕ × List Entry) → asked_in before.0 line ≡ request ∷ [] → HasAsked request before now
+      → HasDone (drop (i + 1) lines) now end → HasDone (drop i lines) before end
   with_line request now asks asked done = subst (λ (ls : List Line). HasDone ls before end) (sym from_here) (asked_first line request (drop (i + 1) lines) before now end asks asked done)

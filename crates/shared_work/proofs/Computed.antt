@@ -1,6 +1,6 @@
 -- The examples compute.
 use Rattle.std.proofs.Common.{◌≡◌, ◌≢◌, refl, ap, arith, ℕ, zero, suc, ◌<◌, ◌⊎◌, inl, inr, ne_eqb, Bool, true, List, [], ◌∷◌}
-use Rattle.kube_types.specs.declared.parts.Kind.TheVariants.{Node, Pod}
+use Rattle.kube_parts.specs.declared.parts.Kind.TheVariants.{Node, Pod}
 use Rattle.call_types.specs.declared.request.Request.{Request}
 use Rattle.call_types.specs.declared.request.SeatKind.{SeatKind}
 use Rattle.call_types.specs.declared.request.SeatKind.TheVariants.{User}

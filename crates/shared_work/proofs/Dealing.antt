@@ -1,5 +1,35 @@
 -- The passes of a new shared world, dealt to workers, and what the closed world has of them.
-use Rattle.std.proofs.Common.{◌≡◌, refl, sym, ◌∙◌, ap, subst, subst₂, arith, ℕ, suc, ◌+◌, ◌<◌, ◌≤◌, max, List, [], ◌∷◌, ◌++◌, All, IfOk, Ok, Err, Result, flat_map, fold, length, map, slice_index_or, sum_by}
+use Rattle.std.proofs.Common.{
+  ◌≡◌,
+  refl,
+  sym,
+  ◌∙◌,
+  ap,
+  subst,
+  subst₂,
+  arith,
+  ℕ,
+  suc,
+  ◌+◌,
+  ◌<◌,
+  ◌≤◌,
+  max,
+  List,
+  [],
+  ◌∷◌,
+  ◌++◌,
+  All,
+  IfOk,
+  Ok,
+  Err,
+  Result,
+  flat_map,
+  fold,
+  length,
+  map,
+  slice_index_or,
+  sum_by,
+}
 use Rattle.std.specs.List.{AllByRecursion, AllZip}
 use Rattle.std.proofs.lemmas.List.{length-map, map-append}
 use Rattle.std.proofs.lemmas.List.Elements.{All-append, All-from_recursion, All-nil, recursion_from_All}
@@ -56,7 +86,8 @@ module _ {k : Ghosts Kept Ask Reply Setup} (shared : SharedWorld) (made : ℕ) w
   AreFrom first [] = Unit {0}
   AreFrom first (p ∷ passes) = IsFirst shared made first p × AreFrom (first + 1) passes
 
-  pub new_from : (first : ℕ) (passes : List (Pass Kept Ask Reply Setup k)) → ((i : ℕ) (d : Pass Kept Ask Reply Setup k) → i < length passes → IsFirst shared made (first + i) (slice_index_or passes i d)) → AreFrom first passes
+  pub new_from : (first : ℕ) (passes : List (Pass Kept Ask Reply Setup k))
+      → ((i : ℕ) (d : Pass Kept Ask Reply Setup k) → i < length passes → IsFirst shared made (first + i) (slice_index_or passes i d)) → AreFrom first passes
   new_from first [] each = tt
   new_from first (p ∷ passes) each = (
     subst (λ n. IsFirst shared made n p) (omega arith) (each 0 p (omega arith)),
@@ -89,16 +120,21 @@ module _ {k : Ghosts Kept Ask Reply Setup} {J W : Type 0} (worker : J → W) (pa
   abbrev pub hired_of : J → Hired W
   hired_of job = record { worker = worker job; seats = length (passes job) }
 
-  can_work : (shared : SharedWorld) (needs : W → List (ℕ × List Entry) → Type 0) (made first : ℕ) (jobs : List J) → AreFrom shared made first (flat_map passes jobs) → Each (λ w seats. needs w (seats_at (past_given shared) seats)) first (map hired_of jobs)
+  can_work : (shared : SharedWorld) (needs : W → List (ℕ × List Entry) → Type 0) (made first : ℕ) (jobs : List J)
+      → AreFrom shared made first (flat_map passes jobs) → Each (λ w seats. needs w (seats_at (past_given shared) seats)) first (map hired_of jobs)
       → AllByRecursion (λ job. CanWork needs shared made (worker job) (passes job)) jobs
   can_work shared needs made first [] new each = tt
   can_work shared needs made first (job ∷ jobs) new each =
       let both = new_both shared made first (passes job) (flat_map passes jobs) new in (
-        (All-from_recursion (λ p. IsFirst shared made (number_of p) p) (passes job) (all_new_from shared made first (passes job) both.0), subst (needs (worker job)) (sym (new_seats shared made first (passes job) both.0)) each.0),
+        (
+          All-from_recursion (λ p. IsFirst shared made (number_of p) p) (passes job) (all_new_from shared made first (passes job) both.0),
+          subst (needs (worker job)) (sym (new_seats shared made first (passes job) both.0)) each.0,
+        ),
         can_work shared needs made (first + length (passes job)) jobs both.1 each.1,
       )
 
-module _ {k : Ghosts Kept Ask Reply Setup} {J W V E : Type 0} (worker : J → W) (passes : J → List (Pass Kept Ask Reply Setup k)) (items : V → List (Pass Kept Ask Reply Setup k)) (shared : SharedWorld) where
+module _ {k : Ghosts Kept Ask Reply Setup} {J W V E : Type 0} (worker : J → W) (passes : J → List (Pass Kept Ask Reply Setup k))
+    (items : V → List (Pass Kept Ask Reply Setup k)) (shared : SharedWorld) where
   -- what came of a job
   abbrev Came : (W → List (ℕ × List Entry) → List (ℕ × List Entry) → Type 0) → J → Result V E → Type 0
   Came does job result = IfOk result (λ v. HasWorked does shared (worker job) (passes job) (items v))
@@ -130,7 +166,8 @@ module _ {k : Ghosts Kept Ask Reply Setup} {J W V E : Type 0} (worker : J → W)
     all_of (job ∷ jobs) (Ok v ∷ results) came ok = All-append (IsOf shared) (items v) (all_items items results) came.0.0 (all_of jobs results came.1 ok)
 
     -- what each worker did is what the closed world has
-    all_done : (past : List Entry) (made first : ℕ) (jobs : List J) (results : List (Result V E)) → AllZip (Came does) jobs results → AreAllOk results → AreFrom shared made first (flat_map passes jobs)
+    all_done : (past : List Entry) (made first : ℕ) (jobs : List J) (results : List (Result V E)) → AllZip (Came does) jobs results
+        → AreAllOk results → AreFrom shared made first (flat_map passes jobs)
         → AllByRecursion (IsIn past) (all_items items results) → Each (λ w seats. does w (seats_at (past_given shared) seats) (seats_at past seats)) first (map (hired_of worker passes) jobs)
     all_done past made first [] [] came ok new in_past = tt
     all_done past made first [] (r ∷ results) came ok new in_past = absurd came
@@ -147,18 +184,23 @@ module _ {k : Ghosts Kept Ask Reply Setup} {J W V E : Type 0} (worker : J → W)
 
 -- ---- the whole
 
-module _ {k : Ghosts Kept Ask Reply Setup} {J W : Type 0} (worker : J → W) (passes : J → List (Pass Kept Ask Reply Setup k)) (shared : SharedWorld) (new : List (Pass Kept Ask Reply Setup k)) (jobs : List J) (crew : List (Hired W))
+module _ {k : Ghosts Kept Ask Reply Setup} {J W : Type 0} (worker : J → W) (passes : J → List (Pass Kept Ask Reply Setup k)) (shared : SharedWorld)
+    (new : List (Pass Kept Ask Reply Setup k)) (jobs : List J) (crew : List (Hired W))
     (first : AreFirst shared new) (dealt : flat_map passes jobs ≡ new) (hired : map (hired_of worker passes) jobs ≡ crew) (given : List Entry) (given_is : past_given shared ≡ given) where
   all_new : AreFrom shared (length new) 1 (flat_map passes jobs)
-  all_new = subst (AreFrom shared (length new) 1) (sym dealt) (new_from shared (length new) 1 new (λ i d lt. subst (λ n. IsFirst shared (length new) n (slice_index_or new i d)) (omega arith) (first i d lt)))
+  all_new = subst (AreFrom shared (length new) 1) (sym dealt)
+      (new_from shared (length new) 1 new (λ i d lt. subst (λ n. IsFirst shared (length new) n (slice_index_or new i d)) (omega arith) (first i d lt)))
 
-  pub may_work : (needs : W → List (ℕ × List Entry) → Type 0) (made : ℕ) → length new ≡ made → Each (λ w seats. needs w (seats_at given seats)) 1 crew → All (λ job. CanWork needs shared made (worker job) (passes job)) jobs
+  pub may_work : (needs : W → List (ℕ × List Entry) → Type 0) (made : ℕ) → length new ≡ made
+      → Each (λ w seats. needs w (seats_at given seats)) 1 crew → All (λ job. CanWork needs shared made (worker job) (passes job)) jobs
   may_work needs made made_is each =
-      let here = subst (λ past. Each (λ w seats. needs w (seats_at past seats)) 1 (map (hired_of worker passes) jobs)) (sym given_is) (subst (λ c. Each (λ w seats. needs w (seats_at given seats)) 1 c) (sym hired) each) in
+      let here = subst (λ past. Each (λ w seats. needs w (seats_at past seats)) 1 (map (hired_of worker passes) jobs)) (sym given_is)
+      (subst (λ c. Each (λ w seats. needs w (seats_at given seats)) 1 c) (sym hired) each) in
       let all = All-from_recursion (λ job. CanWork needs shared (length new) (worker job) (passes job)) jobs (can_work worker passes shared needs (length new) 1 jobs all_new here) in
       subst (λ n. All (λ job. CanWork needs shared n (worker job) (passes job)) jobs) made_is all
 
-  module _ {V E : Type 0} (items : V → List (Pass Kept Ask Reply Setup k)) (does : W → List (ℕ × List Entry) → List (ℕ × List Entry) → Type 0) (results : List (Result V E)) (all : List (Pass Kept Ask Reply Setup k))
+  module _ {V E : Type 0} (items : V → List (Pass Kept Ask Reply Setup k)) (does : W → List (ℕ × List Entry) → List (ℕ × List Entry) → Type 0)
+      (results : List (Result V E)) (all : List (Pass Kept Ask Reply Setup k))
       (many : length results ≡ length jobs) (each : (i : ℕ) (d : J) (e : Result V E) → i < length jobs → Came worker passes items shared does (slice_index_or jobs i d) (slice_index_or results i e))
       (ok : AreAllOk results) (gathered : all ≡ all_items items results) where
     came : AllZip (Came worker passes items shared does) jobs results
@@ -187,4 +229,5 @@ module _ {k : Ghosts Kept Ask Reply Setup} {J W : Type 0} (worker : J → W) (pa
     done_by_each past in_past =
         let ins = recursion_from_All (IsIn past) (all_items items results) (subst (λ ps. All (IsIn past) ps) gathered in_past) in
         subst (λ c. Each (λ w seats. does w (seats_at given seats) (seats_at past seats)) 1 c) hired
-        (subst (λ g. Each (λ w seats. does w (seats_at g seats) (seats_at past seats)) 1 (map (hired_of worker passes) jobs)) given_is (all_done worker passes items shared does past (length new) 1 jobs results came ok all_new ins))
+        (subst (λ g. Each (λ w seats. does w (seats_at g seats) (seats_at past seats)) 1 (map (hired_of worker passes) jobs)) given_is
+        (all_done worker passes items shared does past (length new) 1 jobs results came ok all_new ins))

@@ -28,7 +28,8 @@ alone lines user past done =
     let mine : own user past ≡ late = ap (λ (s : ℕ × List Entry). s.1) (after ∙ done.done.1) ∙ ap (λ (s : ℕ × List Entry). late ++ s.1) (sym before) ∙ append-nil late in
     subst₂ (λ n es. AreOfLines n lines es) (sym (ap (λ (s : ℕ × List Entry). s.0) before)) (sym mine) done.done.2
 
-pub did : (given past : List Entry) (lines asked : List Line) (user first many : ℕ) → given ≡ [] → asked ≡ lines → first ≡ user → many ≡ 1 → DoLines asked (seats_at given (numbers_from first many)) (seats_at past (numbers_from first many)) → AreOfLines user lines (own user past)
+pub did : (given past : List Entry) (lines asked : List Line) (user first many : ℕ) → given ≡ [] → asked ≡ lines → first ≡ user → many ≡ 1
+    → DoLines asked (seats_at given (numbers_from first many)) (seats_at past (numbers_from first many)) → AreOfLines user lines (own user past)
 did given past lines asked user first many empty same here one done =
     let a = subst (λ (ls : List Line). DoLines ls (seats_at given (numbers_from first many)) (seats_at past (numbers_from first many))) same done in
     let b = subst (λ (m : ℕ). DoLines lines (seats_at given (numbers_from first m)) (seats_at past (numbers_from first m))) one a in
@@ -41,12 +42,14 @@ module _ {U : Type 0} where
 
   module _ (a b c d : Hired U) (a1 : a.seats ≡ 1) (b1 : b.seats ≡ 1) (c1 : c.seats ≡ 1) (d1 : d.seats ≡ 1) (users : List (Hired U)) (are : users ≡ a ∷ b ∷ c ∷ d ∷ []) where
     pub four_needs : (past : List Entry) → Each (λ user seats. IsOneSeat (seats_at past seats)) 1 users
-    four_needs past = subst (Each (λ user seats. IsOneSeat (seats_at past seats)) 1) (sym are) (one_seat past 1 a a1, (one_seat past (1 + a.seats) b b1, (one_seat past (1 + a.seats + b.seats) c c1, (one_seat past (1 + a.seats + b.seats + c.seats) d d1, tt))))
+    four_needs past = subst (Each (λ user seats. IsOneSeat (seats_at past seats)) 1) (sym are)
+        (one_seat past 1 a a1, (one_seat past (1 + a.seats) b b1, (one_seat past (1 + a.seats + b.seats) c c1, (one_seat past (1 + a.seats + b.seats + c.seats) d d1, tt))))
 
     pub four_seats : all_seats users ≡ 4
     four_seats = ap (λ (us : List (Hired U)). all_seats us) are ∙ omega (arith, a1, b1, c1, d1)
 
-    module _ (lines_of : U → List Line) (lines : List Line) (al : lines_of a.worker ≡ lines) (bl : lines_of b.worker ≡ lines) (cl : lines_of c.worker ≡ lines) (dl : lines_of d.worker ≡ lines) (given past : List Entry) (empty : given ≡ []) where
+    module _ (lines_of : U → List Line) (lines : List Line) (al : lines_of a.worker ≡ lines) (bl : lines_of b.worker ≡ lines)
+        (cl : lines_of c.worker ≡ lines) (dl : lines_of d.worker ≡ lines) (given past : List Entry) (empty : given ≡ []) where
       pub of_users : Each (λ user seats. DoLines (lines_of user) (seats_at given seats) (seats_at past seats)) 1 users → AddsNoSeats (all_seats users) given past → AreOfUsers lines past
       of_users does others = record { users = by_number; others = λ seat beside. (subst (λ n. AddsNoSeats n given past) four_seats others) seat beside ∙ ap (own seat) empty }
         where

@@ -10,6 +10,7 @@ module _ {A B : Type 0} where
   needs_of first second (First worker) before = first worker before
   needs_of first second (Second worker) before = second worker before
 
-  abbrev pub does_of : (A → List (ℕ × List Entry) → List (ℕ × List Entry) → Type 0) → (B → List (ℕ × List Entry) → List (ℕ × List Entry) → Type 0) → OneOf A B → List (ℕ × List Entry) → List (ℕ × List Entry) → Type 0
+  abbrev pub does_of : (A → List (ℕ × List Entry) → List (ℕ × List Entry) → Type 0) → (B → List (ℕ × List Entry) → List (ℕ × List Entry) → Type 0)
+      → OneOf A B → List (ℕ × List Entry) → List (ℕ × List Entry) → Type 0
   does_of first second (First worker) before after = first worker before after
   does_of first second (Second worker) before after = second worker before after

@@ -28,7 +28,8 @@ pub has_begun : (world : History) (value : Kept) (given : List Entry) → kept_o
 has_begun world value given is starts = subst (λ (v : Kept). Begins v.past given) (sym is) (subst (Begins value.past) (back given) (begun value.past (lines given) starts))
 
 pub no_seats : (made : ℕ) (world : History) (value : Kept) (given : List Entry) → kept_of world ≡ value → AddsNoOthers made (lines given) (lines value.past) → AddsNoSeats made given world.past
-no_seats made world value given is none = subst (λ (v : Kept). AddsNoSeats made given v.past) (sym is) (λ seat beside. sym (own_lines seat value.past) ∙ ap entries (none seat beside) ∙ own_lines seat given)
+no_seats made world value given is none =
+    subst (λ (v : Kept). AddsNoSeats made given v.past) (sym is) (λ seat beside. sym (own_lines seat value.past) ∙ ap entries (none seat beside) ∙ own_lines seat given)
 
 module _ {k : Ghosts Kept Ask Reply Setup} where
   pub has_called : (setup : Setup) (p q : Pass Kept Ask Reply Setup k) (l : Line Ask Reply) → (view_of p).base ≡ Some setup
@@ -70,7 +71,8 @@ module _ {k : Ghosts Kept Ask Reply Setup} where
   are_in world value passes is recalls = subst (λ (v : Kept). All (IsIn v.past) passes) (sym is) (λ i d lt. is_in value.past (slice_index_or passes i d) (recalls i d lt))
 
   -- the passes of a new lock over a kept world
-  pub are_first : (shared : SharedWorld) (passes : List (Pass Kept Ask Reply Setup k)) → k.history (value_given shared.lock) ≡ lines (past_given shared) → AreFirstPasses shared.lock passes → AreFirst shared passes
+  pub are_first : (shared : SharedWorld) (passes : List (Pass Kept Ask Reply Setup k))
+      → k.history (value_given shared.lock) ≡ lines (past_given shared) → AreFirstPasses shared.lock passes → AreFirst shared passes
   are_first shared passes history first i d lt =
       let f = (first i d lt).1 in
       record {

@@ -22,7 +22,8 @@ pub own_entries : (n : ℕ) (log : List (Line Ask Reply)) → entries (calls_of 
 own_entries n [] = refl
 own_entries n (l ∷ log) = by (l.seat == n) (own_entries n log)
   where
-    by : (b : Bool) → entries (calls_of n log) ≡ own n (entries log) → entries (if b then l ∷ calls_of n log else calls_of n log) ≡ (if b then entry_of l ∷ own n (entries log) else own n (entries log))
+    by : (b : Bool) → entries (calls_of n log) ≡ own n (entries log)
+        → entries (if b then l ∷ calls_of n log else calls_of n log) ≡ (if b then entry_of l ∷ own n (entries log) else own n (entries log))
     by true rest = ap (λ es. entry_of l ∷ es) rest
     by false rest = rest
 

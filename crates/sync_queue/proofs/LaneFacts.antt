@@ -2,12 +2,12 @@
 use Rattle.std.proofs.Common.{◌≡◌, Bool, true, false, ◌||◌, cond, List, [], ◌∷◌, ◌++◌, Option, Some, None, map, refl, sym, ap, subst, ◌∙◌}
 use Rattle.std.specs.List.{list_any}
 use Rattle.std.proofs.lemmas.Bool.{or_parts}
-use Rattle.kube_types.specs.declared.key.Key.{Key}
+use Rattle.kube_objects.specs.declared.key.Key.{Key}
 use Rattle.sync_queue.specs.declared.lanes.Stage.{Stage}
-use Rattle.kube_types.specs.Keys.{same_key}
+use Rattle.kube_objects.specs.Keys.{same_key}
 use Rattle.sync_queue.specs.Work.{Taken, AreOnce, without_waiting, is_of, mark, mark_of}
 use Rattle.sync_queue.specs.Steps.Lanes.{IsLane, IsSet, marks, is_again}
-use Rattle.kube_types.proofs.SameKeys.{same_key_itself, same_key_equivalence}
+use Rattle.kube_objects.proofs.SameKeys.{same_key_itself, same_key_equivalence}
 use Rattle.sync_queue.proofs.KeyFacts.{key_is}
 
 or_none : (b : Bool) → (b || false) ≡ b
@@ -65,16 +65,22 @@ any-without k q [] h = by (same_key k q)
     by false = refl
 any-without k q (j ∷ js) h = by (same_key k j) (same_key k q) refl refl (any-without k q js h.1)
   where
-    by : (b c : Bool) → same_key k j ≡ b → same_key k q ≡ c → list_any (same_key q) (without_waiting (same_key k) js) ≡ cond (same_key k q) false (list_any (same_key q) js) → list_any (same_key q) (cond b js (j ∷ without_waiting (same_key k) js)) ≡ cond c false (same_key q j || list_any (same_key q) js)
+    by : (b c : Bool) → same_key k j ≡ b → same_key k q ≡ c
+        → list_any (same_key q) (without_waiting (same_key k) js) ≡ cond (same_key k q) false (list_any (same_key q) js)
+        → list_any (same_key q) (cond b js (j ∷ without_waiting (same_key k) js)) ≡ cond c false (same_key q j || list_any (same_key q) js)
     by true true e f rest = subst (λ (x : Key). list_any (same_key x) js ≡ false) (sym (key_is k j e) ∙ key_is k q f) h.0
     by true false e f rest = sym (ap (λ b. b || list_any (same_key q) js) (subst (λ (x : Key). same_key q x ≡ false) (key_is k j e) (same_key_equivalence.symm q k ∙ f)))
-    by false true e f rest = ap (λ b. b || list_any (same_key q) (without_waiting (same_key k) js)) (subst (λ (x : Key). same_key x j ≡ false) (key_is k q f) e) ∙ (rest ∙ ap (λ b. cond b false (list_any (same_key q) js)) f)
+    by false true e f rest = ap (λ b. b || list_any (same_key q) (without_waiting (same_key k) js)) (subst (λ (x : Key). same_key x j ≡ false)
+        (key_is k q f) e) ∙ (rest ∙ ap (λ b. cond b false (list_any (same_key q) js)) f)
     by false false e f rest = ap (λ b. same_key q j || b) (rest ∙ ap (λ b. cond b false (list_any (same_key q) js)) f)
 
 pub once-append : (xs ys : List Key) → AreOnce xs → AreOnce ys → ((q : Key) → list_any (same_key q) xs ≡ true → list_any (same_key q) ys ≡ false) → AreOnce (xs ++ ys)
 once-append [] ys h o apart = o
-once-append (x ∷ xs) ys h o apart =
-    (any-append (same_key x) xs ys ∙ ap (λ b. b || list_any (same_key x) ys) h.0 ∙ apart x (ap (λ b. b || list_any (same_key x) xs) (same_key_itself x)), once-append xs ys h.1 o (λ q e. apart q (ap (λ b. same_key q x || b) e ∙ or_true (same_key q x))))
+once-append (x ∷ xs) ys h o apart = (
+  any-append (same_key x) xs ys ∙ ap (λ b. b || list_any (same_key x) ys) h.0
+      ∙ apart x (ap (λ b. b || list_any (same_key x) xs) (same_key_itself x)),
+  once-append xs ys h.1 o (λ q e. apart q (ap (λ b. same_key q x || b) e ∙ or_true (same_key q x))),
+)
 
 pub any-marks : (stage : Key → Option Stage) (k : Key) (ks : List Key) → list_any (is_of k) (marks stage ks) ≡ list_any (same_key k) ks
 any-marks stage k [] = refl
@@ -88,7 +94,8 @@ pub marks-without : (stage : Key → Option Stage) (k : Key) (ks : List Key) →
 marks-without stage k [] = refl
 marks-without stage k (j ∷ js) = by (same_key k j) (marks-without stage k js)
   where
-    by : (b : Bool) → marks stage (without_waiting (same_key k) js) ≡ without_waiting (is_of k) (marks stage js) → marks stage (cond b js (j ∷ without_waiting (same_key k) js)) ≡ cond b (marks stage js) ((record { key = j; again = is_again (stage j) }) ∷ without_waiting (is_of k) (marks stage js))
+    by : (b : Bool) → marks stage (without_waiting (same_key k) js) ≡ without_waiting (is_of k) (marks stage js)
+        → marks stage (cond b js (j ∷ without_waiting (same_key k) js)) ≡ cond b (marks stage js) ((record { key = j; again = is_again (stage j) }) ∷ without_waiting (is_of k) (marks stage js))
     by true rest = refl
     by false rest = ap (λ ys. (record { key = j; again = is_again (stage j) }) ∷ ys) rest
 
@@ -100,7 +107,8 @@ pub mark_of-marks : (stage : Key → Option Stage) (k : Key) (ks : List Key) →
 mark_of-marks stage k [] = refl
 mark_of-marks stage k (j ∷ js) = by (same_key k j) refl (mark_of-marks stage k js)
   where
-    by : (b : Bool) → same_key k j ≡ b → mark_of k (marks stage js) ≡ cond (list_any (same_key k) js) (Some (is_again (stage k))) None → cond b (Some (is_again (stage j))) (mark_of k (marks stage js)) ≡ cond (b || list_any (same_key k) js) (Some (is_again (stage k))) None
+    by : (b : Bool) → same_key k j ≡ b → mark_of k (marks stage js) ≡ cond (list_any (same_key k) js) (Some (is_again (stage k))) None
+        → cond b (Some (is_again (stage j))) (mark_of k (marks stage js)) ≡ cond (b || list_any (same_key k) js) (Some (is_again (stage k))) None
     by true e rest = ap (λ (x : Key). Some (is_again (stage x))) (sym (key_is k j e))
     by false e rest = rest
 
@@ -156,7 +164,8 @@ module _ (stage after : Key → Option Stage) (k : Key) (s : Option Stage) (set 
   -- k comes to the taken keys
   pub marks-come : (ks : List Key) → is_again s ≡ false → list_any (same_key k) ks ≡ false → marks after (ks ++ k ∷ []) ≡ marks stage ks ++ (record { key = k; again = false }) ∷ []
   marks-come ks off h =
-      marks-push after ks k ∙ (ap (λ ts. ts ++ (record { key = k; again = is_again (after k) }) ∷ []) (marks-other ks h) ∙ ap (λ b. marks stage ks ++ (record { key = k; again = b }) ∷ []) (ap is_again after_self ∙ off))
+      marks-push after ks k ∙ (ap (λ ts. ts ++ (record { key = k; again = is_again (after k) }) ∷ []) (marks-other ks h) ∙ ap
+      (λ b. marks stage ks ++ (record { key = k; again = b }) ∷ []) (ap is_again after_self ∙ off))
 
   -- k is marked
   pub marks-mark : (ks : List Key) → is_again s ≡ true → marks after ks ≡ map (mark k) (marks stage ks)

@@ -4,9 +4,9 @@ use Rattle.std.specs.List.{list_any}
 use Rattle.std.specs.Prelude.{remove}
 use Rattle.std.specs.Map.{keys_of}
 use Rattle.std.proofs.lemmas.Bool.{or_parts}
-use Rattle.kube_types.specs.declared.key.Key.{Key}
-use Rattle.kube_types.specs.Keys.{same_key}
-use Rattle.kube_types.proofs.SameKeys.{same_key_itself, same_key_swapped}
+use Rattle.kube_objects.specs.declared.key.Key.{Key}
+use Rattle.kube_objects.specs.Keys.{same_key}
+use Rattle.kube_objects.proofs.SameKeys.{same_key_itself, same_key_swapped}
 use Rattle.sync_queue.specs.Work.{AreOnce, without_waiting}
 use Rattle.sync_queue.specs.Steps.Places.{AreBelow, key_there, keys_at}
 

@@ -1,14 +1,14 @@
 -- What each move of a key does to the lists and to the work that they stand for.
 use Rattle.std.proofs.Common.{◌≡◌, Bool, true, false, true≢false, ◌||◌, List, [], ◌∷◌, ◌++◌, Option, Some, None, refl, sym, ap, subst, ◌∙◌}
 use Rattle.std.specs.List.{list_any}
-use Rattle.kube_types.specs.declared.key.Key.{Key}
+use Rattle.kube_objects.specs.declared.key.Key.{Key}
 use Rattle.sync_queue.specs.declared.lanes.Stage.{Stage}
 use Rattle.sync_queue.specs.declared.lanes.Stage.TheVariants.{Waiting, Again, Parked, Gone}
 use Rattle.sync_queue.specs.declared.lanes.Stage.TheVariants.{Taken as Begun}
-use Rattle.kube_types.specs.Keys.{same_key}
+use Rattle.kube_objects.specs.Keys.{same_key}
 use Rattle.sync_queue.specs.Work.{Work, AreOnce, StandsOnce, without_waiting, queued, put_aside, marked, unparked, released, begun}
 use Rattle.sync_queue.specs.Steps.Lanes.{woken_first, AreLanes, IsSet, work_of, is_taken, is_waiting, is_parked}
-use Rattle.kube_types.proofs.SameKeys.{same_key_itself}
+use Rattle.kube_objects.proofs.SameKeys.{same_key_itself}
 use Rattle.sync_queue.proofs.LaneFacts.{lane-kept, lane-push, lane-drop, lane-pop, marks-other, marks-drop, marks-come, marks-mark, once-append, any-append, keys-marks}
 
 -- a taken key neither waits nor is parked
@@ -78,7 +78,8 @@ module _ (stage after : Key → Option Stage) (k : Key) (ws ts ps : List Key) (s
         work = ap (λ ms. record { waiting = ws; taken = ms; parked = ps }) (marks-mark stage after k (Some Again) set ts refl);
       }
 
-  pub unpark-moved : IsSet stage k (Some Waiting) after → is_parked (stage k) ≡ true → (ws' ps' : List Key) → ws' ≡ ws ++ k ∷ [] → ps' ≡ without_waiting (same_key k) ps → Moved after ws' ts ps' (queued k (unparked k (work_of stage ws ts ps)))
+  pub unpark-moved : IsSet stage k (Some Waiting) after → is_parked (stage k) ≡ true → (ws' ps' : List Key) → ws' ≡ ws ++ k ∷ []
+      → ps' ≡ without_waiting (same_key k) ps → Moved after ws' ts ps' (queued k (unparked k (work_of stage ws ts ps)))
   unpark-moved set at ws' ps' e f =
       let other = parked_alone (stage k) at in
       let move : Moved after (ws ++ k ∷ []) ts (without_waiting (same_key k) ps) (queued k (unparked k (work_of stage ws ts ps))) = record {
@@ -89,9 +90,11 @@ module _ (stage after : Key → Option Stage) (k : Key) (ws ts ps : List Key) (s
         };
         work = ap (λ ms. record { waiting = ws ++ k ∷ []; taken = ms; parked = without_waiting (same_key k) ps }) (marks-other stage after k (Some Waiting) set ts (sound.taken.says k ∙ other.1));
       } in
-      subst (λ vs. Moved after vs ts ps' (queued k (unparked k (work_of stage ws ts ps)))) (sym e) (subst (λ vs. Moved after (ws ++ k ∷ []) ts vs (queued k (unparked k (work_of stage ws ts ps)))) (sym f) move)
+      subst (λ vs. Moved after vs ts ps' (queued k (unparked k (work_of stage ws ts ps)))) (sym e)
+      (subst (λ vs. Moved after (ws ++ k ∷ []) ts vs (queued k (unparked k (work_of stage ws ts ps)))) (sym f) move)
 
-  pub requeue-moved : IsSet stage k (Some Waiting) after → is_taken (stage k) ≡ true → (ws' ts' : List Key) → ws' ≡ ws ++ k ∷ [] → ts' ≡ without_waiting (same_key k) ts → Moved after ws' ts' ps (queued k (released k (work_of stage ws ts ps)))
+  pub requeue-moved : IsSet stage k (Some Waiting) after → is_taken (stage k) ≡ true → (ws' ts' : List Key) → ws' ≡ ws ++ k ∷ []
+      → ts' ≡ without_waiting (same_key k) ts → Moved after ws' ts' ps (queued k (released k (work_of stage ws ts ps)))
   requeue-moved set at ws' ts' e f =
       let other = taken_alone (stage k) at in
       let move : Moved after (ws ++ k ∷ []) (without_waiting (same_key k) ts) ps (queued k (released k (work_of stage ws ts ps))) = record {
@@ -102,9 +105,11 @@ module _ (stage after : Key → Option Stage) (k : Key) (ws ts ps : List Key) (s
         };
         work = ap (λ ms. record { waiting = ws ++ k ∷ []; taken = ms; parked = ps }) (marks-drop stage after k (Some Waiting) set ts sound.taken.once);
       } in
-      subst (λ vs. Moved after vs ts' ps (queued k (released k (work_of stage ws ts ps)))) (sym e) (subst (λ vs. Moved after (ws ++ k ∷ []) vs ps (queued k (released k (work_of stage ws ts ps)))) (sym f) move)
+      subst (λ vs. Moved after vs ts' ps (queued k (released k (work_of stage ws ts ps)))) (sym e)
+      (subst (λ vs. Moved after (ws ++ k ∷ []) vs ps (queued k (released k (work_of stage ws ts ps)))) (sym f) move)
 
-  pub park-moved : IsSet stage k (Some Parked) after → is_taken (stage k) ≡ true → (ts' ps' : List Key) → ts' ≡ without_waiting (same_key k) ts → ps' ≡ ps ++ k ∷ [] → Moved after ws ts' ps' (put_aside k (released k (work_of stage ws ts ps)))
+  pub park-moved : IsSet stage k (Some Parked) after → is_taken (stage k) ≡ true → (ts' ps' : List Key) → ts' ≡ without_waiting (same_key k) ts
+      → ps' ≡ ps ++ k ∷ [] → Moved after ws ts' ps' (put_aside k (released k (work_of stage ws ts ps)))
   park-moved set at ts' ps' e f =
       let other = taken_alone (stage k) at in
       let move : Moved after ws (without_waiting (same_key k) ts) (ps ++ k ∷ []) (put_aside k (released k (work_of stage ws ts ps))) = record {
@@ -115,9 +120,11 @@ module _ (stage after : Key → Option Stage) (k : Key) (ws ts ps : List Key) (s
         };
         work = ap (λ ms. record { waiting = ws; taken = ms; parked = ps ++ k ∷ [] }) (marks-drop stage after k (Some Parked) set ts sound.taken.once);
       } in
-      subst (λ vs. Moved after ws vs ps' (put_aside k (released k (work_of stage ws ts ps)))) (sym e) (subst (λ vs. Moved after ws (without_waiting (same_key k) ts) vs (put_aside k (released k (work_of stage ws ts ps)))) (sym f) move)
+      subst (λ vs. Moved after ws vs ps' (put_aside k (released k (work_of stage ws ts ps)))) (sym e)
+      (subst (λ vs. Moved after ws (without_waiting (same_key k) ts) vs (put_aside k (released k (work_of stage ws ts ps)))) (sym f) move)
 
-  pub release-moved : IsSet stage k (Some Gone) after → is_taken (stage k) ≡ true → (ts' : List Key) → ts' ≡ without_waiting (same_key k) ts → Moved after ws ts' ps (released k (work_of stage ws ts ps))
+  pub release-moved : IsSet stage k (Some Gone) after → is_taken (stage k) ≡ true → (ts' : List Key) → ts' ≡ without_waiting (same_key k) ts
+      → Moved after ws ts' ps (released k (work_of stage ws ts ps))
   release-moved set at ts' e =
       let other = taken_alone (stage k) at in
       let move : Moved after ws (without_waiting (same_key k) ts) ps (released k (work_of stage ws ts ps)) = record {
@@ -148,7 +155,8 @@ module _ (stage after : Key → Option Stage) (k : Key) (ws ts ps : List Key) wh
   head_any : (ks : List Key) → list_any (same_key k) (k ∷ ks) ≡ true
   head_any ks = ap (λ b. b || list_any (same_key k) ks) (same_key_itself k)
 
-  pub begin-moved : (vs : List Key) → vs ≡ k ∷ ws → AreLanes stage vs ts ps → IsSet stage k (Some Begun) after → (ts' : List Key) → ts' ≡ ts ++ k ∷ [] → Moved after ws ts' ps (begun (work_of stage vs ts ps))
+  pub begin-moved : (vs : List Key) → vs ≡ k ∷ ws → AreLanes stage vs ts ps → IsSet stage k (Some Begun) after → (ts' : List Key)
+      → ts' ≡ ts ++ k ∷ [] → Moved after ws ts' ps (begun (work_of stage vs ts ps))
   begin-moved vs e sound set ts' f = subst (λ us. AreLanes stage us ts ps → Moved after ws ts' ps (begun (work_of stage us ts ps))) (sym e) (λ l. move l) sound
     where
       move : AreLanes stage (k ∷ ws) ts ps → Moved after ws ts' ps (begun (work_of stage (k ∷ ws) ts ps))
@@ -164,7 +172,8 @@ module _ (stage after : Key → Option Stage) (k : Key) (ws ts ps : List Key) wh
           } in
           subst (λ us. Moved after ws us ps (begun (work_of stage (k ∷ ws) ts ps))) (sym f) here
 
-  pub wake-moved : (vs : List Key) → vs ≡ k ∷ ps → AreLanes stage ws ts vs → IsSet stage k (Some Waiting) after → (ws' : List Key) → ws' ≡ ws ++ k ∷ [] → Moved after ws' ts ps (woken_first (work_of stage ws ts vs))
+  pub wake-moved : (vs : List Key) → vs ≡ k ∷ ps → AreLanes stage ws ts vs → IsSet stage k (Some Waiting) after → (ws' : List Key)
+      → ws' ≡ ws ++ k ∷ [] → Moved after ws' ts ps (woken_first (work_of stage ws ts vs))
   wake-moved vs e sound set ws' f = subst (λ us. AreLanes stage ws ts us → Moved after ws' ts ps (woken_first (work_of stage ws ts us))) (sym e) (λ l. move l) sound
     where
       move : AreLanes stage ws ts (k ∷ ps) → Moved after ws' ts ps (woken_first (work_of stage ws ts (k ∷ ps)))

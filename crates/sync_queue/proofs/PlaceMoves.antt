@@ -1,8 +1,8 @@
 -- What each move of a place does to the lists and to the work that they stand for.
 use Rattle.std.proofs.Common.{◌≡◌, ℕ, ◌<◌, ◌≤◌, Bool, List, [], ◌∷◌, ◌++◌, length, Option, Some, true, slice_get, sym, ap, subst, ◌∙◌, arith}
 use Rattle.std.specs.Prelude.{remove}
-use Rattle.kube_types.specs.declared.key.Key.{Key}
-use Rattle.kube_types.specs.Keys.{same_key}
+use Rattle.kube_objects.specs.declared.key.Key.{Key}
+use Rattle.kube_objects.specs.Keys.{same_key}
 use Rattle.sync_queue.specs.declared.lanes.Stage.{Stage}
 use Rattle.sync_queue.specs.declared.lanes.Stage.TheVariants.{Waiting, Again, Parked, Gone}
 use Rattle.sync_queue.specs.declared.lanes.Stage.TheVariants.{Taken as Begun}
@@ -47,7 +47,8 @@ module _ (ks : List Key) where
     tested : test (stage (key_there (keys_at ks us) at)) ≡ true
     tested = sym (lane.says (key_there (keys_at ks us) at)) ∙ any_there (keys_at ks us) at within
 
-  module _ (stage after : Key → Option Stage) (ws ts ps : List ℕ) (lanes : AreLanes stage (keys_at ks ws) (keys_at ks ts) (keys_at ks ps)) (bw : AreBelow (length ks) ws) (bt : AreBelow (length ks) ts) (bp : AreBelow (length ks) ps) (js : List Key) (same : js ≡ ks) (at place : ℕ) where
+  module _ (stage after : Key → Option Stage) (ws ts ps : List ℕ) (lanes : AreLanes stage (keys_at ks ws) (keys_at ks ts) (keys_at ks ps))
+      (bw : AreBelow (length ks) ws) (bt : AreBelow (length ks) ts) (bp : AreBelow (length ks) ps) (js : List Key) (same : js ≡ ks) (at place : ℕ) where
     -- a taken key
     module _ (there : slice_get ts at ≡ Some place) (lt : at < length ts) where
       placed : place < length ks
@@ -64,17 +65,20 @@ module _ (ks : List Key) where
 
       pub requeue-at : IsSet stage (key_there ks place) (Some Waiting) after → (ws' ts' : List ℕ) → ws' ≡ ws ++ place ∷ [] → ts' ≡ remove ts at
           → Stands after js ws' ts' ps (queued (key_there (keys_at ks ts) at) (released (key_there (keys_at ks ts) at) (work_of stage (keys_at ks ws) (keys_at ks ts) (keys_at ks ps))))
-      requeue-at set ws' ts' e f = stands after js ks ws' ts' ps _ same (requeue-moved stage after _ _ _ _ lanes (set_for Waiting set) (tested is_taken stage ts lanes.taken at lt) _ _ (last ws ws' e) (out_of is_taken stage ts lanes.taken at lt ts' f))
+      requeue-at set ws' ts' e f = stands after js ks ws' ts' ps _ same (requeue-moved stage after _ _ _ _ lanes (set_for Waiting set)
+          (tested is_taken stage ts lanes.taken at lt) _ _ (last ws ws' e) (out_of is_taken stage ts lanes.taken at lt ts' f))
           (below_pushed _ ws ws' place e placed bw) (below_out _ ts ts' at f bt) bp
 
       pub park-at : IsSet stage (key_there ks place) (Some Parked) after → (ts' ps' : List ℕ) → ts' ≡ remove ts at → ps' ≡ ps ++ place ∷ []
           → Stands after js ws ts' ps' (put_aside (key_there (keys_at ks ts) at) (released (key_there (keys_at ks ts) at) (work_of stage (keys_at ks ws) (keys_at ks ts) (keys_at ks ps))))
-      park-at set ts' ps' e f = stands after js ks ws ts' ps' _ same (park-moved stage after _ _ _ _ lanes (set_for Parked set) (tested is_taken stage ts lanes.taken at lt) _ _ (out_of is_taken stage ts lanes.taken at lt ts' e) (last ps ps' f))
+      park-at set ts' ps' e f = stands after js ks ws ts' ps' _ same (park-moved stage after _ _ _ _ lanes (set_for Parked set)
+          (tested is_taken stage ts lanes.taken at lt) _ _ (out_of is_taken stage ts lanes.taken at lt ts' e) (last ps ps' f))
           bw (below_out _ ts ts' at e bt) (below_pushed _ ps ps' place f placed bp)
 
       pub release-at : IsSet stage (key_there ks place) (Some Gone) after → (ts' : List ℕ) → ts' ≡ remove ts at
           → Stands after js ws ts' ps (released (key_there (keys_at ks ts) at) (work_of stage (keys_at ks ws) (keys_at ks ts) (keys_at ks ps)))
-      release-at set ts' e = stands after js ks ws ts' ps _ same (release-moved stage after _ _ _ _ lanes (set_for Gone set) (tested is_taken stage ts lanes.taken at lt) _ (out_of is_taken stage ts lanes.taken at lt ts' e))
+      release-at set ts' e = stands after js ks ws ts' ps _ same (release-moved stage after _ _ _ _ lanes (set_for Gone set)
+          (tested is_taken stage ts lanes.taken at lt) _ (out_of is_taken stage ts lanes.taken at lt ts' e))
           bw (below_out _ ts ts' at e bt) bp
 
     -- a parked key
@@ -83,49 +87,62 @@ module _ (ks : List Key) where
           → Stands after js ws' ts ps' (queued (key_there (keys_at ks ps) at) (unparked (key_there (keys_at ks ps) at) (work_of stage (keys_at ks ws) (keys_at ks ts) (keys_at ks ps))))
       unpark-at set ws' ps' e f =
           let named = there_at ks ps at place there in
-          stands after js ks ws' ts ps' _ same (unpark-moved stage after _ _ _ _ lanes (subst (λ (j : Key). IsSet stage j (Some Waiting) after) (sym named) set) (tested is_parked stage ps lanes.parked at lt) _ _
+          stands after js ks ws' ts ps' _ same (unpark-moved stage after _ _ _ _ lanes
+          (subst (λ (j : Key). IsSet stage j (Some Waiting) after) (sym named) set) (tested is_parked stage ps lanes.parked at lt) _ _
           (pushed ws ws' place e ∙ ap (λ (j : Key). keys_at ks ws ++ j ∷ []) (sym named)) (out_of is_parked stage ps lanes.parked at lt ps' f))
           (below_pushed _ ws ws' place e (below_at (length ks) ps at place there bp) bw) bt (below_out _ ps ps' at f bp)
 
   -- the oldest waiting key
-  pub begin-at : (stage after : Key → Option Stage) (vs ws ts ps : List ℕ) (place : ℕ) → vs ≡ place ∷ ws → AreLanes stage (keys_at ks vs) (keys_at ks ts) (keys_at ks ps) → AreBelow (length ks) vs → AreBelow (length ks) ts → AreBelow (length ks) ps
-      → (js : List Key) → js ≡ ks → IsSet stage (key_there ks place) (Some Begun) after → (ts' : List ℕ) → ts' ≡ ts ++ place ∷ [] → Stands after js ws ts' ps (begun (work_of stage (keys_at ks vs) (keys_at ks ts) (keys_at ks ps)))
+  pub begin-at : (stage after : Key → Option Stage) (vs ws ts ps : List ℕ) (place : ℕ) → vs ≡ place ∷ ws
+      → AreLanes stage (keys_at ks vs) (keys_at ks ts) (keys_at ks ps) → AreBelow (length ks) vs → AreBelow (length ks) ts → AreBelow (length ks) ps
+      → (js : List Key) → js ≡ ks → IsSet stage (key_there ks place) (Some Begun) after → (ts' : List ℕ) → ts' ≡ ts ++ place ∷ []
+      → Stands after js ws ts' ps (begun (work_of stage (keys_at ks vs) (keys_at ks ts) (keys_at ks ps)))
   begin-at stage after vs ws ts ps place e lanes bv bt bp js same set ts' f =
       let b = subst (AreBelow (length ks)) e bv in
-      stands after js ks ws ts' ps _ same (begin-moved stage after (key_there ks place) (keys_at ks ws) (keys_at ks ts) (keys_at ks ps) (keys_at ks vs) (ap (keys_at ks) e) lanes set _ (pushed ts ts' place f))
+      stands after js ks ws ts' ps _ same (begin-moved stage after (key_there ks place) (keys_at ks ws) (keys_at ks ts) (keys_at ks ps)
+      (keys_at ks vs) (ap (keys_at ks) e) lanes set _ (pushed ts ts' place f))
       b.1 (below_pushed _ ts ts' place f b.0 bt) bp
 
   -- the key that was parked first
-  pub wake-at : (stage after : Key → Option Stage) (ws ts vs ps : List ℕ) (place : ℕ) → vs ≡ place ∷ ps → AreLanes stage (keys_at ks ws) (keys_at ks ts) (keys_at ks vs) → AreBelow (length ks) ws → AreBelow (length ks) ts → AreBelow (length ks) vs
-      → (js : List Key) → js ≡ ks → IsSet stage (key_there ks place) (Some Waiting) after → (ws' : List ℕ) → ws' ≡ ws ++ place ∷ [] → Stands after js ws' ts ps (woken_first (work_of stage (keys_at ks ws) (keys_at ks ts) (keys_at ks vs)))
+  pub wake-at : (stage after : Key → Option Stage) (ws ts vs ps : List ℕ) (place : ℕ) → vs ≡ place ∷ ps
+      → AreLanes stage (keys_at ks ws) (keys_at ks ts) (keys_at ks vs) → AreBelow (length ks) ws → AreBelow (length ks) ts → AreBelow (length ks) vs
+      → (js : List Key) → js ≡ ks → IsSet stage (key_there ks place) (Some Waiting) after → (ws' : List ℕ) → ws' ≡ ws ++ place ∷ []
+      → Stands after js ws' ts ps (woken_first (work_of stage (keys_at ks ws) (keys_at ks ts) (keys_at ks vs)))
   wake-at stage after ws ts vs ps place e lanes bw bt bv js same set ws' f =
       let b = subst (AreBelow (length ks)) e bv in
-      stands after js ks ws' ts ps _ same (wake-moved stage after (key_there ks place) (keys_at ks ws) (keys_at ks ts) (keys_at ks ps) (keys_at ks vs) (ap (keys_at ks) e) lanes set _ (pushed ws ws' place f))
+      stands after js ks ws' ts ps _ same (wake-moved stage after (key_there ks place) (keys_at ks ws) (keys_at ks ts) (keys_at ks ps)
+      (keys_at ks vs) (ap (keys_at ks) e) lanes set _ (pushed ws ws' place f))
       (below_pushed _ ws ws' place f b.0 bw) bt b.1
 
   -- a key that was let go
-  pub readmit-at : (stage after : Key → Option Stage) (ws ts ps : List ℕ) (place : ℕ) → place < length ks → AreLanes stage (keys_at ks ws) (keys_at ks ts) (keys_at ks ps) → AreBelow (length ks) ws → AreBelow (length ks) ts → AreBelow (length ks) ps
-      → (js : List Key) → js ≡ ks → IsSet stage (key_there ks place) (Some Waiting) after → IsAway (stage (key_there ks place)) → (ws' : List ℕ) → ws' ≡ ws ++ place ∷ [] → Stands after js ws' ts ps (queued (key_there ks place) (work_of stage (keys_at ks ws) (keys_at ks ts) (keys_at ks ps)))
+  pub readmit-at : (stage after : Key → Option Stage) (ws ts ps : List ℕ) (place : ℕ) → place < length ks
+      → AreLanes stage (keys_at ks ws) (keys_at ks ts) (keys_at ks ps) → AreBelow (length ks) ws → AreBelow (length ks) ts → AreBelow (length ks) ps
+      → (js : List Key) → js ≡ ks → IsSet stage (key_there ks place) (Some Waiting) after → IsAway (stage (key_there ks place)) → (ws' : List ℕ)
+      → ws' ≡ ws ++ place ∷ [] → Stands after js ws' ts ps (queued (key_there ks place) (work_of stage (keys_at ks ws) (keys_at ks ts) (keys_at ks ps)))
   readmit-at stage after ws ts ps place lt lanes bw bt bp js same set away ws' e =
       stands after js ks ws' ts ps _ same (admit-moved stage after (key_there ks place) (keys_at ks ws) (keys_at ks ts) (keys_at ks ps) lanes set away _ (pushed ws ws' place e))
       (below_pushed _ ws ws' place e lt bw) bt bp
 
   -- a taken key is marked
-  pub mark-at : (stage after : Key → Option Stage) (ws ts ps : List ℕ) (k : Key) → AreLanes stage (keys_at ks ws) (keys_at ks ts) (keys_at ks ps) → AreBelow (length ks) ws → AreBelow (length ks) ts → AreBelow (length ks) ps
+  pub mark-at : (stage after : Key → Option Stage) (ws ts ps : List ℕ) (k : Key) → AreLanes stage (keys_at ks ws) (keys_at ks ts) (keys_at ks ps)
+      → AreBelow (length ks) ws → AreBelow (length ks) ts → AreBelow (length ks) ps
       → (js : List Key) → js ≡ ks → IsSet stage k (Some Again) after → is_taken (stage k) ≡ true → Stands after js ws ts ps (marked k (work_of stage (keys_at ks ws) (keys_at ks ts) (keys_at ks ps)))
   mark-at stage after ws ts ps k lanes bw bt bp js same set at = stands after js ks ws ts ps _ same (mark-moved stage after k (keys_at ks ws) (keys_at ks ts) (keys_at ks ps) lanes set at) bw bt bp
 
 -- a new key, which stands last in the map
 pub admit-at : (ks : List Key) (k : Key) (js : List Key) (stage after : Key → Option Stage) (ws ts ps : List ℕ) (place : ℕ) → js ≡ ks ++ k ∷ [] → place ≡ length ks
-    → AreLanes stage (keys_at ks ws) (keys_at ks ts) (keys_at ks ps) → AreBelow (length ks) ws → AreBelow (length ks) ts → AreBelow (length ks) ps → IsSet stage k (Some Waiting) after → IsAway (stage k)
+    → AreLanes stage (keys_at ks ws) (keys_at ks ts) (keys_at ks ps) → AreBelow (length ks) ws → AreBelow (length ks) ts → AreBelow (length ks) ps
+    → IsSet stage k (Some Waiting) after → IsAway (stage k)
     → (ws' : List ℕ) → ws' ≡ ws ++ place ∷ [] → Stands after js ws' ts ps (queued k (work_of stage (keys_at ks ws) (keys_at ks ts) (keys_at ks ps)))
 admit-at ks k js stage after ws ts ps place more last lanes bw bt bp set away ws' e =
     let all = ks ++ k ∷ [] in
     let here : key_there all place ≡ k = ap (key_there all) last ∙ there_last ks k in
     let waits : keys_at all ws' ≡ keys_at ks ws ++ k ∷ [] = pushed all ws ws' place e ∙ (λ i. keys_more ks k ws bw i ++ here i ∷ []) in
     let moved = admit-moved stage after k (keys_at ks ws) (keys_at ks ts) (keys_at ks ps) lanes set away _ waits in
-    let taken = subst (λ (us : List Key). Moved after (keys_at all ws') us (keys_at ks ps) (queued k (work_of stage (keys_at ks ws) (keys_at ks ts) (keys_at ks ps)))) (sym (keys_more ks k ts bt)) moved in
-    let parked = subst (λ (us : List Key). Moved after (keys_at all ws') (keys_at all ts) us (queued k (work_of stage (keys_at ks ws) (keys_at ks ts) (keys_at ks ps)))) (sym (keys_more ks k ps bp)) taken in
+    let taken = subst (λ (us : List Key). Moved after (keys_at all ws') us (keys_at ks ps)
+    (queued k (work_of stage (keys_at ks ws) (keys_at ks ts) (keys_at ks ps)))) (sym (keys_more ks k ts bt)) moved in
+    let parked = subst (λ (us : List Key). Moved after (keys_at all ws') (keys_at all ts) us
+    (queued k (work_of stage (keys_at ks ws) (keys_at ks ts) (keys_at ks ps)))) (sym (keys_more ks k ps bp)) taken in
     let long = longer ks k in
     let le : length ks ≤ length all = omega (arith, long) in
     let lt : place < length all = omega (arith, long, last) in

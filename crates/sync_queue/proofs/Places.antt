@@ -16,9 +16,11 @@ module _ {K X : Type 0} (t : K → Bool) where
   first_at [] h = absurd (omega arith)
   first_at (e ∷ es) h = by (t e.0) refl (first_at es) h
     where
-      by : (b : Bool) → t e.0 ≡ b → (position_or_len t (keys_of es) < length es → StandsAt es (position_or_len t (keys_of es))) → cond (not b) (1 + position_or_len t (keys_of es)) 0 < suc (length es) → StandsAt (e ∷ es) (cond (not b) (1 + position_or_len t (keys_of es)) 0)
+      by : (b : Bool) → t e.0 ≡ b → (position_or_len t (keys_of es) < length es → StandsAt es (position_or_len t (keys_of es)))
+          → cond (not b) (1 + position_or_len t (keys_of es)) 0 < suc (length es) → StandsAt (e ∷ es) (cond (not b) (1 + position_or_len t (keys_of es)) 0)
       by true p rest h = record { key = e.0; value = e.1; at = refl; passes = p }
-      by false p rest h = let s = rest (omega arith) in let one : suc (position_or_len t (keys_of es)) ≡ 1 + position_or_len t (keys_of es) = omega arith in subst (StandsAt (e ∷ es)) one (record { key = s.key; value = s.value; at = s.at; passes = s.passes })
+      by false p rest h = let s = rest (omega arith) in let one : suc (position_or_len t (keys_of es)) ≡ 1 + position_or_len t (keys_of es) =
+          omega arith in subst (StandsAt (e ∷ es)) one (record { key = s.key; value = s.value; at = s.at; passes = s.passes })
 
   pub stands_at : (es : List (K × X)) (i : ℕ) → Some i ≡ position t (keys_of es) → StandsAt es i
   stands_at es i p =

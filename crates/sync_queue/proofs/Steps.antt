@@ -1,15 +1,16 @@
 -- What each call does to the work, by the stage of its key.
 use Rattle.std.proofs.Common.{◌≡◌, ◌<◌, Bool, true, false, true≢false, cond, List, [], ◌∷◌, length, Option, Some, None, is_some, refl, sym, ap, ◌∙◌, append_assoc, append-nil, arith}
 use Rattle.std.specs.Prelude.{if◌then◌else◌}
-use Rattle.kube_types.specs.declared.key.Key.{Key}
+use Rattle.kube_objects.specs.declared.key.Key.{Key}
 use Rattle.sync_queue.specs.declared.lanes.Stage.{Stage}
-use Rattle.kube_types.specs.Keys.{same_key}
+use Rattle.kube_objects.specs.Keys.{same_key}
 use Rattle.sync_queue.specs.Work.{Work, Taken, oldest_of, added, queued, unparked, marked, done_by, finished, retry_by, put_off, woken}
 use Rattle.sync_queue.specs.Steps.Lanes.{woken_first, AreLanes, marks, work_of, is_taken, is_again, is_waiting, is_parked}
 use Rattle.sync_queue.proofs.LaneFacts.{any-marks, mark_of-marks, without-absent}
 
 module _ (stage : Key → Option Stage) (k : Key) (ws ts ps : List Key) (sound : AreLanes stage ws ts ps) (s : Option Stage) (at : stage k ≡ s) where
-  pub added-at : added k (work_of stage ws ts ps) ≡ (if is_taken s then marked k (work_of stage ws ts ps) else if is_waiting s then work_of stage ws ts ps else queued k (unparked k (work_of stage ws ts ps)))
+  pub added-at : added k (work_of stage ws ts ps) ≡ (if is_taken s then marked k (work_of stage ws ts ps) else if is_waiting s then work_of stage ws
+      ts ps else queued k (unparked k (work_of stage ws ts ps)))
   added-at =
       let w = work_of stage ws ts ps in
       let taken = any-marks stage k ts ∙ (sound.taken.says k ∙ ap is_taken at) in
@@ -18,7 +19,8 @@ module _ (stage : Key → Option Stage) (k : Key) (ws ts ps : List Key) (sound :
 
   finished-at : finished k (work_of stage ws ts ps) ≡ done_by (cond (is_taken s) (Some (is_again s)) None) k (work_of stage ws ts ps)
   finished-at =
-      ap (λ m. done_by m k (work_of stage ws ts ps)) (mark_of-marks stage k ts ∙ (ap (λ b. cond b (Some (is_again (stage k))) None) (sound.taken.says k) ∙ ap (λ x. cond (is_taken x) (Some (is_again x)) None) at))
+      ap (λ m. done_by m k (work_of stage ws ts ps))
+      (mark_of-marks stage k ts ∙ (ap (λ b. cond b (Some (is_again (stage k))) None) (sound.taken.says k) ∙ ap (λ x. cond (is_taken x) (Some (is_again x)) None) at))
 
   -- a taken key, by whether it is marked, and any other key
   pub finished-taken : (b : Bool) → is_taken s ≡ true → is_again s ≡ b → finished k (work_of stage ws ts ps) ≡ done_by (Some b) k (work_of stage ws ts ps)
@@ -29,7 +31,8 @@ module _ (stage : Key → Option Stage) (k : Key) (ws ts ps : List Key) (sound :
 
   put_off-at : put_off k (work_of stage ws ts ps) ≡ retry_by (cond (is_taken s) (Some (is_again s)) None) k (work_of stage ws ts ps)
   put_off-at =
-      ap (λ m. retry_by m k (work_of stage ws ts ps)) (mark_of-marks stage k ts ∙ (ap (λ b. cond b (Some (is_again (stage k))) None) (sound.taken.says k) ∙ ap (λ x. cond (is_taken x) (Some (is_again x)) None) at))
+      ap (λ m. retry_by m k (work_of stage ws ts ps))
+      (mark_of-marks stage k ts ∙ (ap (λ b. cond b (Some (is_again (stage k))) None) (sound.taken.says k) ∙ ap (λ x. cond (is_taken x) (Some (is_again x)) None) at))
 
   pub put_off-taken : (b : Bool) → is_taken s ≡ true → is_again s ≡ b → put_off k (work_of stage ws ts ps) ≡ retry_by (Some b) k (work_of stage ws ts ps)
   put_off-taken b taken again = put_off-at ∙ (ap (λ x. retry_by (cond x (Some (is_again s)) None) k (work_of stage ws ts ps)) taken ∙ ap (λ x. retry_by (Some x) k (work_of stage ws ts ps)) again)
@@ -49,7 +52,8 @@ woken_step ws ts (k ∷ ks) = ap (λ us. record { waiting = us; taken = ts; park
 pub woken-first : (w : Work) → woken (woken_first w) ≡ woken w
 woken-first w = woken_step w.waiting w.taken w.parked
 
-woken_last : (ws : List Key) (ts : List Taken) (ps : List Key) → false ≡ is_some (oldest_of ps) → woken_first (record { waiting = ws; taken = ts; parked = ps }) ≡ woken (record { waiting = ws; taken = ts; parked = ps })
+woken_last : (ws : List Key) (ts : List Taken) (ps : List Key) → false ≡ is_some (oldest_of ps)
+    → woken_first (record { waiting = ws; taken = ts; parked = ps }) ≡ woken (record { waiting = ws; taken = ts; parked = ps })
 woken_last ws ts [] h = ap (λ us. record { waiting = us; taken = ts; parked = [] }) (sym (append-nil ws))
 woken_last ws ts (k ∷ ks) h = absurd (true≢false (sym h))
 

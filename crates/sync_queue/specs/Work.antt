@@ -2,8 +2,8 @@
 -- Source: client-go, util/workqueue; that a key can be parked is a choice of this project.
 use Rattle.std.specs.Prelude.{◌≡◌, Bool, true, false, List, [], ◌∷◌, ◌++◌, Option, None, Some, if◌then◌else◌, map}
 use Rattle.std.specs.List.{list_any}
-use Rattle.kube_types.specs.declared.key.Key.{Key}
-use Rattle.kube_types.specs.Keys.{same_key}
+use Rattle.kube_objects.specs.declared.key.Key.{Key}
+use Rattle.kube_objects.specs.Keys.{same_key}
 
 -- client-go util/workqueue: a key in processing, and whether it is dirty, that is, was added again since it was taken
 pub record Taken : Type 0 where

@@ -1,12 +1,12 @@
 //! The parts of a queue: the map of stages, and the lists of places in it.
 
 ghost use Rattle.std.specs.Prelude.{◌≡◌, ◌+◌, ◌<◌, ◌≤◌, ◌++◌, [], ◌∷◌, Some, None, IfSome, IfNone, IsTrue, OnOk, OnErr, is_some, false, true, length, remove, slice_get};
-ghost use Rattle.kube_types.specs.declared.key.Key.{Key};
+ghost use Rattle.kube_objects.specs.declared.key.Key.{Key};
 ghost use Rattle.std.specs.List.{list_any};
 ghost use Rattle.std.specs.Option.{option_map};
 ghost use Rattle.std.specs.VecDeque.{deque_len, deque_capacity};
 ghost use Rattle.indexmap.specs.IndexMap.{get, keys};
-ghost use Rattle.kube_types.specs.Keys.{same_key};
+ghost use Rattle.kube_objects.specs.Keys.{same_key};
 ghost use Rattle.sync_queue.specs.declared.lanes.Stage.TheVariants as stages;
 ghost use Rattle.sync_queue.specs.Steps.Lanes.{woken_first, IsSet, IsSound, HasRoomForOne, is_again, is_parked, is_taken, key_in, stage_in, taken_in, work_in};
 ghost use Rattle.sync_queue.specs.Steps.Places.{AreBelow, key_there, keys_at};

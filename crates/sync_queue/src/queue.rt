@@ -1,7 +1,7 @@
 //! The queue.
 
 ghost use Rattle.std.specs.Prelude.{◌≡◌, IfOk, OnOk, OnErr, length};
-ghost use Rattle.kube_types.specs.Keys.{key_of};
+ghost use Rattle.kube_objects.specs.Keys.{key_of};
 ghost use Rattle.std.specs.Borrow.{sem};
 ghost use Rattle.std.specs.Option.{option_copied};
 ghost use Rattle.sync_queue.specs.Work.{no_work, added, oldest_of, begun, finished, put_off, woken, StandsOnce};

@@ -3,10 +3,10 @@
 ghost use Rattle.std.specs.Prelude.{◌≡◌, ◌++◌, IfOk};
 ghost use Rattle.std.proofs.Common.{ap};
 ghost use Rattle.std.specs.Hash as fed;
-ghost use Rattle.kube_types.specs.declared.key.Key.{Key};
-ghost use Rattle.kube_types.specs.Keys.{key_of, kind_index, same_key};
+ghost use Rattle.kube_objects.specs.declared.key.Key.{Key};
+ghost use Rattle.kube_objects.specs.Keys.{key_of, kind_index, same_key};
 ghost use Rattle.std.specs.Cmp.{partial_equiv_from_equiv};
-ghost use Rattle.kube_types.proofs.SameKeys.{same_key-Decides, same_key_equivalence};
+ghost use Rattle.kube_objects.proofs.SameKeys.{same_key-Decides, same_key_equivalence};
 
 use indexmap::Equivalent;
 use kube_types::key::{Key, kind_index, kind_of, meta_of, same_key, same_kind};
@@ -32,7 +32,7 @@ impl Drop for Slot {
 }
 
 impl Model for Slot {
-    ghost use Rattle.kube_types.specs.declared.key.Key.{Key};
+    ghost use Rattle.kube_objects.specs.declared.key.Key.{Key};
 
     ghost Value = { Key };
 
@@ -97,7 +97,7 @@ pub(crate) struct Asked<'q> {
 }
 
 impl<'q> Model for Asked<'q> {
-    ghost use Rattle.kube_types.specs.declared.key.Key.{Key};
+    ghost use Rattle.kube_objects.specs.declared.key.Key.{Key};
 
     ghost Value = { Key };
 

@@ -36,7 +36,8 @@ module _ {k : Ghosts Kept Ask Reply Setup} (shared : SharedWorld) (made : ℕ) w
   drop_from : (first n : ℕ) (passes : List (Pass Kept Ask Reply Setup k)) → AreFrom shared made first passes → AreFrom shared made (first + n) (drop n passes)
   drop_from first n passes from i d lt =
       let fewer = length-drop n passes in
-      subst (λ m. IsFirst shared made m (slice_index_or (drop n passes) i d)) (omega arith) (subst (IsFirst shared made (first + (n + i))) (sym (get_or-drop n passes i d)) (from (n + i) d (omega (arith, lt, fewer))))
+      subst (λ m. IsFirst shared made m (slice_index_or (drop n passes) i d)) (omega arith)
+      (subst (IsFirst shared made (first + (n + i))) (sym (get_or-drop n passes i d)) (from (n + i) d (omega (arith, lt, fewer))))
 
   -- the passes of a new world without the last ones, cut at a place
   module _ (passes left : List (Pass Kept Ask Reply Setup k)) (n at : ℕ) (are : AreFirst shared passes) (long : length passes ≡ made) (left_are : left ≡ take n passes) where

@@ -1,11 +1,11 @@
 -- The first kind begins at once, and none begins after the last. Each kind begins where it began after an object took the place of the one of its key.
 use Rattle.std.proofs.Common.{◌≡◌, ◌<◌, ℕ, zero, suc, List, [], ◌∷◌, length, get_or, set, refl, sym, ap, arith, length-set}
-use Rattle.kube_types.specs.declared.key.Key.{Key}
-use Rattle.kube_types.specs.declared.parts.Kind.{Kind}
-use Rattle.kube_types.specs.declared.parts.Kind.TheVariants as kinds
-use Rattle.kube_types.specs.declared.objects.Object.{Object}
-use Rattle.kube_types.specs.Keys.{IsKindStart, IsRowAt, key_of, kind_index, kind_of}
-use Rattle.kube_types.proofs.KeyOrder.{equal_keys}
+use Rattle.kube_objects.specs.declared.key.Key.{Key}
+use Rattle.kube_parts.specs.declared.parts.Kind.{Kind}
+use Rattle.kube_parts.specs.declared.parts.Kind.TheVariants as kinds
+use Rattle.kube_objects.specs.declared.objects.Object.{Object}
+use Rattle.kube_objects.specs.Keys.{IsKindStart, IsRowAt, key_of, kind_index, kind_of}
+use Rattle.kube_objects.proofs.KeyOrder.{equal_keys}
 use Rattle.version_store.specs.declared.starts.Starts.{Starts}
 use Rattle.version_store.specs.Steps.Starts.{AreStarts, BeginsAt}
 

@@ -2,12 +2,12 @@
 use Rattle.std.proofs.Common.{◌≡◌, ℕ, List, Option, Some, IfSome, refl, ap, subst, sym, ◌∙◌, set}
 use Rattle.std.specs.List.{insert}
 use Rattle.plain_data.proofs.RowFacts.{put_at, put_gap, rising_put}
-use Rattle.kube_types.specs.declared.key.Key.{Key}
-use Rattle.kube_types.specs.declared.objects.Object.{Object}
-use Rattle.kube_types.specs.Keys.{AreRows, IsRowAt, IsRowGap, key_of, put_row, row_at}
-use Rattle.kube_types.specs.VolumeIndex.{Index}
-use Rattle.kube_types.proofs.KeyOrder.{key_cmp_total}
-use Rattle.kept_index.specs.Keeping.{Keeps, rows_with}
+use Rattle.kube_objects.specs.declared.key.Key.{Key}
+use Rattle.kube_objects.specs.declared.objects.Object.{Object}
+use Rattle.kube_objects.specs.Keys.{AreRows, IsRowAt, IsRowGap, key_of, put_row, row_at}
+use Rattle.volume_index.specs.VolumeIndex.{Index}
+use Rattle.kube_objects.proofs.KeyOrder.{key_cmp_total}
+use Rattle.volume_index.specs.Keeping.{Keeps, rows_with}
 
 pub rows_replaced : (rows : List Object) (o : Object) (at : ℕ) → IsRowAt rows (key_of o) at → set rows at o ≡ put_row o rows
 rows_replaced rows o at stands = sym (put_at key_cmp_total key_of _ o refl rows at stands)

@@ -1,12 +1,12 @@
 -- A default class and a list, row by row.
 use Rattle.std.proofs.Common.{◌≡◌, ◌+◌, ◌<◌, ◌≤◌, ℕ, suc, Bool, true, false, List, [], ◌∷◌, Option, Some, None, refl, arith, cond, if◌then◌else◌, length, drop, get_or, add-one, drop-cons}
 use Rattle.plain_data.specs.Rows.{IsAfter}
-use Rattle.kube_types.specs.declared.parts.Kind.{Kind}
-use Rattle.kube_types.specs.declared.parts.Kind.TheVariants as kinds
-use Rattle.kube_types.specs.declared.objects.Object.{Object}
-use Rattle.kube_types.specs.declared.objects.Object.TheVariants.{Class, Node, Volume, Claim, Pod}
-use Rattle.kube_types.specs.Keys.{AreRows, is_of_kind, key_cmp, key_of, kind_index, kind_of, rows_of}
-use Rattle.kube_types.proofs.KeyOrder.{kinds_up}
+use Rattle.kube_parts.specs.declared.parts.Kind.{Kind}
+use Rattle.kube_parts.specs.declared.parts.Kind.TheVariants as kinds
+use Rattle.kube_objects.specs.declared.objects.Object.{Object}
+use Rattle.kube_objects.specs.declared.objects.Object.TheVariants.{Class, Node, Volume, Claim, Pod}
+use Rattle.kube_objects.specs.Keys.{AreRows, is_of_kind, key_cmp, key_of, kind_index, kind_of, rows_of}
+use Rattle.kube_objects.proofs.KeyOrder.{kinds_up}
 use Rattle.binder_model.specs.Store.{default_class}
 use Rattle.binder_model.specs.Answers.{listed_rows}
 use Rattle.version_store.specs.Steps.Made.{default_from, is_listed}
@@ -59,5 +59,6 @@ listed_rows-cons : (namespace : Option (List ℕ)) (o : Object) (os : List Objec
 listed_rows-cons None o os = refl
 listed_rows-cons (Some namespace) o os = refl
 
-pub listed_rows-drop : (namespace : Option (List ℕ)) (objects : List Object) (i : ℕ) (o : Object) → i < length objects → listed_rows namespace (drop i objects) ≡ put_first (is_listed namespace (get_or objects i o)) (get_or objects i o) (listed_rows namespace (drop (i + 1) objects))
+pub listed_rows-drop : (namespace : Option (List ℕ)) (objects : List Object) (i : ℕ) (o : Object) → i < length objects
+    → listed_rows namespace (drop i objects) ≡ put_first (is_listed namespace (get_or objects i o)) (get_or objects i o) (listed_rows namespace (drop (i + 1) objects))
 listed_rows-drop namespace objects i o lt = rw (drop-cons objects i o lt, add-one) (listed_rows-cons namespace (get_or objects i o) (drop (suc i) objects))

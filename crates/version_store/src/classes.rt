@@ -2,7 +2,7 @@
 
 ghost use Rattle.std.specs.Prelude.{◌≡◌, IfOk};
 ghost use Rattle.std.specs.Option.{option_copied};
-ghost use Rattle.kube_types.specs.Keys.{AreRows};
+ghost use Rattle.kube_objects.specs.Keys.{AreRows};
 ghost use Rattle.binder_model.specs.Store.{newer_class, default_class, class_name, text_lt, lacks_named_node, lacks_node};
 ghost use Rattle.version_store.specs.Steps.Made.{default_from};
 

@@ -3,8 +3,8 @@
 ghost use Rattle.std.specs.Prelude.{◌≡◌, None, IfOk};
 ghost use Rattle.call_types.specs.declared.edit.Edit.TheVariants as edits;
 ghost use Rattle.plain_data.specs.Pairs.{put_pair, without_key};
-ghost use Rattle.kube_types.specs.Bindings.{bound_by_controller};
-ghost use Rattle.kube_types.specs.Keys.{meta_of};
+ghost use Rattle.kube_objects.specs.Bindings.{bound_by_controller};
+ghost use Rattle.kube_objects.specs.Keys.{meta_of};
 ghost use Rattle.binder_model.specs.Store.{with_meta, with_finalizer};
 ghost use Rattle.binder_model.specs.Edits.{edited_object, with_volume_name, without_name};
 ghost use Rattle.version_store.specs.Steps.Metadata.{changed_meta};

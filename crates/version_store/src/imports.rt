@@ -2,8 +2,8 @@
 
 ghost use Rattle.std.specs.Prelude.{◌≡◌, IfOk, OnOk};
 ghost use Rattle.std.specs.List.{list_any};
-ghost use Rattle.kube_types.specs.Bindings.{is_bound, pv_protection, pvc_protection, ref_uid};
-ghost use Rattle.kube_types.specs.Keys.{AreRows, meta_of};
+ghost use Rattle.kube_objects.specs.Bindings.{is_bound, pv_protection, pvc_protection, ref_uid};
+ghost use Rattle.kube_objects.specs.Keys.{AreRows, meta_of};
 ghost use Rattle.binder_model.specs.Store.{with_finalizer, with_meta};
 ghost use Rattle.binder_model.specs.Imports.{base_of, binds_claim, greatest_number, imported_meta, imported_object, imported_phase, is_dropped, reference_of, rows_of_imports, serial_of, serial_or_zero};
 ghost use Rattle.version_store.specs.Steps.Made.{with_import};

@@ -1,7 +1,7 @@
 //! Changes of what every object has.
 
 ghost use Rattle.std.specs.Prelude.{◌≡◌, OnOk};
-ghost use Rattle.kube_types.specs.Keys.{meta_of};
+ghost use Rattle.kube_objects.specs.Keys.{meta_of};
 ghost use Rattle.binder_model.specs.Store.{with_meta};
 ghost use Rattle.version_store.specs.Steps.Metadata.{changed_meta};
 

@@ -5,19 +5,19 @@
 
 ghost use Rattle.std.specs.Prelude.{◌≡◌, ◌<◌, ◌≤◌, [], IfOk, IfSome, OnOk, OnErr, length};
 ghost use Rattle.std.specs.Option.{option_copied};
-ghost use Rattle.kube_types.specs.Keys.{AreRows, IsRowAt, IsRowGap, key_of, put_row, row_at, rows_of, without_row};
-ghost use Rattle.kube_types.specs.VolumeIndex.{StandsFor, volumes_in};
+ghost use Rattle.kube_objects.specs.Keys.{AreRows, IsRowAt, IsRowGap, key_of, put_row, row_at, rows_of, without_row};
+ghost use Rattle.volume_index.specs.VolumeIndex.{StandsFor, volumes_in};
 
 use crate::starts::{Starts, objects_of, starts_of};
-use kept_index::KeptIndex;
 use kube_types::copies::{OutOfMemory, Plain};
 use kube_types::key::{Key, key_of};
 use kube_types::objects::Object;
 use kube_types::parts::Kind;
 use kube_types::table::{row, row_place, take_out};
-use kube_types::volume_index::VolumeIndex;
 use std::alloc::Global;
 use std::marker::Model;
+use volume_index::index::VolumeIndex;
+use volume_index::kept::KeptIndex;
 
 /// Objects by key. Contracts see it as the list of the objects in the order of their keys.
 pub struct ObjectMap {
@@ -40,7 +40,7 @@ impl Drop for ObjectMap {
 
 impl Model for ObjectMap {
     ghost use Rattle.std.specs.Prelude.{List};
-    ghost use Rattle.kube_types.specs.declared.objects.Object.{Object};
+    ghost use Rattle.kube_objects.specs.declared.objects.Object.{Object};
     ghost use Rattle.version_store.specs.Steps.Starts.{AreKept};
 
     ghost Value = { List Object };

@@ -1,7 +1,7 @@
 //! What a request comes to, and the write that it makes.
 
 ghost use Rattle.std.specs.Prelude.{◌≡◌, ◌+◌, ◌^◌, ◌<◌, IfOk, OnOk, OnErr};
-ghost use Rattle.kube_types.specs.Keys.{key_of, put_row, without_row};
+ghost use Rattle.kube_objects.specs.Keys.{key_of, put_row, without_row};
 ghost use Rattle.call_types.specs.declared.reply.Reply.TheVariants as replies;
 ghost use Rattle.binder_model.specs.Answers.{after, is_for_store, reply_of};
 ghost use Rattle.version_store.specs.Steps.Made.{outcome_of, state_of};

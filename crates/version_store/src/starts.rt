@@ -1,7 +1,7 @@
 //! Where the objects of each kind begin among the rows of the ordered map.
 
 ghost use Rattle.std.specs.Prelude.{◌≡◌};
-ghost use Rattle.kube_types.specs.Keys.{AreRows, rows_of};
+ghost use Rattle.kube_objects.specs.Keys.{AreRows, rows_of};
 ghost use Rattle.version_store.specs.Steps.Starts.{AreStarts};
 
 use kube_types::objects::Object;

@@ -2,7 +2,7 @@
 
 ghost use Rattle.std.specs.Prelude.{◌≡◌, ◌-◌, ◌^◌, ◌<◌, true, IfOk, OnOk, OnErr, length, slice_get};
 ghost use Rattle.std.specs.Option.{option_copied};
-ghost use Rattle.kube_types.specs.Keys.{AreRows, row_at, rows_of};
+ghost use Rattle.kube_objects.specs.Keys.{AreRows, row_at, rows_of};
 ghost use Rattle.binder_model.specs.Store.{no_store};
 ghost use Rattle.binder_model.specs.Imports.{base_of, rows_of_imports};
 ghost use Rattle.binder_model.specs.Answers.{after, is_for_store, outcome, reply_of};
@@ -20,9 +20,9 @@ use kube_types::lookup::Lookup;
 use kube_types::objects::{Object, Version};
 use kube_types::parts::Kind;
 use kube_types::text::Text;
-use kube_types::volume_index::VolumeIndex;
 use std::alloc::Global;
 use std::marker::Model;
+use volume_index::index::VolumeIndex;
 
 /// Objects by key, and the number of their writes. Contracts see it as the objects in the order of
 /// their keys, and the version.

@@ -3,10 +3,10 @@
 ghost use Rattle.std.specs.Prelude.{◌≡◌, ◌+◌, ◌<◌, ◌^◌, List, Some, None, IfOk};
 ghost use Rattle.std.specs.Option.{option_copied};
 ghost use Rattle.std.specs.Result.{result_err};
-ghost use Rattle.kube_types.specs.declared.objects.Object.{Object};
-ghost use Rattle.kube_types.specs.declared.objects.Object.TheVariants as objects;
-ghost use Rattle.kube_types.specs.Keys.{key_of, row_at};
-ghost use Rattle.kube_types.specs.declared.names.Rule.TheVariants as rules;
+ghost use Rattle.kube_objects.specs.declared.objects.Object.{Object};
+ghost use Rattle.kube_objects.specs.declared.objects.Object.TheVariants as objects;
+ghost use Rattle.kube_objects.specs.Keys.{key_of, row_at};
+ghost use Rattle.kube_parts.specs.declared.names.Rule.TheVariants as rules;
 ghost use Rattle.call_types.specs.declared.reply.Refusal.TheVariants as refusals;
 ghost use Rattle.call_types.specs.declared.reply.Reply.TheVariants as replies;
 ghost use Rattle.binder_model.specs.Store.{at_version};

@@ -2,8 +2,8 @@
 
 ghost use Rattle.std.specs.Prelude.{◌≡◌, ◌<◌, ◌^◌, Some, IfOk};
 ghost use Rattle.std.specs.Option.{option_copied};
-ghost use Rattle.kube_types.specs.declared.objects.Object.TheVariants as objects;
-ghost use Rattle.kube_types.specs.Keys.{meta_of};
+ghost use Rattle.kube_objects.specs.declared.objects.Object.TheVariants as objects;
+ghost use Rattle.kube_objects.specs.Keys.{meta_of};
 ghost use Rattle.binder_model.specs.Store.{with_meta, at_version, marked_object, without_status, created_object, with_status_of, updated_object};
 ghost use Rattle.binder_model.specs.Answers.{with_status};
 

@@ -1,5 +1,38 @@
 -- Candidates among rows, and the best of those that a list of an index holds.
-use Rattle.std.proofs.Common.{ℕ, zero, suc, ◌≡◌, ◌≢◌, ◌≤◌, ◌<◌, ◌+◌, ◌⊎◌, inl, inr, Bool, true, false, true≢false, List, [], ◌∷◌, length, get_or, Option, Some, None, IfSome, IfNone, slice_get, arith, ◌∙◌, refl, sym, ap, subst}
+use Rattle.std.proofs.Common.{
+  ℕ,
+  zero,
+  suc,
+  ◌≡◌,
+  ◌≢◌,
+  ◌≤◌,
+  ◌<◌,
+  ◌+◌,
+  ◌⊎◌,
+  inl,
+  inr,
+  Bool,
+  true,
+  false,
+  true≢false,
+  List,
+  [],
+  ◌∷◌,
+  length,
+  get_or,
+  Option,
+  Some,
+  None,
+  IfSome,
+  IfNone,
+  slice_get,
+  arith,
+  ◌∙◌,
+  refl,
+  sym,
+  ap,
+  subst,
+}
 use Rattle.std.specs.List.{AllWithin, Contains}
 use Rattle.std.specs.Cmp.{IsTotalOrder}
 use Rattle.std.specs.declared.cmp.Ordering.{Ordering}
@@ -9,23 +42,23 @@ use Rattle.std.proofs.lemmas.Cmp.{tied_itself}
 use Rattle.std.proofs.lemmas.List.{get_or_default}
 use Rattle.std.proofs.lemmas.Option.{get_or_from_slice_get, slice_get_within}
 use Rattle.plain_data.specs.Rows.{IsAfter, IsRising, find}
-use Rattle.kube_types.specs.declared.parts.Kind.TheVariants as kinds
-use Rattle.kube_types.specs.declared.objects.Node.{Node as NodeData}
-use Rattle.kube_types.specs.declared.objects.Volume.{Volume as VolumeData}
-use Rattle.kube_types.specs.declared.objects.Claim.{Claim as ClaimData}
-use Rattle.kube_types.specs.declared.objects.Object.{Object}
-use Rattle.kube_types.specs.declared.objects.Object.TheVariants.{Volume}
-use Rattle.kube_types.specs.Keys.{AreRows, is_of_kind, key_of, row_at, rows_of}
-use Rattle.kube_types.proofs.KeyOrder.{key_cmp_total}
+use Rattle.kube_parts.specs.declared.parts.Kind.TheVariants as kinds
+use Rattle.kube_objects.specs.declared.objects.Node.{Node as NodeData}
+use Rattle.kube_objects.specs.declared.objects.Volume.{Volume as VolumeData}
+use Rattle.kube_objects.specs.declared.objects.Claim.{Claim as ClaimData}
+use Rattle.kube_objects.specs.declared.objects.Object.{Object}
+use Rattle.kube_objects.specs.declared.objects.Object.TheVariants.{Volume}
+use Rattle.kube_objects.specs.Keys.{AreRows, is_of_kind, key_of, row_at, rows_of}
+use Rattle.kube_objects.proofs.KeyOrder.{key_cmp_total}
 use Rattle.volume_match.specs.Named.{key_with_parts}
 use Rattle.volume_match.proofs.Scans.{match_total}
 use Rattle.binder_model.specs.Matching.{IsCandidate, eligible, match_cmp}
-use Rattle.kube_types.specs.VolumeIndex.{volumes_in}
-use Rattle.kube_types.specs.VolumeOrders.{AreInOrder}
+use Rattle.volume_index.specs.VolumeIndex.{volumes_in}
+use Rattle.volume_index.specs.VolumeOrders.{AreInOrder}
 use Rattle.volume_match.specs.Steps.Choices.{AreOf, HasNone, IsBestOfAt, IsUnfit}
-use Rattle.kube_types.proofs.HeldValues.{after_has, held_at, held_filter, nothing, split}
-use Rattle.kube_types.proofs.IndexRows.{held_volume, volume_held}
-use Rattle.kube_types.proofs.RowPlaces.{rising_filter}
+use Rattle.volume_index.proofs.HeldValues.{after_has, held_at, held_filter, nothing, split}
+use Rattle.volume_index.proofs.IndexRows.{held_volume, volume_held}
+use Rattle.kube_objects.proofs.RowPlaces.{rising_filter}
 
 pub below_or_from : (k n : ℕ) → (k < n) ⊎ (n ≤ k)
 below_or_from zero zero = inr (omega arith)
@@ -121,14 +154,16 @@ module _ (rows : List Object) (c : ClaimData) (on : Option NodeData) (own : Bool
   candidate_held place v k = held_volume v rows (held_filter (is_of_kind kinds.PersistentVolume) (Volume v) rows (held_at (rows_of kinds.PersistentVolume rows) place (Volume v) k.there)).0
 
   pub one_candidate_place : (i j : ℕ) (v : VolumeData) → AreRows rows → slice_get (rows_of kinds.PersistentVolume rows) i ≡ Some (Volume v) → IsCandidate rows c on own excluded j v → i ≡ j
-  one_candidate_place i j v order at k = one_place key_cmp_total key_of (rows_of kinds.PersistentVolume rows) i j (Volume v) (rising_filter key_cmp_total key_of (is_of_kind kinds.PersistentVolume) rows order) at k.there
+  one_candidate_place i j v order at k = one_place key_cmp_total key_of (rows_of kinds.PersistentVolume rows) i j (Volume v) (rising_filter
+      key_cmp_total key_of (is_of_kind kinds.PersistentVolume) rows order) at k.there
 
   -- the volume is a candidate nowhere
   abbrev pub IsNone : VolumeData → Type 0
   IsNone u = (place : ℕ) → IsCandidate rows c on own excluded place u → ⊥
 
   -- where no volume of a list is, it has no candidate
-  pub none_left : (those : List VolumeData) (i : ℕ) → AllWithin IsNone those 0 i → ((k : ℕ) (u : VolumeData) → i ≤ k → k < length those → u ≡ get_or those k u → IsNone u) → HasNone rows c on own excluded those
+  pub none_left : (those : List VolumeData) (i : ℕ) → AllWithin IsNone those 0 i
+      → ((k : ℕ) (u : VolumeData) → i ≤ k → k < length those → u ≡ get_or those k u → IsNone u) → HasNone rows c on own excluded those
   none_left those i before after u h place q =
       elim (below_or_from h.0 i) [
         | inl lt ↦ before h.0 u (omega arith) lt place (subst (λ w. IsCandidate rows c on own excluded place w) (sym h.2) q)
@@ -136,7 +171,8 @@ module _ (rows : List Object) (c : ClaimData) (on : Option NodeData) (own : Bool
       ]
 
   -- one volume more that is none, and volumes after it that fit on no node
-  pub none_more : (those : List VolumeData) (i n : ℕ) (v : VolumeData) → i < length those → v ≡ get_or those i v → AllWithin IsNone those 0 i → IsNone v → AllWithin (IsUnfit c) those (i + 1) n → AllWithin IsNone those 0 n
+  pub none_more : (those : List VolumeData) (i n : ℕ) (v : VolumeData) → i < length those → v ≡ get_or those i v → AllWithin IsNone those 0 i
+      → IsNone v → AllWithin (IsUnfit c) those (i + 1) n → AllWithin IsNone those 0 n
   none_more those i n v lt at before here after k d low below =
       elim (below_or_from k i) [
         | inl less ↦ before k d low less
@@ -148,7 +184,9 @@ module _ (rows : List Object) (c : ClaimData) (on : Option NodeData) (own : Bool
         ]
       ]
 
-  module _ {cmp : VolumeData → VolumeData → Ordering} (o : IsTotalOrder cmp) (test : VolumeData → Bool) (prefers : (v u : VolumeData) → test v ≡ true → test u ≡ true → eligible v c on ≡ true → eligible u c on ≡ true → cmp v u ≡ Less → match_cmp c v u ≢ Greater) (alike : (v : VolumeData) → match_cmp c v v ≢ Greater) where
+  module _ {cmp : VolumeData → VolumeData → Ordering} (o : IsTotalOrder cmp) (test : VolumeData → Bool)
+      (prefers : (v u : VolumeData) → test v ≡ true → test u ≡ true → eligible v c on ≡ true → eligible u c on ≡ true → cmp v u ≡ Less
+      → match_cmp c v u ≢ Greater) (alike : (v : VolumeData) → match_cmp c v v ≢ Greater) where
     -- the first candidate of a list is its best
     pub first_best : (those : List VolumeData) (i at : ℕ) (v : VolumeData) → AreInOrder cmp those → AreOf test (volumes_in rows) those → i < length those → v ≡ get_or those i v
         → AllWithin IsNone those 0 i → IsCandidate rows c on own excluded at v → IsBestOfAt rows c on own excluded those at

@@ -10,17 +10,17 @@ use Rattle.std.proofs.lemmas.Cmp.{nat_cmp_total, nat_list_cmp_total, ranked, tie
 use Rattle.std.proofs.lemmas.Map.Lookups.{exact_bytes, exact_unsigned}
 use Rattle.std.proofs.lemmas.Slice.Eq.{bytes_eq-Decides}
 use Rattle.plain_data.specs.Pairs.{text_cmp}
-use Rattle.kube_types.specs.declared.objects.Node.{Node as NodeData}
-use Rattle.kube_types.specs.declared.objects.Ref.{Ref}
-use Rattle.kube_types.specs.declared.objects.Volume.{Volume as VolumeData}
-use Rattle.kube_types.specs.declared.objects.Claim.{Claim as ClaimData}
-use Rattle.kube_types.specs.Bindings.{class_of_claim, class_of_volume, is_available, is_deleting, is_ended, is_for, is_protected_volume, refers_for, uid_fits}
+use Rattle.kube_objects.specs.declared.objects.Node.{Node as NodeData}
+use Rattle.kube_objects.specs.declared.objects.Ref.{Ref}
+use Rattle.kube_objects.specs.declared.objects.Volume.{Volume as VolumeData}
+use Rattle.kube_objects.specs.declared.objects.Claim.{Claim as ClaimData}
+use Rattle.kube_objects.specs.Bindings.{class_of_claim, class_of_volume, is_available, is_deleting, is_ended, is_for, is_protected_volume, refers_for, uid_fits}
 use Rattle.binder_model.specs.Matching.{covers, eligible, fits, for_last, is_admitted_on, is_selected, match_cmp, may_serve}
-use Rattle.kube_types.specs.Bindings.{count_one, mode_count}
-use Rattle.kube_types.specs.VolumeIndex.{is_free, is_owned}
-use Rattle.kube_types.specs.VolumeOrders.{Owner, Size, by_owner, by_size, group_cmp, name_cmp, need_cmp, owner_cmp, owner_in, owner_of, size_cmp, size_of}
+use Rattle.kube_objects.specs.Bindings.{count_one, mode_count}
+use Rattle.volume_index.specs.VolumeIndex.{is_free, is_owned}
+use Rattle.volume_index.specs.VolumeOrders.{Owner, Size, by_owner, by_size, group_cmp, name_cmp, need_cmp, owner_cmp, owner_in, owner_of, size_cmp, size_of}
 use Rattle.volume_match.specs.Steps.Choices.{claim_owner, is_grouped, ref_is_to, wanted}
-use Rattle.kube_types.proofs.VolumeOrders.{both_equal, first_no_greater, owner_total}
+use Rattle.volume_index.proofs.VolumeOrders.{both_equal, first_no_greater, owner_total}
 
 same_bool : (a b : Bool) → beq a b ≡ true → a ≡ b
 same_bool true true e = refl
@@ -143,7 +143,8 @@ module _ (c : ClaimData) (on : Option NodeData) where
       λ i. record { namespace = namespace i; name = name i }
 
   -- after a volume that refers to a later claim none stands that refers to this one
-  pub past_owner : (v u : VolumeData) → is_owned v ≡ true → is_lt (owner_cmp (owner_of v) the_owner) ≡ false → ref_is_to c v.claim_ref ≡ false → owner_of u ≡ the_owner → is_gt (owner_cmp (owner_of v) (owner_of u)) ≡ false → ⊥
+  pub past_owner : (v u : VolumeData) → is_owned v ≡ true → is_lt (owner_cmp (owner_of v) the_owner) ≡ false → ref_is_to c v.claim_ref ≡ false
+      → owner_of u ≡ the_owner → is_gt (owner_cmp (owner_of v) (owner_of u)) ≡ false → ⊥
   past_owner v u owned ge other is le =
       by (owner_cmp (owner_of v) the_owner) refl ge (ap (λ w. is_gt (owner_cmp (owner_of v) w)) (sym is) ∙ le)
     where
@@ -153,7 +154,8 @@ module _ (c : ClaimData) (on : Option NodeData) where
       by Greater is ge le = true≢false (sym (ap is_gt is) ∙ le)
 
   -- so no eligible one either
-  pub after_owner : (v u : VolumeData) → is_owned v ≡ true → is_owned u ≡ true → is_lt (owner_cmp (owner_of v) the_owner) ≡ false → ref_is_to c v.claim_ref ≡ false → is_gt (owner_cmp (owner_of v) (owner_of u)) ≡ false → eligible u c on ≡ true → ⊥
+  pub after_owner : (v u : VolumeData) → is_owned v ≡ true → is_owned u ≡ true → is_lt (owner_cmp (owner_of v) the_owner) ≡ false
+      → ref_is_to c v.claim_ref ≡ false → is_gt (owner_cmp (owner_of v) (owner_of u)) ≡ false → eligible u c on ≡ true → ⊥
   after_owner v u owned owned_too ge other le e = past_owner v u owned ge other (owner_is u e owned_too) le
 
 -- two sizes of one class and volume mode
@@ -213,7 +215,8 @@ module _ (c : ClaimData) (on : Option NodeData) where
   before_size u e lt = let h = with_modes u 0 e lt in absurd (omega (arith, h))
 
   -- nor between one of its class and volume mode and the volumes with as many modes and enough bytes
-  pub before_jump : (v u : VolumeData) → is_grouped v c ≡ true → is_gt (size_cmp (size_of v) (size_of u)) ≡ false → is_lt (size_cmp (size_of u) (wanted c (mode_count v.modes))) ≡ true → eligible u c on ≡ true → ⊥
+  pub before_jump : (v u : VolumeData) → is_grouped v c ≡ true → is_gt (size_cmp (size_of v) (size_of u)) ≡ false
+      → is_lt (size_cmp (size_of u) (wanted c (mode_count v.modes))) ≡ true → eligible u c on ≡ true → ⊥
   before_jump v u group le lt e =
       let f = fit_of c on u e in
       let g = and_parts (bytes_eq (class_of_volume v) (class_of_claim c)) (beq v.block c.block) group in
@@ -239,8 +242,10 @@ module _ (c : ClaimData) (on : Option NodeData) where
   pub after_group : (v u : VolumeData) → is_grouped v c ≡ false → is_lt (size_cmp (size_of v) (wanted c 0)) ≡ false → is_gt (size_cmp (size_of v) (size_of u)) ≡ false → eligible u c on ≡ true → ⊥
   after_group v u other ge le e =
       let f = fit_of c on u e in
-      let same : group_cmp (size_of v) (size_of u) ≡ group_cmp (size_of v) (wanted c 0) = λ i. ordering_then (text_cmp (class_of_volume v) (f.class i)) (nat_cmp (count_one v.block) (count_one (f.block i))) in
-      by (group_cmp (size_of v) (wanted c 0)) refl ge (ap (λ r. is_gt (ordering_then (ordering_then r (nat_cmp (mode_count v.modes) (mode_count u.modes))) (nat_cmp v.amount.bytes u.amount.bytes))) (sym same) ∙ le)
+      let same : group_cmp (size_of v) (size_of u) ≡ group_cmp (size_of v) (wanted c 0) =
+      λ i. ordering_then (text_cmp (class_of_volume v) (f.class i)) (nat_cmp (count_one v.block) (count_one (f.block i))) in
+      by (group_cmp (size_of v) (wanted c 0)) refl ge
+      (ap (λ r. is_gt (ordering_then (ordering_then r (nat_cmp (mode_count v.modes) (mode_count u.modes))) (nat_cmp v.amount.bytes u.amount.bytes))) (sym same) ∙ le)
     where
       by : (r : Ordering) → group_cmp (size_of v) (wanted c 0) ≡ r
           → is_lt (ordering_then (ordering_then r (nat_cmp (mode_count v.modes) 0)) (nat_cmp v.amount.bytes c.amount.bytes)) ≡ false
@@ -260,11 +265,17 @@ module _ (c : ClaimData) (on : Option NodeData) where
   -- the order in which a claim prefers two volumes that are both for it, or both not
   even : (v u : VolumeData) (b : Bool) → is_for v c ≡ b → is_for u c ≡ b → match_cmp c v u ≡ ordering_then (needs v u) (text_cmp v.meta.name u.meta.name)
   even v u b e f =
-      ap (λ t. ordering_then (ordering_then (ordering_then (nat_cmp (if t then 0 else 1) (for_last u c)) (nat_cmp (mode_count v.modes) (mode_count u.modes))) (nat_cmp v.amount.bytes u.amount.bytes)) (text_cmp v.meta.name u.meta.name)) e
-      ∙ ap (λ t. ordering_then (ordering_then (ordering_then (nat_cmp (if b then 0 else 1) (if t then 0 else 1)) (nat_cmp (mode_count v.modes) (mode_count u.modes))) (nat_cmp v.amount.bytes u.amount.bytes)) (text_cmp v.meta.name u.meta.name)) f
+      ap (λ t. ordering_then (ordering_then
+      (ordering_then (nat_cmp (if t then 0 else 1) (for_last u c)) (nat_cmp (mode_count v.modes) (mode_count u.modes)))
+      (nat_cmp v.amount.bytes u.amount.bytes)) (text_cmp v.meta.name u.meta.name)) e
+      ∙ ap (λ t. ordering_then (ordering_then
+      (ordering_then (nat_cmp (if b then 0 else 1) (if t then 0 else 1)) (nat_cmp (mode_count v.modes) (mode_count u.modes)))
+      (nat_cmp v.amount.bytes u.amount.bytes)) (text_cmp v.meta.name u.meta.name)) f
       ∙ both b
     where
-      both : (t : Bool) → ordering_then (ordering_then (ordering_then (nat_cmp (if t then 0 else 1) (if t then 0 else 1)) (nat_cmp (mode_count v.modes) (mode_count u.modes))) (nat_cmp v.amount.bytes u.amount.bytes)) (text_cmp v.meta.name u.meta.name) ≡ ordering_then (needs v u) (text_cmp v.meta.name u.meta.name)
+      both : (t : Bool) → ordering_then (ordering_then
+          (ordering_then (nat_cmp (if t then 0 else 1) (if t then 0 else 1)) (nat_cmp (mode_count v.modes) (mode_count u.modes)))
+          (nat_cmp v.amount.bytes u.amount.bytes)) (text_cmp v.meta.name u.meta.name) ≡ ordering_then (needs v u) (text_cmp v.meta.name u.meta.name)
       both true = refl
       both false = refl
 
@@ -273,17 +284,24 @@ module _ (c : ClaimData) (on : Option NodeData) where
       let a = fit_of c on v e in
       let b = fit_of c on u f in
       let group = grouped (size_of v) (size_of u) (a.class ∙ sym b.class) (a.block ∙ sym b.block) in
-      let tail : ordering_then (needs v u) (name_cmp v u) ≡ Less = ap (λ r. ordering_then (ordering_then (ordering_then r (nat_cmp (mode_count v.modes) (mode_count u.modes))) (nat_cmp v.amount.bytes u.amount.bytes)) (name_cmp v u)) (sym group) ∙ less in
-      not_after (match_cmp c v u) (ap is_gt (even v u false (free_other c on v free) (free_other c on u free_too)) ∙ alike_tail (needs v u) (text_cmp v.meta.name u.meta.name) (text_cmp v.meta.namespace u.meta.namespace) tail)
+      let tail : ordering_then (needs v u) (name_cmp v u) ≡ Less =
+      ap (λ r. ordering_then (ordering_then (ordering_then r (nat_cmp (mode_count v.modes) (mode_count u.modes))) (nat_cmp v.amount.bytes u.amount.bytes)) (name_cmp v u)) (sym group) ∙ less in
+      not_after (match_cmp c v u) (ap is_gt (even v u false (free_other c on v free) (free_other c on u free_too)) ∙ alike_tail (needs v u)
+      (text_cmp v.meta.name u.meta.name) (text_cmp v.meta.namespace u.meta.namespace) tail)
 
   pub prefers_owned : (v u : VolumeData) → is_owned v ≡ true → is_owned u ≡ true → eligible v c on ≡ true → eligible u c on ≡ true → by_owner v u ≡ Less → match_cmp c v u ≢ Greater
   prefers_owned v u owned owned_too e f less =
-      let same : owner_cmp (owner_of v) (owner_of u) ≡ Equal = ap (λ w. owner_cmp w (owner_of u)) (owner_is c on v e owned ∙ sym (owner_is c on u f owned_too)) ∙ tied_itself owner_total (owner_of u) in
+      let same : owner_cmp (owner_of v) (owner_of u) ≡ Equal =
+      ap (λ w. owner_cmp w (owner_of u)) (owner_is c on v e owned ∙ sym (owner_is c on u f owned_too)) ∙ tied_itself owner_total (owner_of u) in
       let tail : need_cmp v u ≡ Less = ap (λ r. ordering_then r (need_cmp v u)) (sym same) ∙ less in
-      not_after (match_cmp c v u) (ap is_gt (even v u true (owned_for c on v e owned) (owned_for c on u f owned_too)) ∙ alike_tail (needs v u) (text_cmp v.meta.name u.meta.name) (text_cmp v.meta.namespace u.meta.namespace) tail)
+      not_after (match_cmp c v u) (ap is_gt (even v u true (owned_for c on v e owned) (owned_for c on u f owned_too)) ∙ alike_tail (needs v u)
+      (text_cmp v.meta.name u.meta.name) (text_cmp v.meta.namespace u.meta.namespace) tail)
 
   -- those for the claim come first
   pub prefers_own : (v u : VolumeData) → is_for v c ≡ true → is_for u c ≡ false → match_cmp c v u ≢ Greater
   prefers_own v u e f = not_after (match_cmp c v u) (
-      ap (λ t. is_gt (ordering_then (ordering_then (ordering_then (nat_cmp (if t then 0 else 1) (for_last u c)) (nat_cmp (mode_count v.modes) (mode_count u.modes))) (nat_cmp v.amount.bytes u.amount.bytes)) (text_cmp v.meta.name u.meta.name))) e
-      ∙ ap (λ t. is_gt (ordering_then (ordering_then (ordering_then (nat_cmp 0 (if t then 0 else 1)) (nat_cmp (mode_count v.modes) (mode_count u.modes))) (nat_cmp v.amount.bytes u.amount.bytes)) (text_cmp v.meta.name u.meta.name))) f)
+      ap (λ t. is_gt (ordering_then (ordering_then
+      (ordering_then (nat_cmp (if t then 0 else 1) (for_last u c)) (nat_cmp (mode_count v.modes) (mode_count u.modes)))
+      (nat_cmp v.amount.bytes u.amount.bytes)) (text_cmp v.meta.name u.meta.name))) e
+      ∙ ap (λ t. is_gt (ordering_then (ordering_then
+      (ordering_then (nat_cmp 0 (if t then 0 else 1)) (nat_cmp (mode_count v.modes) (mode_count u.modes))) (nat_cmp v.amount.bytes u.amount.bytes)) (text_cmp v.meta.name u.meta.name))) f)

@@ -1,10 +1,10 @@
 -- The best of both lists of an index is the best of all volumes.
 use Rattle.std.proofs.Common.{ℕ, ◌≡◌, inl, inr, Bool, true, false, List, Option, Some, None}
-use Rattle.kube_types.specs.declared.objects.Node.{Node as NodeData}
-use Rattle.kube_types.specs.declared.objects.Claim.{Claim as ClaimData}
-use Rattle.kube_types.specs.declared.objects.Object.{Object}
+use Rattle.kube_objects.specs.declared.objects.Node.{Node as NodeData}
+use Rattle.kube_objects.specs.declared.objects.Claim.{Claim as ClaimData}
+use Rattle.kube_objects.specs.declared.objects.Object.{Object}
 use Rattle.binder_model.specs.Matching.{IsBest, IsBestAt}
-use Rattle.kube_types.specs.VolumeIndex.{Index, StandsFor, is_free, is_owned, volumes_in}
+use Rattle.volume_index.specs.VolumeIndex.{Index, StandsFor, is_free, is_owned, volumes_in}
 use Rattle.volume_match.specs.Steps.Choices.{AreOf, HasNone, IsBestOf, IsBestOfAt}
 use Rattle.volume_match.proofs.Candidates.{candidate_held}
 use Rattle.volume_match.proofs.Fitting.{for_owned, free_other, owned_for, prefers_own, served}

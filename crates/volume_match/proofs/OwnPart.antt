@@ -6,12 +6,12 @@ use Rattle.std.proofs.lemmas.Cmp.{tied_itself}
 use Rattle.std.proofs.lemmas.List.{get_or_default}
 use Rattle.std.proofs.lemmas.List.Edits.{get_or-between, length-between}
 use Rattle.std.proofs.lemmas.Option.{slice_get-get_or}
-use Rattle.kube_types.specs.declared.objects.Claim.{Claim as ClaimData}
-use Rattle.kube_types.specs.declared.objects.Volume.{Volume as VolumeData}
-use Rattle.kube_types.specs.IndexPlaces.{IsOwnerStart}
-use Rattle.kube_types.specs.VolumeIndex.{HoldsThose, is_owned}
-use Rattle.kube_types.specs.VolumeOrders.{AreInOrder, by_owner, need_cmp, owner_cmp, owner_of}
-use Rattle.kube_types.proofs.VolumeOrders.{by_owner_total, first_no_greater, owner_total}
+use Rattle.kube_objects.specs.declared.objects.Claim.{Claim as ClaimData}
+use Rattle.kube_objects.specs.declared.objects.Volume.{Volume as VolumeData}
+use Rattle.volume_index.specs.IndexPlaces.{IsOwnerStart}
+use Rattle.volume_index.specs.VolumeIndex.{HoldsThose, is_owned}
+use Rattle.volume_index.specs.VolumeOrders.{AreInOrder, by_owner, need_cmp, owner_cmp, owner_of}
+use Rattle.volume_index.proofs.VolumeOrders.{by_owner_total, first_no_greater, owner_total}
 use Rattle.volume_match.specs.Passing.{refers_to_claim}
 use Rattle.volume_match.specs.Steps.Choices.{claim_owner}
 use Rattle.volume_match.proofs.Candidates.{below_or_from, upto_at}
@@ -60,8 +60,11 @@ module _ (c : ClaimData) (owned : List VolumeData) (start end : ℕ)
         | inr le ↦ elim (below_or_from k.0 end) [
           | inl less ↦
               let back : start + (k.0 - start) ≡ k.0 = omega (arith, le) in
-              let within : k.0 - start < end - start = omega (arith, le, less) in
-              (k.0 - start, subst (λ n. k.0 - start < n) (sym (length-between owned start end bound)) within, get_or-between owned start end (k.0 - start) v (omega (arith, le, less)) ∙ ap (λ n. get_or owned n v) back ∙ k.2)
+              let within : k.0 - start < end - start = omega (arith, le, less) in (
+                k.0 - start,
+                subst (λ n. k.0 - start < n) (sym (length-between owned start end bound)) within,
+                get_or-between owned start end (k.0 - start) v (omega (arith, le, less)) ∙ ap (λ n. get_or owned n v) back ∙ k.2,
+              )
           | inr ge ↦ absurd (not_behind v k.0 ge k.1 k.2 e)
         ]
       ]

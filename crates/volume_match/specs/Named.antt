@@ -1,10 +1,10 @@
 -- Keys by their parts. Source: Kubernetes documentation, "Object Names and IDs".
 use Rattle.std.specs.Prelude.{ℕ, Bool, false, List, Option, Some, None}
 use Rattle.std.specs.Ordering.{is_eq}
-use Rattle.kube_types.specs.declared.parts.Kind.{Kind}
-use Rattle.kube_types.specs.declared.objects.Object.{Object}
-use Rattle.kube_types.specs.declared.key.Key.{Key}
-use Rattle.kube_types.specs.Keys.{key_cmp, key_of}
+use Rattle.kube_parts.specs.declared.parts.Kind.{Kind}
+use Rattle.kube_objects.specs.declared.objects.Object.{Object}
+use Rattle.kube_objects.specs.declared.key.Key.{Key}
+use Rattle.kube_objects.specs.Keys.{key_cmp, key_of}
 
 abbrev pub key_with_parts : Kind → List ℕ → List ℕ → Key
 key_with_parts kind namespace name = record { kind = kind; namespace = namespace; name = name }

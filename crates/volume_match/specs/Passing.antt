@@ -1,11 +1,11 @@
 -- Volumes that are found by an index, and those that are passed over. A choice of this project.
 use Rattle.std.specs.Prelude.{ℕ, ◌≡◌, Bool, true, List, Option, Some, None, IfSome, slice_get}
-use Rattle.kube_types.specs.declared.parts.Kind.TheVariants as kinds
-use Rattle.kube_types.specs.declared.objects.Claim.{Claim as ClaimData}
-use Rattle.kube_types.specs.declared.objects.Volume.{Volume as VolumeData}
-use Rattle.kube_types.specs.declared.objects.Object.{Object}
-use Rattle.kube_types.specs.declared.objects.Object.TheVariants.{Volume}
-use Rattle.kube_types.specs.Keys.{rows_of}
+use Rattle.kube_parts.specs.declared.parts.Kind.TheVariants as kinds
+use Rattle.kube_objects.specs.declared.objects.Claim.{Claim as ClaimData}
+use Rattle.kube_objects.specs.declared.objects.Volume.{Volume as VolumeData}
+use Rattle.kube_objects.specs.declared.objects.Object.{Object}
+use Rattle.kube_objects.specs.declared.objects.Object.TheVariants.{Volume}
+use Rattle.kube_objects.specs.Keys.{rows_of}
 use Rattle.binder_model.specs.Matching.{is_excluded}
 use Rattle.volume_match.specs.declared.indexed.Found.{Found}
 use Rattle.volume_match.specs.Steps.Choices.{ref_is_to}
@@ -30,4 +30,5 @@ IsFoundThere rows free found = IfSome found (λ one. IfSome one.free (λ i. Stan
 -- a volume whose place among the free ones is passed stands at no place among the volumes that is not excluded
 abbrev pub PassedAreExcluded : List Object → List VolumeData → List ℕ → List ℕ → Type 0
 PassedAreExcluded rows free passed excluded =
-    (i place : ℕ) (v : VolumeData) → is_excluded passed i ≡ true → slice_get free i ≡ Some v → slice_get (rows_of kinds.PersistentVolume rows) place ≡ Some (Volume v) → is_excluded excluded place ≡ true
+    (i place : ℕ) (v : VolumeData) → is_excluded passed i ≡ true → slice_get free i ≡ Some v
+    → slice_get (rows_of kinds.PersistentVolume rows) place ≡ Some (Volume v) → is_excluded excluded place ≡ true

@@ -3,13 +3,13 @@
 ghost use Rattle.std.specs.Prelude.{◌≡◌, ◌≤◌, ◌<◌, ◌+◌, ◌&&◌, IfNone, IfSome, true, false, ℕ, List, length, slice_get, Some};
 ghost use Rattle.std.specs.List.{AllWithin, Contains, HoldsAt};
 ghost use Rattle.std.specs.Option.{option_copied};
-ghost use Rattle.kube_types.specs.declared.parts.Kind.TheVariants as kinds;
-ghost use Rattle.kube_types.specs.declared.objects.Object.TheVariants.{Volume as VolumeObject};
-ghost use Rattle.kube_types.specs.Keys.{AreRows, rows_of};
+ghost use Rattle.kube_parts.specs.declared.parts.Kind.TheVariants as kinds;
+ghost use Rattle.kube_objects.specs.declared.objects.Object.TheVariants.{Volume as VolumeObject};
+ghost use Rattle.kube_objects.specs.Keys.{AreRows, rows_of};
 ghost use Rattle.binder_model.specs.Matching.{IsBest, IsCandidate, eligible, only_own_passes};
-ghost use Rattle.kube_types.specs.VolumeIndex.{StandsFor, is_free, is_owned, volumes_in};
-ghost use Rattle.kube_types.specs.VolumeOrders.{AreInOrder, by_owner, by_size};
-ghost use Rattle.kube_types.specs.IndexPlaces.{IsSizeStart};
+ghost use Rattle.volume_index.specs.VolumeIndex.{StandsFor, is_free, is_owned, volumes_in};
+ghost use Rattle.volume_index.specs.VolumeOrders.{AreInOrder, by_owner, by_size};
+ghost use Rattle.volume_index.specs.IndexPlaces.{IsSizeStart};
 ghost use Rattle.volume_match.specs.Passing.{IsFoundThere, PassedAreExcluded, found_place};
 ghost use Rattle.volume_match.specs.Steps.Choices.{AreOf, IsBestOf, IsUnfit, is_grouped, wanted};
 
@@ -22,8 +22,8 @@ use kube_types::lookup::Lookup;
 use kube_types::objects::{Claim, Node, Volume};
 use kube_types::parts::Kind;
 use kube_types::shared::Shared;
-use kube_types::volume_index::VolumeIndex;
-use kube_types::volume_order::{SizeFrom, size_start};
+use volume_index::index::VolumeIndex;
+use volume_index::order::{SizeFrom, size_start};
 
 /// A volume that was found by an index.
 #[derive(Clone, Copy, Debug)]

@@ -2,7 +2,7 @@
 
 ghost use Rattle.std.specs.Prelude.{◌≡◌, true, None, IfSome, IfNone, slice_get};
 ghost use Rattle.std.specs.Option.{option_copied};
-ghost use Rattle.kube_types.specs.Keys.{row_at, rows_of};
+ghost use Rattle.kube_objects.specs.Keys.{row_at, rows_of};
 ghost use Rattle.binder_model.specs.Matching.{waits_for_pod};
 ghost use Rattle.volume_match.specs.Named.{key_with_parts, has_key_at};
 ghost use Rattle.volume_match.specs.Steps.Search.{key_order_at};

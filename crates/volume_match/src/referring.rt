@@ -2,18 +2,18 @@
 
 ghost use Rattle.std.specs.Prelude.{◌≡◌, ◌≤◌, ◌+◌, List, length, true, false, slice_get, Some};
 ghost use Rattle.std.specs.List.{AllWithin};
-ghost use Rattle.kube_types.specs.declared.objects.Volume.{Volume as VolumeData};
-ghost use Rattle.kube_types.specs.VolumeIndex.{HoldsThose, StandsFor};
-ghost use Rattle.kube_types.specs.VolumeOrders.{AreInOrder, by_owner};
-ghost use Rattle.kube_types.specs.IndexPlaces.{IsOwnerStart};
+ghost use Rattle.kube_objects.specs.declared.objects.Volume.{Volume as VolumeData};
+ghost use Rattle.volume_index.specs.VolumeIndex.{HoldsThose, StandsFor};
+ghost use Rattle.volume_index.specs.VolumeOrders.{AreInOrder, by_owner};
+ghost use Rattle.volume_index.specs.IndexPlaces.{IsOwnerStart};
 ghost use Rattle.volume_match.specs.Passing.{refers_to_claim};
 ghost use Rattle.volume_match.specs.Steps.Choices.{claim_owner, ref_is_to};
 
 use kube_types::bindings::names_claim;
 use kube_types::objects::{Claim, Volume};
 use kube_types::shared::Shared;
-use kube_types::volume_index::VolumeIndex;
-use kube_types::volume_order::{OwnerFrom, owner_start};
+use volume_index::index::VolumeIndex;
+use volume_index::order::{OwnerFrom, owner_start};
 
 /// Whether the volume's reference has the namespace and the name of the claim.
 pub(crate) fn is_named(volume: &Volume, claim: &Claim) -> bool

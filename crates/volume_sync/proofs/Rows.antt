@@ -6,7 +6,8 @@ use Rattle.volume_sync.specs.declared.action.VolumeAction.{VolumeAction}
 use Rattle.volume_sync.specs.declared.action.VolumeAction.TheVariants as actions
 use Rattle.volume_sync.specs.VolumeTable.{action_number, free_rows, referred_rows, volume_rows}
 
-one_row : (refers available released known asked none this settled erased : Bool) → count_by (row_fits (refers ∷ available ∷ released ∷ known ∷ asked ∷ none ∷ this ∷ settled ∷ erased ∷ [])) volume_rows ≡ 1
+one_row : (refers available released known asked none this settled erased : Bool)
+    → count_by (row_fits (refers ∷ available ∷ released ∷ known ∷ asked ∷ none ∷ this ∷ settled ∷ erased ∷ [])) volume_rows ≡ 1
 unfolding volume_rows free_rows referred_rows
 one_row false true released known asked none this settled erased = refl
 one_row false false released known asked none this settled erased = refl
@@ -32,7 +33,9 @@ chosen refers available released known asked none this settled erased =
     else if this then (if settled then actions.Nothing else actions.Bound)
     else if erased then actions.Release else actions.Unbind
 
-pub rows_say : (refers available released known asked none this settled erased : Bool) → action_of volume_rows (refers ∷ available ∷ released ∷ known ∷ asked ∷ none ∷ this ∷ settled ∷ erased ∷ []) ≡ action_number (chosen refers available released known asked none this settled erased)
+pub rows_say : (refers available released known asked none this settled erased : Bool)
+    → action_of volume_rows (refers ∷ available ∷ released ∷ known ∷ asked ∷ none ∷ this ∷ settled ∷ erased ∷ []) ≡ action_number
+    (chosen refers available released known asked none this settled erased)
 unfolding volume_rows free_rows referred_rows
 rows_say false true released known asked none this settled erased = refl
 rows_say false false released known asked none this settled erased = refl

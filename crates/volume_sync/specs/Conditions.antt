@@ -1,11 +1,11 @@
 -- The conditions of the table on a volume, as the code finds them. A choice of this project.
 use Rattle.std.specs.Prelude.{Bool, false, not, ◌||◌, List, [], ◌∷◌, Option, Some, None, bytes_eq, is_some}
-use Rattle.kube_types.specs.declared.objects.Volume.{Volume as VolumeData}
-use Rattle.kube_types.specs.declared.objects.Claim.{Claim as ClaimData}
-use Rattle.kube_types.specs.declared.objects.Object.{Object}
+use Rattle.kube_objects.specs.declared.objects.Volume.{Volume as VolumeData}
+use Rattle.kube_objects.specs.declared.objects.Claim.{Claim as ClaimData}
+use Rattle.kube_objects.specs.declared.objects.Object.{Object}
 use Rattle.kube_types.specs.declared.lookup.Live.{Live}
 use Rattle.kube_types.specs.Lookups.{is_asked}
-use Rattle.kube_types.specs.Bindings.{is_available, is_bound, is_empty, is_protected_volume, is_ended}
+use Rattle.kube_objects.specs.Bindings.{is_available, is_bound, is_empty, is_protected_volume, is_ended}
 use Rattle.binder_model.specs.BinderDue.{is_reclaimed}
 use Rattle.volume_sync.specs.VolumeDecision.{refers_by_uid, seen_claim}
 

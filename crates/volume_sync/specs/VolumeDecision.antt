@@ -2,16 +2,16 @@
 -- Source: `syncVolume` of `pv_controller.go`. That a volume without its protection finalizer is not bound is a choice of
 -- this project.
 use Rattle.std.specs.Prelude.{Bool, not, ◌||◌, List, Option, Some, None, bytes_eq, is_some, if◌then◌else◌}
-use Rattle.kube_types.specs.declared.uid.Uid.{Uid}
-use Rattle.kube_types.specs.declared.objects.Ref.{Ref}
-use Rattle.kube_types.specs.declared.objects.Volume.{Volume as VolumeData}
-use Rattle.kube_types.specs.declared.objects.Claim.{Claim as ClaimData}
-use Rattle.kube_types.specs.declared.objects.Object.{Object}
+use Rattle.kube_parts.specs.declared.uid.Uid.{Uid}
+use Rattle.kube_objects.specs.declared.objects.Ref.{Ref}
+use Rattle.kube_objects.specs.declared.objects.Volume.{Volume as VolumeData}
+use Rattle.kube_objects.specs.declared.objects.Claim.{Claim as ClaimData}
+use Rattle.kube_objects.specs.declared.objects.Object.{Object}
 use Rattle.kube_types.specs.declared.lookup.Live.{Live}
 use Rattle.kube_types.specs.declared.lookup.Live.TheVariants.{NotAsked, Absent, Present}
-use Rattle.kube_types.specs.Keys.{row_at}
+use Rattle.kube_objects.specs.Keys.{row_at}
 use Rattle.kube_types.specs.Lookups.{is_asked}
-use Rattle.kube_types.specs.Bindings.{is_available, is_bound, is_empty, is_protected_volume, is_ended, ref_uid}
+use Rattle.kube_objects.specs.Bindings.{is_available, is_bound, is_empty, is_protected_volume, is_ended, ref_uid}
 use Rattle.binder_model.specs.ObjectKeys.{claim_key}
 use Rattle.binder_model.specs.BinderDue.{claim_with, is_reclaimed}
 use Rattle.volume_sync.specs.declared.action.VolumeAction.{VolumeAction}

@@ -2,7 +2,7 @@
 
 ghost use Rattle.std.specs.Prelude.{◌≡◌, is_some};
 ghost use Rattle.std.specs.Option.{option_copied};
-ghost use Rattle.kube_types.specs.Bindings.{is_available};
+ghost use Rattle.kube_objects.specs.Bindings.{is_available};
 ghost use Rattle.binder_model.specs.BinderDue.{is_reclaimed};
 ghost use Rattle.volume_sync.specs.VolumeDecision.{refers_by_uid, volume_decision};
 ghost use Rattle.volume_sync.specs.Conditions.{is_settled, names, names_none, conditions_on};

@@ -3,8 +3,8 @@ use Rattle.std.proofs.Common.{◌≡◌, ◌+◌, ◌-◌, ◌<◌, ◌≤◌, �
 use Rattle.std.proofs.lemmas.Bool.Decides.{nat_tests}
 use Rattle.std.proofs.lemmas.List.{take-take, length-take, take_all, take_at, append-nil}
 use Rattle.std.specs.Prelude.{filter}
-use Rattle.kube_types.specs.declared.parts.Kind.{Kind}
-use Rattle.kube_types.specs.Keys.{is_of_kind}
+use Rattle.kube_parts.specs.declared.parts.Kind.{Kind}
+use Rattle.kube_objects.specs.Keys.{is_of_kind}
 use Rattle.call_types.specs.declared.reply.Event.{Event}
 use Rattle.call_types.specs.declared.reply.Events.{Events}
 use Rattle.binder_model.specs.Watching.{window, most_events, oldest, is_later, told_events, last_version, reached_version}
@@ -31,7 +31,8 @@ after_among kind from version (suc n) (e ∷ es) l is =
     let at = l.0 in
     rw (later from e.version (omega (arith, at, is))) (by (is_of_kind kind e.object) (after_among kind from (version - 1) n es l.1 (omega (arith, is))))
   where
-    by : (b : Bool) → filter (is_later kind from) es ≡ filter (is_event_of kind) (take n es) → (if b then e ∷ filter (is_later kind from) es else filter (is_later kind from) es) ≡ (if b then e ∷ filter (is_event_of kind) (take n es) else filter (is_event_of kind) (take n es))
+    by : (b : Bool) → filter (is_later kind from) es ≡ filter (is_event_of kind) (take n es)
+        → (if b then e ∷ filter (is_later kind from) es else filter (is_later kind from) es) ≡ (if b then e ∷ filter (is_event_of kind) (take n es) else filter (is_event_of kind) (take n es))
     by true rest = ap (λ xs. e ∷ xs) rest
     by false rest = rest
 
@@ -45,7 +46,8 @@ last_of_all base version [] a = tt
 last_of_all base version (e ∷ es) a = (a.1, last_of_all base (version - 1) es a.2)
 
 -- what came after a version is in the window
-within : (kind : Kind) (from base version : ℕ) (es : List Event) → AreAll base version es → oldest base version ≤ from → from ≤ version → filter (is_later kind from) (take window es) ≡ filter (is_later kind from) es
+within : (kind : Kind) (from base version : ℕ) (es : List Event) → AreAll base version es → oldest base version ≤ from → from ≤ version
+    → filter (is_later kind from) (take window es) ≡ filter (is_later kind from) es
 within kind from base version es a old new =
     let l = last_of_all base version es a in
     let split : version ≡ from + (version - from) = omega (arith, new) in
@@ -53,20 +55,31 @@ within kind from base version es a old new =
     let part = after_among kind from version (version - from) (take window es) (last-take window version es l) split in
     part ∙ ap (filter (is_event_of kind)) (take-take (version - from) window es (omega (arith, old))) ∙ sym whole
 
-told_of_window : (kind : Kind) (from : ℕ) (log : Log) (es : List Event) → LogStandsFor log es → oldest log.base log.version ≤ from → from ≤ log.version → told_events kind from log.version log.events ≡ told_events kind from log.version es
+told_of_window : (kind : Kind) (from : ℕ) (log : Log) (es : List Event) → LogStandsFor log es → oldest log.base log.version ≤ from
+    → from ≤ log.version → told_events kind from log.version log.events ≡ told_events kind from log.version es
 told_of_window kind from log es s old new =
-    rw s.kept (ap (λ xs. record { events = take most_events (reverse xs); upto = reached_version log.version (take most_events (reverse xs)) }) (within kind from log.base log.version es s.all old new))
+    rw s.kept (ap (λ xs. record { events = take most_events (reverse xs); upto = reached_version log.version (take most_events (reverse xs)) })
+    (within kind from log.base log.version es s.all old new))
 
-pub told_of_window_answers : (kind : Kind) (from : ℕ) (log : Log) (told : Events) → told ≡ told_events kind from log.version log.events → oldest log.base log.version ≤ from → from ≤ log.version → (es : List Event) → LogStandsFor log es → told ≡ told_events kind from log.version es
+pub told_of_window_answers : (kind : Kind) (from : ℕ) (log : Log) (told : Events) → told ≡ told_events kind from log.version log.events
+    → oldest log.base log.version ≤ from → from ≤ log.version → (es : List Event) → LogStandsFor log es → told ≡ told_events kind from log.version es
 told_of_window_answers kind from log told is old new es s = is ∙ told_of_window kind from log es s old new
 
 -- the answer by the newest events
-told_among : (kind : Kind) (from base version : ℕ) (es : List Event) → IsWindow base version es → from ≤ version → told_events kind from version es ≡ record { events = take most_events (events_among kind (version - from) es); upto = reached_version version (take most_events (events_among kind (version - from) es)) }
+told_among : (kind : Kind) (from base version : ℕ) (es : List Event) → IsWindow base version es → from ≤ version
+    → told_events kind from version es ≡ record {
+      events = take most_events (events_among kind (version - from) es);
+      upto = reached_version version
+          (take most_events (events_among kind (version - from) es));
+    }
 told_among kind from base version es w new =
-    ap (λ xs. record { events = take most_events (reverse xs); upto = reached_version version (take most_events (reverse xs)) }) (after_among kind from version (version - from) es w.last (omega (arith, new)))
+    ap (λ xs. record { events = take most_events (reverse xs); upto = reached_version version (take most_events (reverse xs)) })
+    (after_among kind from version (version - from) es w.last (omega (arith, new)))
 
 -- the answer, as the code makes it
-pub told_answer : (kind : Kind) (from base version : ℕ) (es told seen : List Event) (upto : ℕ) → IsWindow base version es → from ≤ version → told ≡ take most_events (events_among kind (version - from) es) → seen ≡ told → upto ≡ reached_version version seen → (◌≡◌ {A = Events} (record { events = told; upto = upto }) (told_events kind from version es))
+pub told_answer : (kind : Kind) (from base version : ℕ) (es told seen : List Event) (upto : ℕ) → IsWindow base version es → from ≤ version
+    → told ≡ take most_events (events_among kind (version - from) es) → seen ≡ told → upto ≡ reached_version version seen
+    → (◌≡◌ {A = Events} (record { events = told; upto = upto }) (told_events kind from version es))
 told_answer kind from base version es told seen upto w new is same to = rw (to, same, is) (sym (told_among kind from base version es w new))
 
 -- one event more
@@ -87,7 +100,8 @@ base_below : (base version : ℕ) (es : List Event) → AreAll base version es �
 base_below base version [] a = omega (arith, a)
 base_below base version (e ∷ es) a = let below = a.0 in omega (arith, below)
 
-pub all_of_next : (old : Log) (e : Event) (items : List Event) (base room : ℕ) → base ≡ old.base → items ≡ take window (e ∷ old.events) → e.version ≡ old.version + 1 → (es : List Event) → LogStandsFor old es → LogStandsFor (record { base = base; version = e.version; events = items; room = room }) (e ∷ es)
+pub all_of_next : (old : Log) (e : Event) (items : List Event) (base room : ℕ) → base ≡ old.base → items ≡ take window (e ∷ old.events)
+    → e.version ≡ old.version + 1 → (es : List Event) → LogStandsFor old es → LogStandsFor (record { base = base; version = e.version; events = items; room = room }) (e ∷ es)
 all_of_next old e items base room same are is es s =
     let begun = base_below old.base old.version es s.all in
     let before : e.version - 1 ≡ old.version = omega (arith, is) in

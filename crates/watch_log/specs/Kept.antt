@@ -1,8 +1,8 @@
 -- What is kept of the events of all writes, and which events it stands for. The newest event stands first.
 -- Source: Kubernetes API concepts, "Efficient detection of changes"; the window is this project's choice.
 use Rattle.std.specs.Prelude.{ℕ, ◌≡◌, ◌-◌, ◌<◌, ◌≤◌, Bool, List, [], ◌∷◌, take, filter, reverse, length, min, ⊤}
-use Rattle.kube_types.specs.declared.parts.Kind.{Kind}
-use Rattle.kube_types.specs.Keys.{is_of_kind}
+use Rattle.kube_parts.specs.declared.parts.Kind.{Kind}
+use Rattle.kube_objects.specs.Keys.{is_of_kind}
 use Rattle.call_types.specs.declared.reply.Event.{Event}
 use Rattle.binder_model.specs.Watching.{window}
 

@@ -1,7 +1,7 @@
 -- What an actor stands for after an answer, after a call that was lost, and after a wake.
 use Rattle.std.proofs.Common.{◌≡◌, List, ◌∷◌, Bool, true, false, true≢false, Option, Some, None, refl, sym, ◌∙◌, ap, subst, arith, if◌then◌else◌, Result, Ok, Err}
 use Rattle.std.specs.Prelude.{option_map, OnOk}
-use Rattle.kube_types.specs.declared.parts.Kind.{Kind}
+use Rattle.kube_parts.specs.declared.parts.Kind.{Kind}
 use Rattle.call_types.specs.declared.entry.Entry.{Entry}
 use Rattle.call_types.specs.declared.request.Request.{Request}
 use Rattle.call_types.specs.declared.reply.Reply.{Reply}
@@ -36,7 +36,8 @@ use Rattle.worker_core.proofs.Passes.{kept_pass, list_pass, untold_pass, watch_p
 
 -- what is under way
 
-goes_on : (role : Role) (u : Under) (mine : List Entry) (e : Entry) (reply : Reply) → IsUnderWay role u mine → u.call ≡ e.request → e.told ≡ true → e.reply ≡ reply → AnyIsUnderWay role (under_after u reply) (e ∷ mine)
+goes_on : (role : Role) (u : Under) (mine : List Entry) (e : Entry) (reply : Reply) → IsUnderWay role u mine → u.call ≡ e.request → e.told ≡ true
+    → e.reply ≡ reply → AnyIsUnderWay role (under_after u reply) (e ∷ mine)
 goes_on role u mine e reply way call told answered = by (under_after u reply) refl
   where
     by : (next : Option Under) → under_after u reply ≡ next → AnyIsUnderWay role next (e ∷ mine)
@@ -48,7 +49,8 @@ call_reads_none role u mine e way call kind = task_reads_none u.task e.request k
 
 -- the memory
 
-told_memory : (s : ActorState) (mine : List Entry) (e : Entry) (request : Request) (reply : Reply) → s.memory ≡ memory_of s.role mine → IsTold e request reply → memory_after s.role request reply s.memory ≡ memory_of s.role (e ∷ mine)
+told_memory : (s : ActorState) (mine : List Entry) (e : Entry) (request : Request) (reply : Reply) → s.memory ≡ memory_of s.role mine
+    → IsTold e request reply → memory_after s.role request reply s.memory ≡ memory_of s.role (e ∷ mine)
 told_memory s mine e request reply is told =
     ap (memory_after s.role request reply) is
     ∙ ap (λ r. memory_after s.role request r (memory_of s.role mine)) (sym told.answered)
@@ -69,7 +71,8 @@ list_unlisted Unlisted e = refl
 list_unlisted (ListedAt version None) e = absurd (true≢false (sym (ap is_list e)))
 list_unlisted (ListedAt version (Some upto)) e = absurd (true≢false (sym (ap is_list e)))
 
-module _ (s : ActorState) (mine : List Entry) (e : Entry) (request : Request) (built : IsBuiltKind s.role.kind) (stands : StandsFor s mine) (ask : asked s ≡ Some request) (asks_it : e.request ≡ request) (kind : e.kind ≡ s.role.kind) (own : AreOwn (e ∷ mine)) where
+module _ (s : ActorState) (mine : List Entry) (e : Entry) (request : Request) (built : IsBuiltKind s.role.kind) (stands : StandsFor s mine)
+    (ask : asked s ≡ Some request) (asks_it : e.request ≡ request) (kind : e.kind ≡ s.role.kind) (own : AreOwn (e ∷ mine)) where
   all_licensed : AreLicensed s.role.kind (e ∷ mine)
   all_licensed = (stands.licensed, kind, subst (λ r. Licensed s.role.kind mine r) (sym asks_it) (licensed s mine request built stands ask))
 
@@ -146,10 +149,29 @@ module _ (s : ActorState) (mine : List Entry) (e : Entry) (request : Request) (b
     where
       under : (u : Option Under) → s.under ≡ u → option_map call_under u ≡ Some request → StandsFor (lost_under s u) (e ∷ mine)
       under None eu c = none_some c
-      under (Some u) eu c = record { caches = quiet_caches lost; settle_round_calls = tt; pass = untold_pass s.role s.pass mine e stands.pass lost; memory = untold_memory s mine e stands.memory lost; licensed = all_licensed; own = own; start = starts; given = tt }
+      under (Some u) eu c = record {
+        caches = quiet_caches lost;
+        settle_round_calls = tt;
+        pass = untold_pass s.role s.pass mine e stands.pass lost;
+        memory = untold_memory s mine e stands.memory lost;
+        licensed = all_licensed;
+        own = own;
+        start = starts;
+        given = tt;
+      }
 
       rest : s.under ≡ None → StandsFor (record s { given = None }) (e ∷ mine)
-      rest none = record { caches = quiet_caches lost; settle_round_calls = subst (λ u. AnyIsUnderWay s.role u (e ∷ mine)) (sym none) tt; pass = untold_pass s.role s.pass mine e stands.pass lost; memory = untold_memory s mine e stands.memory lost; licensed = all_licensed; own = own; start = starts; given = tt }
+      rest none = record {
+        caches = quiet_caches lost;
+        settle_round_calls = subst (λ u. AnyIsUnderWay s.role u (e ∷ mine)) (sym none) tt;
+        pass =
+            untold_pass s.role s.pass mine e stands.pass lost;
+        memory = untold_memory s mine e stands.memory lost;
+        licensed = all_licensed;
+        own = own;
+        start = starts;
+        given = tt;
+      }
 
       by : (g : Option Given) → GivenStands s.role s.memory g s.under → s.given ≡ g → StandsFor (lost_given s g) (e ∷ mine)
       by None f eg = none_some (ap (given_call s) (sym eg) ∙ ask)
@@ -161,11 +183,31 @@ pub lost_before : (s : ActorState) (mine : List Entry) → StandsFor s mine → 
 lost_before s mine stands = by s.given
   where
     rest : StandsFor (record s { given = None }) mine
-    rest = record { caches = stands.caches; settle_round_calls = stands.settle_round_calls; pass = stands.pass; memory = stands.memory; licensed = stands.licensed; own = stands.own; start = stands.start; given = tt }
+    rest = record {
+      caches = stands.caches;
+      settle_round_calls = stands.settle_round_calls;
+      pass = stands.pass;
+      memory = stands.memory;
+      licensed =
+          stands.licensed;
+      own = stands.own;
+      start = stands.start;
+      given = tt;
+    }
 
     under : (u : Option Under) → StandsFor (lost_under s u) mine
     under None = rest
-    under (Some u) = record { caches = stands.caches; settle_round_calls = tt; pass = stands.pass; memory = stands.memory; licensed = stands.licensed; own = stands.own; start = stands.start; given = tt }
+    under (Some u) = record {
+      caches = stands.caches;
+      settle_round_calls = tt;
+      pass = stands.pass;
+      memory = stands.memory;
+      licensed =
+          stands.licensed;
+      own = stands.own;
+      start = stands.start;
+      given = tt;
+    }
 
     by : (g : Option Given) → StandsFor (lost_given s g) mine
     by (Some givens.Task) = under s.under
@@ -174,7 +216,17 @@ lost_before s mine stands = by s.given
     by None = rest
 
 pub woken_stands : (s : ActorState) (mine : List Entry) → StandsFor s mine → StandsFor (woken s) mine
-woken_stands s mine stands = record { caches = stands.caches; settle_round_calls = stands.settle_round_calls; pass = λ quiet place kind lt. absurd (omega (arith, lt)); memory = stands.memory; licensed = stands.licensed; own = stands.own; start = stands.start; given = stands.given }
+woken_stands s mine stands = record {
+  caches = stands.caches;
+  settle_round_calls = stands.settle_round_calls;
+  pass = λ quiet place kind lt. absurd
+      (omega (arith, lt));
+  memory = stands.memory;
+  licensed = stands.licensed;
+  own = stands.own;
+  start = stands.start;
+  given = stands.given;
+}
 
 -- answers of functions
 
@@ -204,13 +256,16 @@ pub take_caches : (outcome : Outcome) (given : Reply) (request : Request) (befor
 take_caches outcome given request before after was learn mine e reply is told stands =
     learn mine e (record { told = told.told; asked = told.asked; answered = told.answered ∙ one reply given (ap reply_in (sym is ∙ was)) }) stands
 
-module _ (old new : ActorState) (request : Request) (outcome : Outcome) (built : IsBuiltKind old.role.kind) (ask : asked old ≡ Some request) (state : new ≡ absorbed old new.caches request outcome) where
+module _ (old new : ActorState) (request : Request) (outcome : Outcome) (built : IsBuiltKind old.role.kind) (ask : asked old ≡ Some request)
+    (state : new ≡ absorbed old new.caches request outcome) where
   pub told_by : ((mine : List Entry) (e : Entry) (reply : Reply) → outcome ≡ outcomes.Told reply → IsTold e request reply → AllStandFor old.caches mine → AllStandFor new.caches (e ∷ mine))
-      → (mine : List Entry) (e : Entry) (reply : Reply) → outcome ≡ outcomes.Told reply → IsTold e request reply → e.kind ≡ old.role.kind → AreOwn (e ∷ mine) → StandsFor old mine → StandsFor new (e ∷ mine)
+      → (mine : List Entry) (e : Entry) (reply : Reply) → outcome ≡ outcomes.Told reply → IsTold e request reply → e.kind ≡ old.role.kind
+      → AreOwn (e ∷ mine) → StandsFor old mine → StandsFor new (e ∷ mine)
   told_by caches mine e reply is told kind own stands =
       subst (λ x. StandsFor x (e ∷ mine)) (sym (state ∙ ap (absorbed old new.caches request) is))
       (told_stands old mine e request built stands ask told.asked kind own new.caches reply told (caches mine e reply is told stands.caches))
 
-  pub lost_by : (mine : List Entry) (e : Entry) → outcome ≡ outcomes.Lost → e.told ≡ false → e.request ≡ request → e.kind ≡ old.role.kind → AreOwn (e ∷ mine) → StandsFor old mine → StandsFor new (e ∷ mine)
+  pub lost_by : (mine : List Entry) (e : Entry) → outcome ≡ outcomes.Lost → e.told ≡ false → e.request ≡ request → e.kind ≡ old.role.kind
+      → AreOwn (e ∷ mine) → StandsFor old mine → StandsFor new (e ∷ mine)
   lost_by mine e is lost asks_it kind own stands =
       subst (λ x. StandsFor x (e ∷ mine)) (sym (state ∙ ap (absorbed old new.caches request) is)) (lost_after old mine e request built stands ask asks_it kind own lost)

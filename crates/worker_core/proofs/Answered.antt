@@ -1,8 +1,8 @@
 -- The answer of a turn: a call that is licensed, or idle where the kinds have no news.
 use Rattle.std.proofs.Common.{◌≡◌, ℕ, ◌≤◌, zero, suc, List, [], ◌∷◌, length, Bool, true, false, Option, Some, None, inl, inr, refl, sym, ◌∙◌, ap, subst, arith}
 use Rattle.std.specs.Prelude.{option_map, slice_get}
-use Rattle.kube_types.specs.declared.parts.Kind.{Kind}
-use Rattle.kube_types.specs.Keys.{AreRows}
+use Rattle.kube_parts.specs.declared.parts.Kind.{Kind}
+use Rattle.kube_objects.specs.Keys.{AreRows}
 use Rattle.call_types.specs.declared.entry.Entry.{Entry}
 use Rattle.call_types.specs.declared.request.Request.{Request}
 use Rattle.binder_model.specs.Reading.{follows}
@@ -30,7 +30,8 @@ gives_asked s new answer = by s.memory.stale s.under (start_call s.role s.memory
     keys w None (inl b) = rw (b.call, b.state) refl
     keys w None (inr b) = rw (b.idle, b.state) refl
 
-    by : (stale : Bool) (u : Option Under) (start : Option Request) (l p : Option Kind) → s.under ≡ u → start_call s.role s.memory ≡ start → TurnBy s new answer stale u start l p → call_in answer ≡ asked new
+    by : (stale : Bool) (u : Option Under) (start : Option Request) (l p : Option Kind) → s.under ≡ u → start_call s.role s.memory ≡ start
+        → TurnBy s new answer stale u start l p → call_in answer ≡ asked new
     by true u start l p is at t = rw (t.idle, t.state) refl
     by false (Some u) start l p is at t = rw (t.call, t.state) (ap (option_map call_under) (sym is))
     by false None (Some request) l p is at t = rw (t.call, t.state) (sym at)
@@ -58,7 +59,8 @@ turn_role s new answer = by s.memory.stale s.under (start_call s.role s.memory) 
     by false None None None (Some kind) t = ap role_of t.state
     by false None None None None t = keys t.work t.under t.then_
 
-pub answer_licensed : (s new : ActorState) (answer : Next) (mine : List Entry) → IsBuiltKind s.role.kind → AreRows (all_objects s.caches) → StandsFor s mine → IsTurn s new answer → IsLicensedAnswer s.role.kind mine answer
+pub answer_licensed : (s new : ActorState) (answer : Next) (mine : List Entry) → IsBuiltKind s.role.kind → AreRows (all_objects s.caches)
+    → StandsFor s mine → IsTurn s new answer → IsLicensedAnswer s.role.kind mine answer
 answer_licensed s new answer mine built order stands turn = by answer refl
   where
     same : new.role.kind ≡ s.role.kind
@@ -66,7 +68,8 @@ answer_licensed s new answer mine built order stands turn = by answer refl
 
     by : (a : Next) → answer ≡ a → IsLicensedAnswer s.role.kind mine a
     by nexts.Idle at = tt
-    by (nexts.Call r) at = subst (λ k. IsLicensedAnswer k mine (nexts.Call r)) same (licensed new mine r (subst IsBuiltKind (sym same) built) (turn_stands s new answer mine order stands turn) (sym (gives_asked s new answer turn) ∙ ap call_in at))
+    by (nexts.Call r) at = subst (λ k. IsLicensedAnswer k mine (nexts.Call r)) same (licensed new mine r (subst IsBuiltKind (sym same) built)
+        (turn_stands s new answer mine order stands turn) (sym (gives_asked s new answer turn) ∙ ap call_in at))
 
 -- past the last kind, each kind is behind
 pub passed : {X : Type 0} (xs : List X) (place : ℕ) → slice_get xs place ≡ None → length xs ≤ place
@@ -88,7 +91,8 @@ idle_quiet s new answer mine stands turn idle = by s.memory.stale s.under (start
     keys w None past (inl b) = no_call _ b.call
     keys w None past (inr b) = inr (each b.quiet past)
 
-    by : (stale : Bool) (u : Option Under) (start : Option Request) (l p : Option Kind) → s.memory.stale ≡ stale → passing s ≡ p → TurnBy s new answer stale u start l p → MayBeIdle s.role s.memory mine
+    by : (stale : Bool) (u : Option Under) (start : Option Request) (l p : Option Kind) → s.memory.stale ≡ stale → passing s ≡ p
+        → TurnBy s new answer stale u start l p → MayBeIdle s.role s.memory mine
     by true u start l p at ep t = inl at
     by false (Some u) start l p at ep t = no_call _ t.call
     by false None (Some request) l p at ep t = no_call _ t.call

@@ -1,8 +1,8 @@
 -- What holds by the kind of the actor: its start, what it remembers, the kinds that it follows, and the row of its licence.
 use Rattle.std.proofs.Common.{◌≡◌, ◌≢◌, ℕ, ◌<◌, List, [], ◌∷◌, length, Bool, true, false, true≢false, Option, Some, None, refl, sym, ◌∙◌, ap, subst, arith, if◌then◌else◌}
 use Rattle.std.specs.Prelude.{is_some, slice_get, ⊤}
-use Rattle.kube_types.specs.declared.parts.Kind.{Kind}
-use Rattle.kube_types.specs.declared.parts.Kind.TheVariants as kinds
+use Rattle.kube_parts.specs.declared.parts.Kind.{Kind}
+use Rattle.kube_parts.specs.declared.parts.Kind.TheVariants as kinds
 use Rattle.call_types.specs.declared.entry.Entry.{Entry}
 use Rattle.call_types.specs.declared.request.Request.{Request}
 use Rattle.call_types.specs.declared.request.Request.TheVariants as requests
@@ -63,12 +63,14 @@ epoch_stands role mine = epoch_by role.kind role.node mine
 
 -- a call of the start that is to be made is allowed
 
-agent_start_allowed : (node : List ℕ) (epoch : Option ℕ) (told : Bool) (mine : List Entry) (r : Request) → epoch ≡ last_epoch node mine → agent_start node epoch told ≡ Some r → RowAllows seats.Agent mine r
+agent_start_allowed : (node : List ℕ) (epoch : Option ℕ) (told : Bool) (mine : List Entry) (r : Request) → epoch ≡ last_epoch node mine
+    → agent_start node epoch told ≡ Some r → RowAllows seats.Agent mine r
 agent_start_allowed node None told mine r is e = subst (RowAllows seats.Agent mine) (one (requests.TakeNode node) r e) tt
 agent_start_allowed node (Some epoch) false mine r is e = subst (RowAllows seats.Agent mine) (one (requests.Mounts node epoch) r e) (sym is)
 agent_start_allowed node (Some epoch) true mine r is e = none_some e
 
-pub start_allowed : (kind : SeatKind) (node : List ℕ) (m : Memory) (mine : List Entry) (r : Request) → IsBuiltKind kind → EpochStands kind node m mine → start_of kind node m ≡ Some r → RowAllows kind mine r
+pub start_allowed : (kind : SeatKind) (node : List ℕ) (m : Memory) (mine : List Entry) (r : Request) → IsBuiltKind kind
+    → EpochStands kind node m mine → start_of kind node m ≡ Some r → RowAllows kind mine r
 start_allowed seats.Binder node m mine r built is e = none_some e
 start_allowed seats.ClaimProtect node m mine r built is e = none_some e
 start_allowed seats.VolumeProtect node m mine r built is e = none_some e

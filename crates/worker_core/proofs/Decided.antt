@@ -1,8 +1,8 @@
 -- One key decided: what is left is less, and goes on.
 use Rattle.std.proofs.Common.{◌≡◌, ◌<◌, List, [], ◌∷◌, Option, Some, None, refl, sym, ◌∙◌, ap, subst}
-use Rattle.kube_types.specs.declared.key.Key.{Key}
-use Rattle.kube_types.specs.declared.objects.Object.{Object}
-use Rattle.kube_types.specs.Keys.{kind_index}
+use Rattle.kube_objects.specs.declared.key.Key.{Key}
+use Rattle.kube_objects.specs.declared.objects.Object.{Object}
+use Rattle.kube_objects.specs.Keys.{kind_index}
 use Rattle.call_types.specs.declared.request.Request.{Request}
 use Rattle.sync_queue.specs.Work.{Work, Taken, StandsOnce, added, begun, finished, oldest_of}
 use Rattle.model_laws.proofs.Lists.{one, none_some}
@@ -29,12 +29,15 @@ module _ (role : Role) (memory : Memory) (rows : List Object) where
   less_at (k ∷ ks) taken parked key first once old decided = by first (one k key old) decided
     where
       by : (f : First) → k ≡ key → IsDecision role memory rows key f → weight (dropped f key (record { waiting = k ∷ ks; taken = taken; parked = parked })).waiting < weight (k ∷ ks)
-      by firsts.Drops is d = subst (λ (j : Key). weight (finished j (begun (record { waiting = k ∷ ks; taken = taken; parked = parked }))).waiting < weight (k ∷ ks)) is (drops_one k ks taken parked once)
-      by (firsts.Begins task) is d = subst (λ (j : Key). weight (finished j (begun (record { waiting = k ∷ ks; taken = taken; parked = parked }))).waiting < weight (k ∷ ks)) is (drops_one k ks taken parked once)
+      by firsts.Drops is d = subst (λ (j : Key). weight (finished j (begun (record { waiting = k ∷ ks; taken = taken; parked = parked }))).waiting <
+          weight (k ∷ ks)) is (drops_one k ks taken parked once)
+      by (firsts.Begins task) is d = subst (λ (j : Key). weight
+          (finished j (begun (record { waiting = k ∷ ks; taken = taken; parked = parked }))).waiting < weight (k ∷ ks)) is (drops_one k ks taken parked once)
       by (firsts.Queues other) is d =
           let q = queued_kinds role memory rows key other d in
           let from : kind_index k.kind ≡ 2 = ap (λ (j : Key). kind_index j.kind) is ∙ q.0 in
-          subst (λ (j : Key). weight (finished j (added other (begun (record { waiting = k ∷ ks; taken = taken; parked = parked })))).waiting < weight (k ∷ ks)) is (queues_one k ks taken parked once other from q.1)
+          subst (λ (j : Key). weight (finished j (added other (begun (record { waiting = k ∷ ks; taken = taken; parked = parked })))).waiting <
+          weight (k ∷ ks)) is (queues_one k ks taken parked once other from q.1)
 
   -- or ends
   pub ends_empty : (w after : Work) → None ≡ oldest_of w.waiting → after ≡ begun w → Decides role memory rows after None w
@@ -65,7 +68,8 @@ module _ (role : Role) (memory : Memory) (rows : List Object) where
     pub none : GivesNone role memory rows key first
     pub is : queue ≡ dropped first key w
 
-  module _ (w taken done queue : Work) (key : Key) (found : Option Key) (first : First) (old : found ≡ oldest_of w.waiting) (some : found ≡ Some key) (begins : taken ≡ begun w) (decided : IsDecision role memory rows key first) (is : queue ≡ done) where
+  module _ (w taken done queue : Work) (key : Key) (found : Option Key) (first : First) (old : found ≡ oldest_of w.waiting) (some : found ≡ Some key)
+      (begins : taken ≡ begun w) (decided : IsDecision role memory rows key first) (is : queue ≡ done) where
     pub drops : first ≡ firsts.Drops → done ≡ finished key taken → Dropped w queue
     drops f d = record {
       key = key;

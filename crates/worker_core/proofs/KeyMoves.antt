@@ -3,10 +3,10 @@ use Rattle.std.proofs.Common.{◌≡◌, ◌⊎◌, List, [], ◌∷◌, ◌++�
 use Rattle.std.specs.Prelude.{◌||◌, map}
 use Rattle.std.specs.List.{list_any}
 use Rattle.std.proofs.lemmas.Bool.{or_cases}
-use Rattle.kube_types.specs.declared.key.Key.{Key}
-use Rattle.kube_types.specs.Keys.{key_of, same_key}
-use Rattle.kube_types.proofs.SameKeys.{same_key-Decides}
-use Rattle.kube_types.specs.declared.parts.Kind.{Kind}
+use Rattle.kube_objects.specs.declared.key.Key.{Key}
+use Rattle.kube_objects.specs.Keys.{key_of, same_key}
+use Rattle.kube_objects.proofs.SameKeys.{same_key-Decides}
+use Rattle.kube_parts.specs.declared.parts.Kind.{Kind}
 use Rattle.informer_cache.specs.Cache.{objects_of}
 use Rattle.informer_cache.specs.All.{AllKnown, cache_of}
 use Rattle.model_laws.proofs.Lists.{one, none_some}
@@ -33,7 +33,8 @@ left_was : (key : Key) (p : Key → Bool) (xs : List Key) → list_any (same_key
 left_was key p [] e = e
 left_was key p (x ∷ xs) e = by (p x) e (left_was key p xs) (same_key key x) refl
   where
-    by : (b : Bool) → list_any (same_key key) (if b then xs else x ∷ without_waiting p xs) ≡ true → (list_any (same_key key) (without_waiting p xs) ≡ true → list_any (same_key key) xs ≡ true) → (c : Bool) → same_key key x ≡ c → (same_key key x || list_any (same_key key) xs) ≡ true
+    by : (b : Bool) → list_any (same_key key) (if b then xs else x ∷ without_waiting p xs) ≡ true
+        → (list_any (same_key key) (without_waiting p xs) ≡ true → list_any (same_key key) xs ≡ true) → (c : Bool) → same_key key x ≡ c → (same_key key x || list_any (same_key key) xs) ≡ true
     by b h more true is = ap (λ c. c || list_any (same_key key) xs) is
     by true h more false is = ap (λ c. c || list_any (same_key key) xs) is ∙ h
     by false h more false is = ap (λ c. c || list_any (same_key key) xs) is ∙ more (sym (ap (λ c. c || list_any (same_key key) (without_waiting p xs)) is) ∙ h)

@@ -1,9 +1,9 @@
 -- What turns, answers and wakes make of waiting and parked keys.
 use Rattle.std.proofs.Common.{◌≡◌, List, Bool, true, false, true≢false, Option, Some, None, inl, inr, refl, sym, ◌∙◌, ap, subst, if◌then◌else◌}
 use Rattle.std.specs.Prelude.{is_some}
-use Rattle.kube_types.specs.declared.key.Key.{Key}
-use Rattle.kube_types.specs.declared.parts.Kind.{Kind}
-use Rattle.kube_types.specs.declared.objects.Object.{Object}
+use Rattle.kube_objects.specs.declared.key.Key.{Key}
+use Rattle.kube_parts.specs.declared.parts.Kind.{Kind}
+use Rattle.kube_objects.specs.declared.objects.Object.{Object}
 use Rattle.call_types.specs.declared.request.Request.{Request}
 use Rattle.call_types.specs.declared.reply.Reply.{Reply}
 use Rattle.informer_cache.specs.Cache.{keys_in}
@@ -26,7 +26,20 @@ use Rattle.worker_core.specs.Rules.{AnswersKeepKeys, KeepsKeys, KeepsWaiting, Pa
 use Rattle.worker_core.specs.States.{ActorState, is_parked, start_call, waits}
 use Rattle.worker_core.specs.Tasks.{GivesCall, GivesNone, task_parks, under_after}
 use Rattle.worker_core.specs.Turns.{AfterKeys, Decides, Nothing, Begins, Drops, IsTurn, TurnBy, passing, unlisted}
-use Rattle.worker_core.proofs.KeyMoves.{all_parks, all_waits, begun_parks, begun_waits, cached_parks, cached_waits, dropped_parks, dropped_waits, finished_parks, finished_waits, put_off_parks, put_off_waits}
+use Rattle.worker_core.proofs.KeyMoves.{
+  all_parks,
+  all_waits,
+  begun_parks,
+  begun_waits,
+  cached_parks,
+  cached_waits,
+  dropped_parks,
+  dropped_waits,
+  finished_parks,
+  finished_waits,
+  put_off_parks,
+  put_off_waits,
+}
 
 -- why a key stopped waiting while keys were decided
 data Stopped (role : Role) (memory : Memory) (rows : List Object) (under : Option Under) (key : Key) : Type 0 where
@@ -61,7 +74,8 @@ module _ (s new : ActorState) (answer : Next) where
   }
 
   -- the keys are those that are left once they were decided
-  decided_keys : (w : Work) (under : Option Under) → Decides s.role s.memory (all_objects s.caches) w under s.work → new.work ≡ w → ((u : Under) → under ≡ Some u → answer ≡ nexts.Call u.call) → KeepsKeys s new answer
+  decided_keys : (w : Work) (under : Option Under) → Decides s.role s.memory (all_objects s.caches) w under s.work → new.work ≡ w
+      → ((u : Under) → under ≡ Some u → answer ≡ nexts.Call u.call) → KeepsKeys s new answer
   decided_keys w under d same calls = record {
     stops = λ key e f. elim (decides_stops s.role s.memory (all_objects s.caches) w under key s.work d e (sym (ap (waits key) same) ∙ f)) [
       | Called u some own gives ↦ inl (record { under = u; own = own; decided = gives; call = calls u some })

@@ -1,7 +1,7 @@
 -- What an actor gives is licensed, where it stands for the entries of its seat.
 use Rattle.std.proofs.Common.{◌≡◌, List, true, Option, Some, None, inl, inr, refl, sym, ◌∙◌, ap, subst}
 use Rattle.std.specs.Prelude.{option_map}
-use Rattle.kube_types.specs.declared.parts.Kind.{Kind}
+use Rattle.kube_parts.specs.declared.parts.Kind.{Kind}
 use Rattle.call_types.specs.declared.entry.Entry.{Entry}
 use Rattle.call_types.specs.declared.request.Request.{Request}
 use Rattle.call_types.specs.declared.request.SeatKind.{SeatKind}
@@ -35,7 +35,8 @@ read_allowed seat c mine kind stand of =
     let from = (stand.each kind).from ∙ ap (λ k. watch_from (following_of mine k)) (stand.kinds kind) in
     read_row seat mine kind (ask_of (cache_of kind c)) (subst (λ f. MayRead seat mine (read_request kind (ask_from f))) (sym from) (read_licensed seat mine kind of))
 
-under_allowed : (role : Role) (under : Option Under) (mine : List Entry) (r : Request) → Stood role mine → AnyIsUnderWay role under mine → option_map call_under under ≡ Some r → RowAllows role.kind mine r
+under_allowed : (role : Role) (under : Option Under) (mine : List Entry) (r : Request) → Stood role mine → AnyIsUnderWay role under mine
+    → option_map call_under under ≡ Some r → RowAllows role.kind mine r
 under_allowed role None mine r stood way e = none_some e
 under_allowed role (Some u) mine r stood way e =
     let k = keeps_under role u mine stood way in

@@ -2,10 +2,10 @@
 -- goes on, decisions give it, no call of theirs reads a whole kind, and a key that queues another is a volume's.
 use Rattle.std.proofs.Common.{◌≡◌, ℕ, List, ◌∷◌, true, false, true≢false, Option, Some, None, refl, sym, ◌∙◌, ap, subst}
 use Rattle.std.specs.Prelude.{option_map}
-use Rattle.kube_types.specs.declared.key.Key.{Key}
-use Rattle.kube_types.specs.declared.parts.Kind.{Kind}
-use Rattle.kube_types.specs.declared.objects.Object.{Object}
-use Rattle.kube_types.specs.Keys.{AreRows, kind_index, row_at}
+use Rattle.kube_objects.specs.declared.key.Key.{Key}
+use Rattle.kube_parts.specs.declared.parts.Kind.{Kind}
+use Rattle.kube_objects.specs.declared.objects.Object.{Object}
+use Rattle.kube_objects.specs.Keys.{AreRows, kind_index, row_at}
 use Rattle.call_types.specs.declared.entry.Entry.{Entry}
 use Rattle.call_types.specs.declared.request.Request.{Request}
 use Rattle.call_types.specs.declared.request.Request.TheVariants as requests
@@ -66,7 +66,22 @@ use Rattle.worker_core.specs.Roles.{kinds_of}
 use Rattle.call_types.specs.Kinds.{reads_kind}
 use Rattle.worker_core.specs.Stands.{AreLicensed, AreOwn, Begun, IsUnderWay, StartsSo, WentOn}
 use Rattle.worker_core.specs.Steps.Evidence.{TaskKeeps, task_kind}
-use Rattle.worker_core.specs.Tasks.{IsAgentFirst, IsDecision, IsFirstOf, IsPodFirst, agent_first, claim_guard_first, erase_first, ops_first, task_call, task_moved, under_after, volume_guard_first, with_call, with_task}
+use Rattle.worker_core.specs.Tasks.{
+  IsAgentFirst,
+  IsDecision,
+  IsFirstOf,
+  IsPodFirst,
+  agent_first,
+  claim_guard_first,
+  erase_first,
+  ops_first,
+  task_call,
+  task_moved,
+  under_after,
+  volume_guard_first,
+  with_call,
+  with_task,
+}
 use Rattle.worker_core.specs.Turns.{first_unlisted}
 use Rattle.worker_core.proofs.AgentLaws.{may_decide}
 use Rattle.worker_core.proofs.ByKind.{EpochStands, epoch_stands}
@@ -83,10 +98,13 @@ task_allowed (tasks.Erase op) mine r own kept call = (erase_allowed op mine r ow
 task_allowed (tasks.Schedule op) mine r own kept call = (calls_are_allowed op mine r own kept call).1
 
 task_goes : (t next : Task) (mine : List Entry) (e : Entry) → TaskKeeps t mine → task_call t ≡ Some e.request → e.told ≡ true → task_moved t e.reply ≡ Some next → TaskKeeps next (e ∷ mine)
-task_goes (tasks.ClaimProtect op) next mine e kept call told is = subst (λ t. TaskKeeps t (e ∷ mine)) (one (tasks.ClaimProtect (claim_moved op e.reply)) next is) (claim_goes_on op mine e kept call told)
-task_goes (tasks.VolumeProtect op) next mine e kept call told is = subst (λ t. TaskKeeps t (e ∷ mine)) (one (tasks.VolumeProtect (volume_moved op e.reply)) next is) (volume_goes_on op mine e kept call told)
+task_goes (tasks.ClaimProtect op) next mine e kept call told is =
+    subst (λ t. TaskKeeps t (e ∷ mine)) (one (tasks.ClaimProtect (claim_moved op e.reply)) next is) (claim_goes_on op mine e kept call told)
+task_goes (tasks.VolumeProtect op) next mine e kept call told is =
+    subst (λ t. TaskKeeps t (e ∷ mine)) (one (tasks.VolumeProtect (volume_moved op e.reply)) next is) (volume_goes_on op mine e kept call told)
 task_goes (tasks.Agent op) next mine e kept call told is = subst (λ t. TaskKeeps t (e ∷ mine)) (one (tasks.Agent (agent_moved op e.reply)) next is) (agent_goes_on op mine e kept call told)
-task_goes (tasks.Provision op) next mine e kept call told is = subst (λ t. TaskKeeps t (e ∷ mine)) (one (tasks.Provision (provision_moved op e.reply)) next is) (provision_goes_on op mine e kept call told)
+task_goes (tasks.Provision op) next mine e kept call told is =
+    subst (λ t. TaskKeeps t (e ∷ mine)) (one (tasks.Provision (provision_moved op e.reply)) next is) (provision_goes_on op mine e kept call told)
 task_goes (tasks.Erase op) next mine e kept call told is = subst (λ t. TaskKeeps t (e ∷ mine)) (one (tasks.Erase (erase_moved op e.reply)) next is) (erase_goes_on op mine e kept call told)
 task_goes (tasks.Schedule op) next mine e kept call told is = subst (λ t. TaskKeeps t (e ∷ mine)) (one (tasks.Schedule (schedule_moved op e.reply)) next is) (evidence_goes_on op mine e kept call told)
 task_goes (tasks.Binder m) next mine e kept call told is = by (binder.moved m e.reply) refl is
@@ -179,7 +197,8 @@ erase_begun c mine key t stand (Some op) is first =
     let same : tasks.Erase op ≡ t = one (tasks.Erase op) t (sym (ap task_in first)) in
     subst (λ x. BeginsTask seats.Ops x mine) same (record { of_kind = refl; keeps = erase_decisions c mine key op stand is })
 
-ops_begun : (c : AllKnown) (mine : List Entry) (key : Key) (t : Task) → AllStandFor c mine → OpsMayDecide mine → (x : Option ProvisionOp) → claim_begins (all_objects c) (row_at key (all_objects c)) ≡ x
+ops_begun : (c : AllKnown) (mine : List Entry) (key : Key) (t : Task) → AllStandFor c mine → OpsMayDecide mine → (x : Option ProvisionOp)
+    → claim_begins (all_objects c) (row_at key (all_objects c)) ≡ x
     → firsts.Begins t ≡ ops_first x (volume_begins (row_at key (all_objects c))) → BeginsTask seats.Ops t mine
 ops_begun c mine key t stand may None is first = erase_begun c mine key t stand _ refl first
 ops_begun c mine key t stand may (Some op) is first =
@@ -192,7 +211,8 @@ pod_begun : (refused : List Tried) (c : AllKnown) (mine : List Entry) (key : Key
 pod_begun refused c mine key (tasks.Schedule op) stand order own first = record { of_kind = refl; keeps = decisions_keep c mine refused key op stand order own first }
 pod_begun refused c mine key _ stand order own first = absurd first
 
-begun : (kind : SeatKind) (node : List ℕ) (m : Memory) (c : AllKnown) (mine : List Entry) (key : Key) (t : Task) → AllStandFor c mine → AreRows (all_objects c) → first_unlisted c (kinds_of kind) ≡ None
+begun : (kind : SeatKind) (node : List ℕ) (m : Memory) (c : AllKnown) (mine : List Entry) (key : Key) (t : Task) → AllStandFor c mine
+    → AreRows (all_objects c) → first_unlisted c (kinds_of kind) ≡ None
     → AreLicensed kind mine → AreOwn mine → StartsSo kind node mine → EpochStands kind node m mine → IsFirstOf kind node m (all_objects c) key (firsts.Begins t) → BeginsTask kind t mine
 begun seats.Binder node m c mine key (tasks.Binder k) stand order listed licensed own start epoch first = record { of_kind = refl; keeps = keep c mine key k stand order first }
 begun seats.Binder node m c mine key (tasks.ClaimProtect op) stand order listed licensed own start epoch first = absurd first
@@ -236,7 +256,8 @@ ops_queue_none : {G : Type 0} (other : Key) (x : Option ProvisionOp) (y : Option
 ops_queue_none other None y first = erasures_queue_none other y first
 ops_queue_none other (Some op) y first = none_some (sym (ap queued_in first))
 
-queued_by : (kind : SeatKind) (node : List ℕ) (m : Memory) (rows : List Object) (key other : Key) → IsFirstOf kind node m rows key (firsts.Queues other) → (kind_index key.kind ≡ 2) × (kind_index other.kind ≡ 3)
+queued_by : (kind : SeatKind) (node : List ℕ) (m : Memory) (rows : List Object) (key other : Key)
+    → IsFirstOf kind node m rows key (firsts.Queues other) → (kind_index key.kind ≡ 2) × (kind_index other.kind ≡ 3)
 queued_by seats.Binder node m rows key other first =
     let q = volumes_queue_claims rows key other first in
     (ap kind_index q.0, ap kind_index q.1)
@@ -247,7 +268,8 @@ queued_by seats.User node m rows key other first = absurd first
 queued_by seats.Ops node m rows key other first = ops_queue_none other (claim_begins rows (row_at key rows)) (volume_begins (row_at key rows)) first
 queued_by seats.Scheduler node m rows key other first = absurd first
 
-pub queued_kinds : (role : Role) (memory : Memory) (rows : List Object) (key other : Key) → IsDecision role memory rows key (firsts.Queues other) → (kind_index key.kind ≡ 2) × (kind_index other.kind ≡ 3)
+pub queued_kinds : (role : Role) (memory : Memory) (rows : List Object) (key other : Key) → IsDecision role memory rows key (firsts.Queues other)
+    → (kind_index key.kind ≡ 2) × (kind_index other.kind ≡ 3)
 queued_kinds role memory rows key other first = queued_by role.kind role.node memory rows key other first
 
 -- what is under way keeps its evidence, its call is its next one, and its task is one of the actor's kind
@@ -256,7 +278,8 @@ pub record KeepsUnder (role : Role) (u : Under) (mine : List Entry) : Type 0 whe
   pub keeps : TaskKeeps u.task mine
   pub call : task_call u.task ≡ Some u.call
 
-goes_on : (role : Role) (u next : Under) (mine : List Entry) (e : Entry) → KeepsUnder role u mine → e.told ≡ true → e.request ≡ u.call → under_after u e.reply ≡ Some next → KeepsUnder role next (e ∷ mine)
+goes_on : (role : Role) (u next : Under) (mine : List Entry) (e : Entry) → KeepsUnder role u mine → e.told ≡ true → e.request ≡ u.call
+    → under_after u e.reply ≡ Some next → KeepsUnder role next (e ∷ mine)
 goes_on role u next mine e kept told asked is = by_task (task_moved u.task e.reply) refl is
   where
     by_call : (t : Task) (c : Option Request) → task_call t ≡ c → task_kind t ≡ role.kind → TaskKeeps t (e ∷ mine) → with_call u.key t c ≡ Some next → KeepsUnder role next (e ∷ mine)

@@ -2,7 +2,7 @@
 use Rattle.std.proofs.Common.{◌≡◌, ◌≢◌, ◌⊎◌, ℕ, ◌+◌, List, [], ◌∷◌, length, Bool, true, false, true≢false, Option, Some, None, inl, inr, refl, sym, ◌∙◌, ap, subst, if◌then◌else◌}
 use Rattle.std.specs.Prelude.{◌==◌, ◌&&◌, ◌||◌, not, is_some}
 use Rattle.std.proofs.lemmas.Bool.Decides.{Decides-eqb}
-use Rattle.kube_types.specs.declared.parts.Kind.{Kind}
+use Rattle.kube_parts.specs.declared.parts.Kind.{Kind}
 use Rattle.call_types.specs.declared.request.Request.{Request}
 use Rattle.call_types.specs.declared.request.Request.TheVariants as requests
 use Rattle.call_types.specs.declared.reply.Event.{Event}
@@ -68,7 +68,8 @@ pass_brought pass passes (requests.Watch k from) (replies.Events events) e f = f
 pass_brought pass passes (requests.Watch k from) _ e f = tt
 pass_brought pass passes _ reply e f = absurd (true≢false (sym e ∙ f))
 
-told_brought : (s : ActorState) (caches : AllKnown) (request : Request) (reply : Reply) (g : Option Given) → (given_told (learned s caches request reply) request reply g).pass.event ≡ true → s.pass.event ≡ false → BroughtEvent request (outcomes.Told reply)
+told_brought : (s : ActorState) (caches : AllKnown) (request : Request) (reply : Reply) (g : Option Given)
+    → (given_told (learned s caches request reply) request reply g).pass.event ≡ true → s.pass.event ≡ false → BroughtEvent request (outcomes.Told reply)
 told_brought s caches request reply None e f = absurd (true≢false (sym e ∙ f))
 told_brought s caches request reply (Some givens.Start) e f = absurd (true≢false (sym e ∙ f))
 told_brought s caches request reply (Some (givens.Read kind)) e f = pass_brought s.pass (is_passing (passing s) kind) request reply e f
@@ -104,13 +105,15 @@ passes_go_on s caches kind from (outcomes.Told (replies.Events events)) given ne
     behind_of : ActorState → ℕ
     behind_of x = x.pass.behind
 
-    after : (absorbed s caches (requests.Watch kind from) (outcomes.Told (replies.Events events))).pass.behind ≡ (if is_passing (passing s) kind && not (length events.events == most_events) then s.pass.behind + 1 else s.pass.behind)
+    after : (absorbed s caches (requests.Watch kind from) (outcomes.Told (replies.Events events))).pass.behind
+        ≡ (if is_passing (passing s) kind && not (length events.events == most_events) then s.pass.behind + 1 else s.pass.behind)
     after = ap (λ g. behind_of (given_told (learned s caches (requests.Watch kind from) (replies.Events events)) (requests.Watch kind from) (replies.Events events) g)) given
 
     by : (full : Bool) → (length events.events == most_events) ≡ full
         → ((absorbed s caches (requests.Watch kind from) (outcomes.Told (replies.Events events))).pass.behind ≡ s.pass.behind + 1) ⊎ (length events.events ≡ most_events)
     by true is = inr ((Decides-eqb (length events.events) most_events).0 is)
-    by false is = inl (after ∙ ap (λ b. if b && not (length events.events == most_events) then s.pass.behind + 1 else s.pass.behind) passes ∙ ap (λ b. if not b then s.pass.behind + 1 else s.pass.behind) is)
+    by false is = inl (after ∙ ap (λ b. if b && not (length events.events == most_events) then s.pass.behind + 1 else s.pass.behind) passes
+        ∙ ap (λ b. if not b then s.pass.behind + 1 else s.pass.behind) is)
 passes_go_on s caches kind from (outcomes.Told _) given next = inr tt
 
 -- watches

@@ -3,8 +3,8 @@ use Rattle.std.proofs.Common.{◌≡◌, ◌⊎◌, ℕ, ◌<◌, ◌+◌, List,
 use Rattle.std.specs.Prelude.{◌==◌, ◌&&◌, nat_lt, not}
 use Rattle.std.proofs.lemmas.Bool.Decides.{nat_tests}
 use Rattle.std.proofs.lemmas.Bool.{not-false, or_parts}
-use Rattle.kube_types.specs.declared.parts.Kind.{Kind}
-use Rattle.kube_types.specs.Keys.{same_kind}
+use Rattle.kube_parts.specs.declared.parts.Kind.{Kind}
+use Rattle.kube_objects.specs.Keys.{same_kind}
 use Rattle.call_types.specs.declared.entry.Entry.{Entry}
 use Rattle.call_types.specs.declared.reply.Event.{Event}
 use Rattle.call_types.specs.declared.request.Request.TheVariants as requests
@@ -69,7 +69,8 @@ module _ (role : Role) (pass : Pass) (mine : List Entry) (e : Entry) (stands : P
             let same : same_kind k kind ≡ true = sym (ap (λ o. is_passing o kind) here) ∙ passing in
             true≢false (sym (itself kind) ∙ (ap (λ x. same_kind kind x) (sym (alike k kind same)) ∙ other))
 
-        by : pass.event ≡ false → (place : ℕ) (k : Kind) → kind_in_order role place ≡ Some k → (p full : Bool) → is_passing (kind_in_order role pass.behind) kind ≡ p → place < (if p && not full then pass.behind + 1 else pass.behind) → same_kind kind k ≡ false → HasNoNews k mine
+        by : pass.event ≡ false → (place : ℕ) (k : Kind) → kind_in_order role place ≡ Some k → (p full : Bool)
+            → is_passing (kind_in_order role pass.behind) kind ≡ p → place < (if p && not full then pass.behind + 1 else pass.behind) → same_kind kind k ≡ false → HasNoNews k mine
         by quiet place k at true false passing lt other =
             elim (at_or_before place pass.behind lt) [ inl before ↦ stands quiet place k before at | inr own ↦ absurd (other_kind place k at own passing other) ]
         by quiet place k at true true passing lt other = stands quiet place k lt at

@@ -1,9 +1,9 @@
 -- Kinds without news.
 use Rattle.std.proofs.Common.{◌≡◌, ℕ, List, [], ◌∷◌, Bool, true, false, true≢false, Some, None, refl, sym, ◌∙◌, ap, subst}
 use Rattle.std.specs.Prelude.{◌&&◌}
-use Rattle.kube_types.specs.declared.parts.Kind.{Kind}
-use Rattle.kube_types.specs.Keys.{same_kind}
-use Rattle.kube_types.proofs.SameKeys.{same_kind-Decides}
+use Rattle.kube_parts.specs.declared.parts.Kind.{Kind}
+use Rattle.kube_objects.specs.Keys.{same_kind}
+use Rattle.kube_objects.proofs.SameKeys.{same_kind-Decides}
 use Rattle.call_types.specs.declared.entry.Entry.{Entry}
 use Rattle.call_types.specs.declared.request.Request.{Request}
 use Rattle.call_types.specs.declared.request.Request.TheVariants as requests
@@ -56,15 +56,18 @@ abbrev stands_listed : Following → Bool
 stands_listed Unlisted = false
 stands_listed (ListedAt version reached) = true
 
-watch_listed : (kind k : Kind) (from : ℕ) (reply : Reply) (f : Following) → same_kind k kind ≡ true → IsFrom from f → IsEmptyWatch (requests.Watch k from) reply → follow_on (requests.Watch k from) reply kind f ≡ Unlisted → ⊥
+watch_listed : (kind k : Kind) (from : ℕ) (reply : Reply) (f : Following) → same_kind k kind ≡ true → IsFrom from f
+    → IsEmptyWatch (requests.Watch k from) reply → follow_on (requests.Watch k from) reply kind f ≡ Unlisted → ⊥
 watch_listed kind k from (replies.Events events) Unlisted same at empty e = at
 watch_listed kind k from (replies.Events events) (ListedAt version reached) same at empty e =
     let h : ListedAt version (Some events.upto) ≡ Unlisted = rw same at e in
     true≢false (ap stands_listed h)
 watch_listed kind k from _ f same at empty e = empty
 
-empty_listed : (seat : SeatKind) (kind : Kind) (mine : List Entry) (request : Request) (reply : Reply) → IsBuiltKind seat → reads_kind kind request ≡ true → Licensed seat mine request → IsEmptyWatch request reply → follow_on request reply kind (following_of mine kind) ≡ Unlisted → ⊥
-empty_listed seat kind mine (requests.Watch k from) reply built own may empty e = watch_listed kind k from reply (following_of mine kind) own (subst (λ x. IsFrom from (following_of mine x)) (alike k kind own) (watch_licensed seat mine k from built may)) empty e
+empty_listed : (seat : SeatKind) (kind : Kind) (mine : List Entry) (request : Request) (reply : Reply) → IsBuiltKind seat
+    → reads_kind kind request ≡ true → Licensed seat mine request → IsEmptyWatch request reply → follow_on request reply kind (following_of mine kind) ≡ Unlisted → ⊥
+empty_listed seat kind mine (requests.Watch k from) reply built own may empty e =
+    watch_listed kind k from reply (following_of mine kind) own (subst (λ x. IsFrom from (following_of mine x)) (alike k kind own) (watch_licensed seat mine k from built may)) empty e
 empty_listed seat kind mine _ reply built own may empty e = empty
 
 -- a kind without news is listed

@@ -2,9 +2,9 @@
 use Rattle.std.proofs.Common.{◌≡◌, ℕ, List, ◌∷◌, Bool, true, false, true≢false, Option, Some, None, refl, sym, ◌∙◌, ap, subst}
 use Rattle.std.specs.Prelude.{is_none, is_some, option_map}
 use Rattle.std.proofs.lemmas.Slice.Eq.{bytes_eq-Decides}
-use Rattle.kube_types.specs.declared.parts.Kind.{Kind}
-use Rattle.kube_types.specs.declared.objects.Object.{Object}
-use Rattle.kube_types.specs.Keys.{row_at}
+use Rattle.kube_parts.specs.declared.parts.Kind.{Kind}
+use Rattle.kube_objects.specs.declared.objects.Object.{Object}
+use Rattle.kube_objects.specs.Keys.{row_at}
 use Rattle.call_types.specs.declared.entry.Entry.{Entry}
 use Rattle.call_types.specs.declared.request.Request.{Request}
 use Rattle.call_types.specs.declared.request.SeatKind.{SeatKind}
@@ -119,7 +119,8 @@ module _ (s : ActorState) (mine : List Entry) (e : Entry) (stands : StandsFor s 
       by : (g : Option Given) → GivenStands s.role s.memory g s.under → given_call s g ≡ Some e.request → is_take_of s.role.node e.request ≡ is_none (last_epoch s.role.node mine)
       by None f c = none_some c
       by (Some givens.Task) f c = task s.under stands.settle_round_calls c
-      by (Some givens.Start) f c = start_takes s.role.node s.memory.epoch (is_some s.memory.mounts) e.request (subst (λ kind. start_of kind s.role.node s.memory ≡ Some e.request) is c) ∙ ap is_none epoch
+      by (Some givens.Start) f c = start_takes s.role.node s.memory.epoch (is_some s.memory.mounts) e.request (subst
+          (λ kind. start_of kind s.role.node s.memory ≡ Some e.request) is c) ∙ ap is_none epoch
       by (Some (givens.Read kind)) f c =
           ap (is_take_of s.role.node) (sym (one _ e.request c)) ∙ read_takes_none s.role.node kind (ask_of (cache_of kind s.caches))
           ∙ sym (started_took s.role.node s.memory.epoch (is_some s.memory.mounts) (subst (λ k. start_of k s.role.node s.memory ≡ None) is f.2)) ∙ ap is_none epoch

@@ -1,6 +1,6 @@
 -- What comes after the waiting keys were decided.
 use Rattle.std.proofs.Common.{◌≡◌, true, false, Option, Some, None, inl, inr, refl, ap, subst}
-use Rattle.kube_types.specs.declared.parts.Kind.{Kind}
+use Rattle.kube_parts.specs.declared.parts.Kind.{Kind}
 use Rattle.call_types.specs.declared.request.Request.{Request}
 use Rattle.informer_cache.specs.All.{all_objects}
 use Rattle.sync_queue.specs.Work.{Work}

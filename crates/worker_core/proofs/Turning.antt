@@ -1,8 +1,8 @@
 -- A turn keeps what an actor stands for.
 use Rattle.std.proofs.Common.{◌≡◌, ℕ, zero, suc, List, [], ◌∷◌, Bool, true, false, Option, Some, None, inl, inr, refl, sym, subst, arith, if◌then◌else◌}
 use Rattle.std.specs.Prelude.{slice_get, ⊤}
-use Rattle.kube_types.specs.declared.parts.Kind.{Kind}
-use Rattle.kube_types.specs.Keys.{AreRows}
+use Rattle.kube_parts.specs.declared.parts.Kind.{Kind}
+use Rattle.kube_objects.specs.Keys.{AreRows}
 use Rattle.call_types.specs.declared.entry.Entry.{Entry}
 use Rattle.call_types.specs.declared.request.Request.{Request}
 use Rattle.call_types.specs.declared.request.SeatKind.{SeatKind}
@@ -52,7 +52,8 @@ unlisted_follows seat c (k ∷ kinds) kind all e = by (is_listed c k) e (unliste
     by false h more = subst (λ x. follows seat x ≡ true) (one k kind h) all.0
 
 -- what begins by a decision is under way
-decided_way : (role : Role) (memory : Memory) (c : AllKnown) (mine : List Entry) → AllStandFor c mine → AreRows (all_objects c) → first_unlisted c (kinds_of role.kind) ≡ None → memory ≡ memory_of role mine
+decided_way : (role : Role) (memory : Memory) (c : AllKnown) (mine : List Entry) → AllStandFor c mine → AreRows (all_objects c)
+    → first_unlisted c (kinds_of role.kind) ≡ None → memory ≡ memory_of role mine
     → (after : Work) (under : Option Under) (w : Work) → Decides role memory (all_objects c) after under w → AnyIsUnderWay role under mine
 decided_way role memory c mine stand order listed is after under w (Nothing empty same none) = subst (λ u. AnyIsUnderWay role u mine) (sym none) tt
 decided_way role memory c mine stand order listed is after under w (Begins u old gives same some) =
@@ -61,7 +62,18 @@ decided_way role memory c mine stand order listed is after under w (Drops key fi
 
 -- another call is given
 given_stands : (s : ActorState) (mine : List Entry) (given : Option Given) → StandsFor s mine → GivenStands s.role s.memory given s.under → StandsFor (record s { given = given }) mine
-given_stands s mine given stands fits = record { caches = stands.caches; settle_round_calls = stands.settle_round_calls; pass = stands.pass; memory = stands.memory; licensed = stands.licensed; own = stands.own; start = stands.start; given = fits }
+given_stands s mine given stands fits =
+    record {
+      caches = stands.caches;
+      settle_round_calls = stands.settle_round_calls;
+      pass = stands.pass;
+      memory = stands.memory;
+      licensed =
+          stands.licensed;
+      own = stands.own;
+      start = stands.start;
+      given = fits;
+    }
 
 pub turn_stands : (s new : ActorState) (answer : Next) (mine : List Entry) → AreRows (all_objects s.caches) → StandsFor s mine → IsTurn s new answer → StandsFor new mine
 turn_stands s new answer mine order stands = by s.memory.stale s.under (start_call s.role s.memory) (unlisted s) (passing s) refl refl refl refl
@@ -70,7 +82,8 @@ turn_stands s new answer mine order stands = by s.memory.stale s.under (start_ca
     follows_at place kind at = at_follows s.role.kind (kinds_of s.role.kind) place kind (kinds_follow s.role.kind) at
 
     keys : (w : Work) (under : Option Under) → AnyIsUnderWay s.role under mine → s.under ≡ None → start_call s.role s.memory ≡ None → AfterKeys s new answer w under → StandsFor new mine
-    keys w (Some u) way none started b = subst (λ x. StandsFor x mine) (sym b.state) (record { caches = stands.caches; settle_round_calls = way; pass = stands.pass; memory = stands.memory; licensed = stands.licensed; own = stands.own; start = stands.start; given = tt })
+    keys w (Some u) way none started b = subst (λ x. StandsFor x mine) (sym b.state) (record
+        { caches = stands.caches; settle_round_calls = way; pass = stands.pass; memory = stands.memory; licensed = stands.licensed; own = stands.own; start = stands.start; given = tt })
     keys w None way none started (inl b) = subst (λ x. StandsFor x mine) (sym b.state) (record {
       caches = stands.caches;
       settle_round_calls = stands.settle_round_calls;
@@ -81,14 +94,26 @@ turn_stands s new answer mine order stands = by s.memory.stale s.under (start_ca
       start = stands.start;
       given = (follows_at 0 b.kind b.first, none, started);
     })
-    keys w None way none started (inr b) = subst (λ x. StandsFor x mine) (sym b.state) (record { caches = stands.caches; settle_round_calls = stands.settle_round_calls; pass = stands.pass; memory = stands.memory; licensed = stands.licensed; own = stands.own; start = stands.start; given = tt })
+    keys w None way none started (inr b) = subst (λ x. StandsFor x mine) (sym b.state) (record {
+      caches = stands.caches;
+      settle_round_calls = stands.settle_round_calls;
+      pass = stands.pass;
+      memory = stands.memory;
+      licensed =
+          stands.licensed;
+      own = stands.own;
+      start = stands.start;
+      given = tt;
+    })
 
-    by : (stale : Bool) (u : Option Under) (start : Option Request) (l p : Option Kind) → s.under ≡ u → start_call s.role s.memory ≡ start → unlisted s ≡ l → passing s ≡ p → TurnBy s new answer stale u start l p → StandsFor new mine
+    by : (stale : Bool) (u : Option Under) (start : Option Request) (l p : Option Kind) → s.under ≡ u → start_call s.role s.memory ≡ start
+        → unlisted s ≡ l → passing s ≡ p → TurnBy s new answer stale u start l p → StandsFor new mine
     by true u start l p eu es el ep t = subst (λ x. StandsFor x mine) (sym t.state) (given_stands s mine None stands tt)
     by false (Some u) start l p eu es el ep t = subst (λ x. StandsFor x mine) (sym t.state) (given_stands s mine (Some givens.Task) stands tt)
     by false None (Some request) l p eu es el ep t = subst (λ x. StandsFor x mine) (sym t.state) (given_stands s mine (Some givens.Start) stands eu)
     by false None None (Some kind) p eu es el ep t =
-        subst (λ x. StandsFor x mine) (sym t.state) (given_stands s mine (Some (givens.Read kind)) stands (unlisted_follows s.role.kind s.caches (kinds_of s.role.kind) kind (kinds_follow s.role.kind) el, eu, es))
+        subst (λ x. StandsFor x mine) (sym t.state)
+        (given_stands s mine (Some (givens.Read kind)) stands (unlisted_follows s.role.kind s.caches (kinds_of s.role.kind) kind (kinds_follow s.role.kind) el, eu, es))
     by false None None None (Some kind) eu es el ep t =
         subst (λ x. StandsFor x mine) (sym t.state) (given_stands s mine (Some (givens.Read kind)) stands (follows_at s.pass.behind kind ep, eu, es))
     by false None None None None eu es el ep t = keys t.work t.under (decided_way s.role s.memory s.caches mine stands.caches order el stands.memory t.work t.under s.work t.decides) eu es t.then_

@@ -2,15 +2,15 @@
 use Rattle.std.proofs.Common.{◌≡◌, ◌⊎◌, ◌≤◌, ℕ, List, [], ◌∷◌, length, Bool, true, false, true≢false, Option, Some, None, inl, inr, refl, sym, ◌∙◌, ap, subst, arith, if◌then◌else◌}
 use Rattle.std.specs.Prelude.{◌==◌, nat_lt, take, filter}
 use Rattle.std.proofs.lemmas.Bool.Decides.{nat_tests}
-use Rattle.kube_types.specs.declared.parts.Kind.{Kind}
-use Rattle.kube_types.specs.Keys.{same_kind}
+use Rattle.kube_parts.specs.declared.parts.Kind.{Kind}
+use Rattle.kube_objects.specs.Keys.{same_kind}
 use Rattle.call_types.specs.declared.entry.Entry.{Entry}
 use Rattle.call_types.specs.declared.setup.Setup.{Setup}
 use Rattle.call_types.specs.declared.request.Request.{Request}
 use Rattle.call_types.specs.declared.request.Request.TheVariants as requests
 use Rattle.call_types.specs.declared.request.SeatKind.{SeatKind}
 use Rattle.call_types.specs.declared.reply.Event.{Event}
-use Rattle.kube_types.specs.declared.names.Field.TheVariants as fields
+use Rattle.kube_parts.specs.declared.names.Field.TheVariants as fields
 use Rattle.call_types.specs.declared.reply.Refusal.{Refusal}
 use Rattle.call_types.specs.declared.reply.Refusal.TheVariants as refusals
 use Rattle.call_types.specs.declared.reply.Reply.{Reply}
@@ -117,7 +117,8 @@ from_on setup e past answered kind f from before = by e.request e.reply refl ref
     gone true h = absurd h
     gone false h = same h
 
-    reached : (g : Following) (upto : ℕ) → ((v : ℕ) → IsFrom v g → v ≤ (world setup past).store.version) → upto ≤ (world setup past).store.version → IsFrom from (reached_on upto g) → from ≤ (world setup past).store.version
+    reached : (g : Following) (upto : ℕ) → ((v : ℕ) → IsFrom v g → v ≤ (world setup past).store.version) → upto ≤ (world setup past).store.version
+        → IsFrom from (reached_on upto g) → from ≤ (world setup past).store.version
     reached Unlisted upto low up h = absurd h
     reached (ListedAt version r) upto low up (inl is) = low from (inl is)
     reached (ListedAt version r) upto low up (inr is) = let same_one = one upto from is in omega (arith, up, same_one)
@@ -155,7 +156,8 @@ from_below setup (e ∷ past) seat kind from history h =
     let low = from_after setup e past seat kind from history.1 (λ v g. from_below setup past seat kind v history.0 g) h in
     omega (arith, up, low)
 
-watch_from_is : (s : ActorState) (mine : List Entry) (kind : Kind) (from : ℕ) → IsBuiltKind s.role.kind → StandsFor s mine → asked s ≡ Some (requests.Watch kind from) → IsFrom from (following_of mine kind)
+watch_from_is : (s : ActorState) (mine : List Entry) (kind : Kind) (from : ℕ) → IsBuiltKind s.role.kind → StandsFor s mine
+    → asked s ≡ Some (requests.Watch kind from) → IsFrom from (following_of mine kind)
 watch_from_is s mine kind from built stands ask = watch_row s.role.kind mine kind from built (given_allowed s mine (requests.Watch kind from) built stands ask)
 
 pub watches_are_answered : WatchesAreAnswered

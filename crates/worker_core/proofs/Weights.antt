@@ -3,11 +3,11 @@ use Rattle.std.proofs.Common.{◌≡◌, ◌≢◌, ◌+◌, ◌<◌, ◌≤◌,
 use Rattle.std.specs.Prelude.{◌==◌}
 use Rattle.std.specs.List.{list_any}
 use Rattle.std.proofs.lemmas.Bool.{or_parts}
-use Rattle.kube_types.specs.declared.key.Key.{Key}
-use Rattle.kube_types.specs.Keys.{kind_index}
-use Rattle.kube_types.specs.Keys.{same_key}
+use Rattle.kube_objects.specs.declared.key.Key.{Key}
+use Rattle.kube_objects.specs.Keys.{kind_index}
+use Rattle.kube_objects.specs.Keys.{same_key}
 use Rattle.sync_queue.specs.Work.{Work, Taken, StandsOnce, added, begun, finished, done_by, is_of, mark, mark_of, marked, queued, unparked}
-use Rattle.kube_types.proofs.SameKeys.{same_key_itself}
+use Rattle.kube_objects.proofs.SameKeys.{same_key_itself}
 use Rattle.sync_queue.proofs.KeyFacts.{key_is}
 use Rattle.sync_queue.proofs.LaneFacts.{any-append}
 use Rattle.worker_core.specs.Steps.Weights.{weight, weight_of}
@@ -43,7 +43,8 @@ mark_other claim k (t ∷ ts) other = by (is_of claim t) refl (is_of k t) refl (
     by false e false f h = rw (e, f) h
 
 -- the taken keys are not the oldest one that waits
-not_taken : (k : Key) (ks parked : List Key) (taken : List Taken) → list_any (same_key k) (ks ++ map (λ (t : Taken). t.key) taken ++ parked) ≡ false → list_any (same_key k) (map (λ (t : Taken). t.key) taken) ≡ false
+not_taken : (k : Key) (ks parked : List Key) (taken : List Taken) → list_any (same_key k) (ks ++ map (λ (t : Taken). t.key) taken ++ parked) ≡ false
+    → list_any (same_key k) (map (λ (t : Taken). t.key) taken) ≡ false
 not_taken k ks parked taken h =
     let front = or_parts _ _ (sym (any-append (same_key k) (ks ++ map (λ (t : Taken). t.key) taken) parked) ∙ h) in
     (or_parts _ _ (sym (any-append (same_key k) ks (map (λ (t : Taken). t.key) taken)) ∙ front.0)).1
@@ -64,7 +65,8 @@ module _ (k : Key) (ks : List Key) (taken : List Taken) (parked : List Key) (onc
       subst (λ n. n < weight (k ∷ ks)) (sym e) lt
 
   -- a volume's key is done, and a claim's is queued
-  pub queues_one : (claim : Key) → kind_index k.kind ≡ 2 → kind_index claim.kind ≡ 3 → weight (finished k (added claim (begun (record { waiting = k ∷ ks; taken = taken; parked = parked })))).waiting < weight (k ∷ ks)
+  pub queues_one : (claim : Key) → kind_index k.kind ≡ 2 → kind_index claim.kind ≡ 3
+      → weight (finished k (added claim (begun (record { waiting = k ∷ ks; taken = taken; parked = parked })))).waiting < weight (k ∷ ks)
   queues_one claim volume of =
       by (list_any (is_of claim) (taken ++ (record { key = k; again = false }) ∷ [])) (list_any (same_key claim) ks) refl refl
     where

@@ -2,8 +2,8 @@
 -- from how they are defined.
 -- A choice of this project.
 use Rattle.std.specs.Prelude.{ℕ, ◌≡◌, ◌≢◌, ◌⊎◌, ◌+◌, true, false, List, [], ◌∷◌, Some, None, length, ⊤}
-use Rattle.kube_types.specs.declared.key.Key.{Key}
-use Rattle.kube_types.specs.declared.parts.Kind.{Kind}
+use Rattle.kube_objects.specs.declared.key.Key.{Key}
+use Rattle.kube_parts.specs.declared.parts.Kind.{Kind}
 use Rattle.call_types.specs.declared.request.Request.{Request}
 use Rattle.call_types.specs.declared.request.Request.TheVariants as requests
 use Rattle.call_types.specs.declared.request.SeatKind.TheVariants as seats
@@ -102,7 +102,8 @@ BroughtEvent request outcome = ⊥
 
 -- a pass has an event only where an answer to a watch brought one
 abbrev pub EventsAreBrought : Type 0
-EventsAreBrought = (s : ActorState) (caches : AllKnown) (request : Request) (outcome : Outcome) → (absorbed s caches request outcome).pass.event ≡ true → s.pass.event ≡ false → BroughtEvent request outcome
+EventsAreBrought = (s : ActorState) (caches : AllKnown) (request : Request) (outcome : Outcome)
+    → (absorbed s caches request outcome).pass.event ≡ true → s.pass.event ≡ false → BroughtEvent request outcome
 
 -- a watch that has to be made again: it gave as many events as a watch gives at most, was refused or was lost
 abbrev pub IsAskedAgain : Outcome → Type 0
@@ -126,7 +127,8 @@ PassesGoOn = (s : ActorState) (caches : AllKnown) (kind : Kind) (from : ℕ) (ou
 
 -- a turn gives no watch but that of the pass's kind: a kind that is behind the pass is not watched again in it
 abbrev pub WatchesFollowThePass : Type 0
-WatchesFollowThePass = (s new : ActorState) (answer : Next) (kind : Kind) (from : ℕ) → IsTurn s new answer → new.given ≡ Some (givens.Read kind) → answer ≡ nexts.Call (requests.Watch kind from) → passing new ≡ Some kind
+WatchesFollowThePass = (s new : ActorState) (answer : Next) (kind : Kind) (from : ℕ) → IsTurn s new answer → new.given ≡ Some (givens.Read kind)
+    → answer ≡ nexts.Call (requests.Watch kind from) → passing new ≡ Some kind
 
 -- after a wake the next turn is no idle one, but that of an agent that was told StaleEpoch
 abbrev pub WokenIsBusy : ActorState → Type 0

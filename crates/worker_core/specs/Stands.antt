@@ -1,8 +1,8 @@
 -- What an actor stands for: the entries of its seat, the newest first.
 -- A choice of this project: it is what ties caches, passes and what is under way to what the seat was told.
 use Rattle.std.specs.Prelude.{ℕ, ◌≡◌, ◌<◌, ◌⊎◌, Bool, true, false, ◌&&◌, List, [], ◌∷◌, Option, Some, None, length, ⊤}
-use Rattle.kube_types.specs.declared.parts.Kind.{Kind}
-use Rattle.kube_types.specs.Keys.{AreRows}
+use Rattle.kube_parts.specs.declared.parts.Kind.{Kind}
+use Rattle.kube_objects.specs.Keys.{AreRows}
 use Rattle.call_types.specs.declared.entry.Entry.{Entry}
 use Rattle.call_types.specs.declared.setup.Setup.{Setup}
 use Rattle.call_types.specs.declared.request.Request.{Request}
@@ -37,8 +37,10 @@ use Rattle.worker_core.specs.Turns.{first_unlisted}
 -- what is under way began by a decision on caches and a memory that stood for the entries of then, with each kind that is
 -- followed listed, and each entry since is its own call, which was told
 pub data IsUnderWay (role : Role) : Under → List Entry → Type 0 where
-  Begun : {u : Under} {mine : List Entry} (c : AllKnown) → AllStandFor c mine → AreRows (all_objects c) → first_unlisted c (kinds_of role.kind) ≡ None → GivesCall role (memory_of role mine) (all_objects c) u → IsUnderWay role u mine
-  WentOn : {next : Under} {mine : List Entry} (u : Under) (e : Entry) (before : List Entry) → mine ≡ e ∷ before → IsUnderWay role u before → e.told ≡ true → e.request ≡ u.call → under_after u e.reply ≡ Some next → IsUnderWay role next mine
+  Begun : {u : Under} {mine : List Entry} (c : AllKnown) → AllStandFor c mine → AreRows (all_objects c)
+      → first_unlisted c (kinds_of role.kind) ≡ None → GivesCall role (memory_of role mine) (all_objects c) u → IsUnderWay role u mine
+  WentOn : {next : Under} {mine : List Entry} (u : Under) (e : Entry) (before : List Entry) → mine ≡ e ∷ before → IsUnderWay role u before
+      → e.told ≡ true → e.request ≡ u.call → under_after u e.reply ≡ Some next → IsUnderWay role next mine
 
 abbrev pub AnyIsUnderWay : Role → Option Under → List Entry → Type 0
 AnyIsUnderWay role None mine = ⊤

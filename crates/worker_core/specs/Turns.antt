@@ -2,12 +2,12 @@
 -- the oldest key that gives one. Where there is none it is idle, or a new pass begins.
 -- A choice of this project, after the loop of a controller in client-go.
 use Rattle.std.specs.Prelude.{◌≡◌, ◌⊎◌, Bool, true, false, List, [], ◌∷◌, Option, Some, None, is_some, if◌then◌else◌}
-use Rattle.kube_types.specs.declared.key.Key.{Key}
-use Rattle.kube_types.specs.declared.parts.Kind.{Kind}
+use Rattle.kube_objects.specs.declared.key.Key.{Key}
+use Rattle.kube_parts.specs.declared.parts.Kind.{Kind}
 use Rattle.call_types.specs.declared.request.Request.{Request}
 use Rattle.informer_cache.specs.All.{AllKnown, all_objects, cache_of}
 use Rattle.sync_queue.specs.Work.{Work, added, begun, finished, oldest_of}
-use Rattle.kube_types.specs.declared.objects.Object.{Object}
+use Rattle.kube_objects.specs.declared.objects.Object.{Object}
 use Rattle.worker_core.specs.declared.role.Role.{Role}
 use Rattle.worker_core.specs.declared.task.First.{First}
 use Rattle.worker_core.specs.declared.task.First.TheVariants as firsts
@@ -32,7 +32,8 @@ dropped _ key w = finished key (begun w)
 pub data Decides (role : Role) (memory : Memory) (rows : List Object) (after : Work) (under : Option Under) : Work → Type 0 where
   Nothing : {w : Work} → w.waiting ≡ [] → after ≡ w → under ≡ None → Decides role memory rows after under w
   Begins : {w : Work} (u : Under) → oldest_of w.waiting ≡ Some u.key → GivesCall role memory rows u → after ≡ begun w → under ≡ Some u → Decides role memory rows after under w
-  Drops : {w : Work} (key : Key) (first : First) → oldest_of w.waiting ≡ Some key → GivesNone role memory rows key first → Decides role memory rows after under (dropped first key w) → Decides role memory rows after under w
+  Drops : {w : Work} (key : Key) (first : First) → oldest_of w.waiting ≡ Some key → GivesNone role memory rows key first
+      → Decides role memory rows after under (dropped first key w) → Decides role memory rows after under w
 
 -- the first of the kinds that is not listed
 

@@ -1,11 +1,11 @@
 //! The actor.
 
 ghost use Rattle.std.specs.Prelude.{◌≡◌, List, [], ◌∷◌, Some, None, IfOk, OnOk, false, true};
-ghost use Rattle.kube_types.specs.declared.parts.Kind.{Kind};
+ghost use Rattle.kube_parts.specs.declared.parts.Kind.{Kind};
 ghost use Rattle.call_types.specs.declared.entry.Entry.{Entry};
 ghost use Rattle.call_types.specs.declared.reply.Reply.{Reply};
 ghost use Rattle.informer_cache.specs.All.{AllStandFor, all_objects};
-ghost use Rattle.kube_types.specs.Keys.{AreRows};
+ghost use Rattle.kube_objects.specs.Keys.{AreRows};
 ghost use Rattle.informer_cache.specs.Cache.{IsTold, keys_in};
 ghost use Rattle.worker_core.specs.declared.turn.Next.TheVariants as nexts;
 ghost use Rattle.worker_core.specs.declared.turn.Outcome.TheVariants as outcomes;

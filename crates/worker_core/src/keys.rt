@@ -1,7 +1,7 @@
 //! The keys of an actor: which are queued, and which of them gives a call.
 
 ghost use Rattle.std.specs.Prelude.{◌≡◌, IfOk, None, OnOk, is_some, map};
-ghost use Rattle.kube_types.specs.Keys.{key_of, row_at};
+ghost use Rattle.kube_objects.specs.Keys.{key_of, row_at};
 ghost use Rattle.informer_cache.specs.All.{all_objects};
 ghost use Rattle.worker_core.specs.Absorbs.{all_added, kind_added, kinds_added};
 ghost use Rattle.worker_core.specs.Roles.{IsBuiltKind};

@@ -1,14 +1,14 @@
 //! The caches, with the place at which the row of the next key is likely to stand.
 
 ghost use Rattle.std.specs.Prelude.{◌≡◌};
-ghost use Rattle.kube_types.specs.Keys.{key_of, same_key};
+ghost use Rattle.kube_objects.specs.Keys.{key_of, same_key};
 
 use informer_cache::caches::Caches;
 use kube_types::key::{Key, kind_of, meta_of, same_kind};
 use kube_types::lookup::Lookup;
 use kube_types::objects::Object;
 use kube_types::parts::Kind;
-use kube_types::volume_index::VolumeIndex;
+use volume_index::index::VolumeIndex;
 
 /// Caches whose object at this place, among those of its kind, is looked at first. Where it is the one that is looked for,
 /// there is no search.

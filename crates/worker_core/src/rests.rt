@@ -4,9 +4,9 @@
 ghost use Rattle.std.specs.Prelude.{◌≡◌, ℕ, List, None};
 ghost use Rattle.std.specs.Bool.{OnTrue};
 ghost use Rattle.std.specs.Option.{option_copied};
-ghost use Rattle.kube_types.specs.declared.key.Key.{Key};
-ghost use Rattle.kube_types.specs.declared.objects.Object.{Object};
-ghost use Rattle.kube_types.specs.Keys.{row_at};
+ghost use Rattle.kube_objects.specs.declared.key.Key.{Key};
+ghost use Rattle.kube_objects.specs.declared.objects.Object.{Object};
+ghost use Rattle.kube_objects.specs.Keys.{row_at};
 ghost use Rattle.binder_machines.specs.declared.decide.First.TheVariants as binder_firsts;
 ghost use Rattle.binder_machines.specs.FirstSteps.{IsFirst};
 ghost use Rattle.pod_scheduler.specs.Decisions.{BeginsOn};

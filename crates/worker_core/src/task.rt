@@ -1,7 +1,7 @@
 //! What an actor has under way for one key. The machines of each kind of actor stand in crates of their own.
 
 ghost use Rattle.std.specs.Prelude.{◌≡◌, IfOk, Some};
-ghost use Rattle.kube_types.specs.Keys.{row_at};
+ghost use Rattle.kube_objects.specs.Keys.{row_at};
 ghost use Rattle.node_agent.specs.Agents.{agent_begins};
 ghost use Rattle.protect_sync.specs.Decisions.{claim_guard_begins, volume_guard_begins};
 ghost use Rattle.reclaim_ops.specs.Decisions.{claim_begins, volume_begins};

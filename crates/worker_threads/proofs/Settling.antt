@@ -30,19 +30,22 @@ use Rattle.worker_threads.specs.Settling.{DrainSettles, IsSettledBy, RoundIsShor
 
 module _ (setup : Setup) (lets : Lets) (ds after : List Drainer) (h past : List Entry) (b left : ℕ) (seats : AreSeats (seats_of ds)) (stand : AreStanding ds h) where
   may_begin : (whole : Bool) → IsRound lets past left ds h b after whole → IsRunOf setup past → MayDrain setup h ds
-  may_begin whole round run = let g = round_grows lets past left ds h b after whole round in record { run = older_run setup g.longer.added h (subst (IsRunOf setup) g.longer.are run); seats = seats; stand = stand }
+  may_begin whole round run = let g = round_grows lets past left ds h b after whole round in
+      record { run = older_run setup g.longer.added h (subst (IsRunOf setup) g.longer.are run); seats = seats; stand = stand }
 
   pub round_lasts : IsRound lets past left ds h b after true → RoundLasts setup lets ds h past
   round_lasts round only run alone x passes = held_rounds_last setup lets ds after h past b left (may_begin true round run) only run round alone x passes
 
   pub round_short : (whole : Bool) → IsRound lets past left ds h b after whole → RoundIsShort setup lets ds h past (b - left)
-  round_short whole round allow run alone few order small = let most = every_round_is_short setup lets ds after h past b left whole allow stand.roles run alone round few order small in omega (arith, most)
+  round_short whole round allow run alone few order small = let most =
+      every_round_is_short setup lets ds after h past b left whole allow stand.roles run alone round few order small in omega (arith, most)
 
 -- ---- a drain
 
 module _ (setup : Setup) (ds after : List Drainer) (h past : List Entry) (b left : ℕ) (seats : AreSeats (seats_of ds)) (stand : AreStanding ds h) (run : IsRunOf setup past) where
   may_drain : Drains all_pass setup after past left ds h b → MayDrain setup h ds
-  may_drain drained = let g = drains_grow all_pass setup after past left ds h b drained in record { run = older_run setup g.longer.added h (subst (IsRunOf setup) g.longer.are run); seats = seats; stand = stand }
+  may_drain drained = let g = drains_grow all_pass setup after past left ds h b drained in
+      record { run = older_run setup g.longer.added h (subst (IsRunOf setup) g.longer.are run); seats = seats; stand = stand }
 
   pub drain_lasts : RoundsOfDrainLast setup after past left ds h b
   drain_lasts only drained = drained_rounds_last setup ds after h past b left (may_drain drained) only run drained

@@ -30,7 +30,8 @@ pub record WentOn (role : Role) (held : Bool) (fate : Fate) (new : ActorState) (
 
 -- the call that the turn of a played actor gave has this fate, or was held back
 abbrev pub GoesOn : ℕ → Bool → Fate → Request → List Entry → List Entry → ActorState → ActorState → Type 0
-GoesOn seat held fate request before after old new = (role : Role) (s : ActorState) (earlier since : List Call) → IsPlayedSince role s earlier since → Turns s old (nexts.Call request) (entries (since ++ earlier)) → entries (since ++ earlier) ≡ own seat before
+GoesOn seat held fate request before after old new = (role : Role) (s : ActorState) (earlier since : List Call) → IsPlayedSince role s earlier since
+    → Turns s old (nexts.Call request) (entries (since ++ earlier)) → entries (since ++ earlier) ≡ own seat before
     → WentOn role held fate new earlier since (own seat after)
 
 -- ---- the lives of a part

@@ -115,7 +115,8 @@ pub record HasTurned (lets : Lets) (calls : ℕ) (idle : ℕ → List Entry) (be
 pub record HasGone (lets : Lets) (made : ℕ) (idle : ℕ → List Entry) (before after : List Entry) (old new : Player) : Type 0 where
   pub others : KeepsOthers old.part before after
   pub agree : AgreeTo old.made new.held old.held
-  pub calls_are : (held : List ℕ) → AgreeTo (old.made + made) held new.held → (end : List Entry) (rest : ℕ) → AreCalls lets held old.part end (old.made + made + 1) rest after → AreCalls lets held old.part end (old.made + 1) (made + rest) before
+  pub calls_are : (held : List ℕ) → AgreeTo (old.made + made) held new.held → (end : List Entry) (rest : ℕ)
+      → AreCalls lets held old.part end (old.made + made + 1) rest after → AreCalls lets held old.part end (old.made + 1) (made + rest) before
   pub plays : Plays new after idle
 
 -- Q holds of each player

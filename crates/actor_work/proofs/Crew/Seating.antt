@@ -44,7 +44,8 @@ pub record AreUnused {k : Ghosts Kept Ask Reply Setup} (shared : SharedWorld) (m
 
 module _ {k : Ghosts Kept Ask Reply Setup} (shared : SharedWorld) (made : ℕ) where
   -- new passes of seats without entries, whose numbers follow one another
-  pub unused : (first many : ℕ) (passes : List (Pass Kept Ask Reply Setup k)) → AllByRecursion (λ p. IsFirst shared made (number_of p) p) passes → seats_of passes ≡ seats_at [] (numbers_from first many) → AreUnused shared made first many passes
+  pub unused : (first many : ℕ) (passes : List (Pass Kept Ask Reply Setup k)) → AllByRecursion (λ p. IsFirst shared made (number_of p) p) passes
+      → seats_of passes ≡ seats_at [] (numbers_from first many) → AreUnused shared made first many passes
   unused first zero [] new is = record { lives = tt; none = refl; many_are = refl }
   unused first (suc many) [] new is = absurd (let long : 0 ≡ suc (length (seats_at [] (numbers_from (first + 1) many))) = ap length is in omega (arith, long))
   unused first zero (p ∷ passes) new is = absurd (let long : suc (length (seats_of passes)) ≡ 0 = ap length is in omega (arith, long))
@@ -88,7 +89,8 @@ module _ {k : Ghosts Kept Ask Reply Setup} (shared : SharedWorld) (made : ℕ) w
 
   -- the seats are as they are in entries that have each pass's own list
   seats_in : (whole : List Entry) (first : ℕ) (passes : List (Pass Kept Ask Reply Setup k)) → AreLives shared made first passes
-      → ((i : ℕ) (d : Pass Kept Ask Reply Setup k) → i < length passes → own (first + i) whole ≡ mine_of (slice_index_or passes i d)) → seats_of passes ≡ seats_at whole (numbers_from first (length passes))
+      → ((i : ℕ) (d : Pass Kept Ask Reply Setup k) → i < length passes → own (first + i) whole ≡ mine_of (slice_index_or passes i d))
+      → seats_of passes ≡ seats_at whole (numbers_from first (length passes))
   seats_in whole first [] lives each = refl
   seats_in whole first (p ∷ passes) lives each =
       let here : own first whole ≡ mine_of p = subst (λ n. own n whole ≡ mine_of p) (omega arith) (each 0 p (omega arith)) in
@@ -100,14 +102,16 @@ module _ {k : Ghosts Kept Ask Reply Setup} (shared : SharedWorld) (made : ℕ) w
   lasting_of first (p ∷ passes) lives = λ i. (lives.0.number i, lives.0.met i, lives.0.made_is i) ∷ lasting_of (first + 1) passes lives.1 i
 
   -- as many passes of the same lives are those of before
-  pub are_kept : (first : ℕ) (before after : List (Pass Kept Ask Reply Setup k)) → AreLives shared made first before → AreLives shared made first after → length after ≡ length before → AreKept before after
+  pub are_kept : (first : ℕ) (before after : List (Pass Kept Ask Reply Setup k)) → AreLives shared made first before
+      → AreLives shared made first after → length after ≡ length before → AreKept before after
   are_kept first before after lives then_lives long =
       lasting_of first after then_lives
       ∙ ap (λ n. map (λ (m : ℕ). (m, 0, made)) (numbers_from first n)) long
       ∙ sym (lasting_of first before lives)
 
   -- what the work of an actor leaves of its seats
-  module _ (x y : Player) (calls : ℕ) (before after : List (Pass Kept Ask Reply Setup k)) (may : MayAct x calls (seats_of before)) (unused_are : AreUnused shared made x.part.first (lives_of x.part) before)
+  module _ (x y : Player) (calls : ℕ) (before after : List (Pass Kept Ask Reply Setup k)) (may : MayAct x calls (seats_of before))
+      (unused_are : AreUnused shared made x.part.first (lives_of x.part) before)
       (then_lives : AreLives shared made x.part.first after) (many : length after ≡ length before) (part : y.part ≡ x.part) (held : y.held ≡ x.held) where
     long : length after ≡ lives_of x.part
     long = many ∙ unused_are.many_are
@@ -125,18 +129,22 @@ module _ {k : Ghosts Kept Ask Reply Setup} (shared : SharedWorld) (made : ℕ) w
         let end : x.made + calls ≡ calls = let none = may.made in omega (arith, none) in
         subst (λ (n : ℕ). HasWorked x.part n y.made (past_of after)) end whole
 
-    lives_from : ((role : Role) (idle : ℕ → List Call) → Lives role x (past_of before) idle → AreWorkedLives role y (past_of after)) → (seat : ℕ) → x.part.first ≤ seat → seat < x.part.first + lives_of x.part → IsWorkedLife [] x.actor.role x.part seat y.made (past_of after)
+    lives_from : ((role : Role) (idle : ℕ → List Call) → Lives role x (past_of before) idle → AreWorkedLives role y (past_of after)) → (seat : ℕ)
+        → x.part.first ≤ seat → seat < x.part.first + lives_of x.part → IsWorkedLife [] x.actor.role x.part seat y.made (past_of after)
     lives_from each seat low high =
         let all = each x.actor.role may.lives.idle (subst (λ (es : List Entry). Lives x.actor.role x es may.lives.idle) (sym unused_are.none) may.lives.lives) in
         let life = all seat (subst (λ (p : Part). p.first ≤ seat) (sym part) low) (subst (λ (p : Part). seat < p.first + lives_of p) (sym part) high) in
-        subst (λ (h : List ℕ). IsWorkedLife h x.actor.role x.part seat y.made (past_of after)) (held ∙ may.held) (subst (λ (p : Part). IsWorkedLife y.held x.actor.role p seat y.made (past_of after)) part life)
+        subst (λ (h : List ℕ). IsWorkedLife h x.actor.role x.part seat y.made (past_of after)) (held ∙ may.held)
+        (subst (λ (p : Part). IsWorkedLife y.held x.actor.role p seat y.made (past_of after)) part life)
 
     pub has_acted : AreCalls all_pass x.held x.part (past_of after) (x.made + 1) (y.made - x.made) (past_of before) → HasWorked x.part (x.made + calls) y.made (past_of after)
-        → ((role : Role) (idle : ℕ → List Call) → Lives role x (past_of before) idle → AreWorkedLives role y (past_of after)) → (AreByActors (past_of before) → AreByActors (past_of after)) → HasActed x.actor.role x.part calls (seats_of after)
+        → ((role : Role) (idle : ℕ → List Call) → Lives role x (past_of before) idle → AreWorkedLives role y (past_of after))
+        → (AreByActors (past_of before) → AreByActors (past_of after)) → HasActed x.actor.role x.part calls (seats_of after)
     has_acted made_calls whole each asked = record {
       made = y.made;
       mine = past_of after;
-      after_is = seats_in (past_of after) x.part.first after then_lives (λ i d lt. own_at shared made x.part.first i after d then_lives lt) ∙ ap (λ n. seats_at (past_of after) (numbers_from x.part.first n)) long;
+      after_is = seats_in (past_of after) x.part.first after then_lives (λ i d lt. own_at shared made x.part.first i after d then_lives lt)
+          ∙ ap (λ n. seats_at (past_of after) (numbers_from x.part.first n)) long;
       alone = λ seat out. alone x.part.first seat after then_lives (subst (λ n. (seat < x.part.first) ⊎ (x.part.first + n ≤ seat)) (sym long) out);
       calls_are = calls_from made_calls;
       whole = whole_from whole;

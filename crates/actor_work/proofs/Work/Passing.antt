@@ -18,21 +18,26 @@ some_life part named = let lives : lives_of part ≡ 1 + length part.restarts = 
 
 module _ {k : Ghosts Kept Ask Reply Setup} where
   -- the passes that are there are those of the actor's lives
-  pub serves_lives : (shared : SharedWorld) (made first : ℕ) (passes : List (Pass Kept Ask Reply Setup k)) (part : Part) → first ≡ part.first → AreLives shared made first passes → length passes ≡ lives_of part → (seat : ℕ) → IsLife part seat → IsServed shared made first passes seat
+  pub serves_lives : (shared : SharedWorld) (made first : ℕ) (passes : List (Pass Kept Ask Reply Setup k)) (part : Part) → first ≡ part.first
+      → AreLives shared made first passes → length passes ≡ lives_of part → (seat : ℕ) → IsLife part seat → IsServed shared made first passes seat
   serves_lives shared made first passes part is lives many seat life = let low = life.0 in let high = life.1 in (lives, omega (arith, is, low), omega (arith, is, many, high))
 
-  pub orders_lives : (shared : SharedWorld) (made first : ℕ) (passes : List (Pass Kept Ask Reply Setup k)) (part : Part) → first ≡ part.first → length passes ≡ lives_of part → (seat : ℕ) → IsServed shared made first passes seat → IsLife part seat
+  pub orders_lives : (shared : SharedWorld) (made first : ℕ) (passes : List (Pass Kept Ask Reply Setup k)) (part : Part) → first ≡ part.first
+      → length passes ≡ lives_of part → (seat : ℕ) → IsServed shared made first passes seat → IsLife part seat
   orders_lives shared made first passes part is many seat there = let low = there.1 in let high = there.2 in (omega (arith, is, low), omega (arith, is, many, high))
 
   -- what holds the passes has stayed what it is: the same seats are served
-  module _ (shared then_shared : SharedWorld) (made then_made first then_first : ℕ) (before after : List (Pass Kept Ask Reply Setup k)) (same_shared : then_shared ≡ shared) (same_made : then_made ≡ made) (same_first : then_first ≡ first)
+  module _ (shared then_shared : SharedWorld) (made then_made first then_first : ℕ) (before after : List (Pass Kept Ask Reply Setup k))
+      (same_shared : then_shared ≡ shared) (same_made : then_made ≡ made) (same_first : then_first ≡ first)
       (some : 0 < length before) (lives : AreLives shared made first before)
-      (on : (other : ℕ) → IsServed shared made first before other → IsServed then_shared then_made then_first after other) (back : (other : ℕ) → IsServed then_shared then_made then_first after other → IsServed shared made first before other) where
+      (on : (other : ℕ) → IsServed shared made first before other → IsServed then_shared then_made then_first after other)
+      (back : (other : ℕ) → IsServed then_shared then_made then_first after other → IsServed shared made first before other) where
     last : IsServed then_shared then_made then_first after (first + (length before - 1))
     last = on (first + (length before - 1)) (lives, omega arith, omega (arith, some))
 
     pub then_lives : AreLives shared made first after
-    then_lives = subst (λ s. AreLives s made first after) same_shared (subst (λ m. AreLives then_shared m first after) same_made (subst (λ f. AreLives then_shared then_made f after) same_first last.0))
+    then_lives = subst (λ s. AreLives s made first after) same_shared
+        (subst (λ m. AreLives then_shared m first after) same_made (subst (λ f. AreLives then_shared then_made f after) same_first last.0))
 
     pub as_many : length after ≡ length before
     as_many =

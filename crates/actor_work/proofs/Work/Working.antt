@@ -2,8 +2,8 @@
 use Rattle.std.proofs.Common.{◌≡◌, ◌≢◌, ◌⊎◌, ◌<◌, ◌≤◌, ◌+◌, ◌-◌, ◌*◌, ℕ, List, [], ◌∷◌, ◌++◌, length, length-append, Bool, true, false, inl, inr, refl, sym, ◌∙◌, ap, subst, arith, if◌then◌else◌}
 use Rattle.std.specs.Prelude.{◌==◌}
 use Rattle.std.proofs.lemmas.Bool.Decides.{Decides-eqb}
-use Rattle.kube_types.specs.declared.parts.Kind.{Kind}
-use Rattle.kube_types.specs.declared.parts.Kind.TheVariants as kinds
+use Rattle.kube_parts.specs.declared.parts.Kind.{Kind}
+use Rattle.kube_parts.specs.declared.parts.Kind.TheVariants as kinds
 use Rattle.call_types.specs.declared.entry.Entry.{Entry}
 use Rattle.call_types.specs.declared.request.SeatKind.{SeatKind}
 use Rattle.call_types.specs.declared.request.SeatKind.TheVariants as seats
@@ -32,19 +32,23 @@ none_left lets held part new past n count none (NoCalls zero_is same) = same
 none_left lets held part new past n count none (MoreCalls rest middle is call more) = absurd (omega (arith, is, none))
 
 -- calls, and more calls
-pub calls_then : (lets : Lets) (held : List ℕ) (part : Part) (middle end past : List Entry) (n a b : ℕ) → AreCalls lets held part middle n a past → AreCalls lets held part end (n + a) b middle → AreCalls lets held part end n (a + b) past
+pub calls_then : (lets : Lets) (held : List ℕ) (part : Part) (middle end past : List Entry) (n a b : ℕ) → AreCalls lets held part middle n a past
+    → AreCalls lets held part end (n + a) b middle → AreCalls lets held part end n (a + b) past
 calls_then lets held part middle end past n a b (NoCalls zero_is same) more =
     let at : n + a ≡ n = omega (arith, zero_is) in
     let all : b ≡ a + b = omega (arith, zero_is) in
     subst (λ h. AreCalls lets held part end n (a + b) h) same (subst (λ count. AreCalls lets held part end n count middle) all (subst (λ m. AreCalls lets held part end m b middle) at more))
 calls_then lets held part middle end past n a b (MoreCalls rest next is call first) more =
-    MoreCalls (rest + b) next (omega (arith, is)) call (calls_then lets held part middle end next (n + 1) rest b first (let at : n + a ≡ n + 1 + rest = omega (arith, is) in subst (λ m. AreCalls lets held part end m b middle) at more))
+    MoreCalls (rest + b) next (omega (arith, is)) call
+    (calls_then lets held part middle end next (n + 1) rest b first (let at : n + a ≡ n + 1 + rest = omega (arith, is) in subst (λ m. AreCalls lets held part end m b middle) at more))
 
 -- those of a turn
-pub turn_calls : (held : List ℕ) (calls : ℕ) (told : ℕ → List Entry) (before after : List Entry) (old new : Player) → new.held ≡ held → HasTurned all_pass calls told before after old new → AreCalls all_pass held old.part after (old.made + 1) (new.made - old.made) before
+pub turn_calls : (held : List ℕ) (calls : ℕ) (told : ℕ → List Entry) (before after : List Entry) (old new : Player) → new.held ≡ held
+    → HasTurned all_pass calls told before after old new → AreCalls all_pass held old.part after (old.made + 1) (new.made - old.made) before
 turn_calls held calls told before after old new is t = by t.made
   where
-    of : (count : ℕ) → new.made ≡ old.made + count → AreCalls all_pass new.held old.part after (old.made + 1) count before → AreCalls all_pass held old.part after (old.made + 1) (new.made - old.made) before
+    of : (count : ℕ) → new.made ≡ old.made + count → AreCalls all_pass new.held old.part after (old.made + 1) count before
+        → AreCalls all_pass held old.part after (old.made + 1) (new.made - old.made) before
     of count made calls_are =
         let all : count ≡ new.made - old.made = omega (arith, made) in
         subst (λ n. AreCalls all_pass held old.part after (old.made + 1) n before) all (subst (λ h. AreCalls all_pass h old.part after (old.made + 1) count before) is calls_are)
@@ -54,17 +58,21 @@ turn_calls held calls told before after old new is t = by t.made
     by (inr few) = of few.count few.made few.calls_are
 
 -- so far, and in a turn
-pub calls_on : (held : List ℕ) (start old new : Player) (calls : ℕ) (told : ℕ → List Entry) (first before after : List Entry) → old.part ≡ start.part → new.held ≡ held → start.made ≤ old.made → old.made ≤ new.made
-    → AreCalls all_pass held start.part before (start.made + 1) (old.made - start.made) first → HasTurned all_pass calls told before after old new → AreCalls all_pass held start.part after (start.made + 1) (new.made - start.made) first
+pub calls_on : (held : List ℕ) (start old new : Player) (calls : ℕ) (told : ℕ → List Entry) (first before after : List Entry) → old.part ≡ start.part
+    → new.held ≡ held → start.made ≤ old.made → old.made ≤ new.made
+    → AreCalls all_pass held start.part before (start.made + 1) (old.made - start.made) first → HasTurned all_pass calls told before after old new
+    → AreCalls all_pass held start.part after (start.made + 1) (new.made - start.made) first
 calls_on held start old new calls told first before after part is low high so_far t =
     let at : old.made + 1 ≡ start.made + 1 + (old.made - start.made) = omega (arith, low) in
     let all : (old.made - start.made) + (new.made - old.made) ≡ new.made - start.made = omega (arith, low, high) in
     let more = subst (λ (p : Part). AreCalls all_pass held p after (old.made + 1) (new.made - old.made) before) part (turn_calls held calls told before after old new is t) in
     subst (λ n. AreCalls all_pass held start.part after (start.made + 1) n first) all
-    (calls_then all_pass held start.part before after first (start.made + 1) (old.made - start.made) (new.made - old.made) so_far (subst (λ n. AreCalls all_pass held start.part after n (new.made - old.made) before) at more))
+    (calls_then all_pass held start.part before after first (start.made + 1) (old.made - start.made) (new.made - old.made) so_far
+    (subst (λ n. AreCalls all_pass held start.part after n (new.made - old.made) before) at more))
 
 -- a turn makes no more than it was to
-pub turn_made : (calls : ℕ) (told : ℕ → List Entry) (before after : List Entry) (old new : Player) → HasTurned all_pass calls told before after old new → (old.made ≤ new.made) × (new.made ≤ old.made + calls)
+pub turn_made : (calls : ℕ) (told : ℕ → List Entry) (before after : List Entry) (old new : Player)
+    → HasTurned all_pass calls told before after old new → (old.made ≤ new.made) × (new.made ≤ old.made + calls)
 turn_made calls told before after old new t = by t.made
   where
     by : HasMadeAll all_pass calls told before after old new ⊎ HasMadeFewer all_pass calls told before after old new → (old.made ≤ new.made) × (new.made ≤ old.made + calls)
@@ -75,7 +83,8 @@ above : (a b : ℕ) → a ≤ b → b ≢ a → a < b
 above a b low other = grind arith
 
 -- each turn but the first makes a call
-pub smaller : (end before after : ℕ) (woken : Bool) → before < end → before ≤ after → after ≤ end → (woken ≡ true → after ≢ before) → 2 * (end - after) + 0 < 2 * (end - before) + (if woken then 0 else 1)
+pub smaller : (end before after : ℕ) (woken : Bool) → before < end → before ≤ after → after ≤ end → (woken ≡ true → after ≢ before)
+    → 2 * (end - after) + 0 < 2 * (end - before) + (if woken then 0 else 1)
 smaller end before after true left low high goes = let more = above before after low (goes refl) in omega (arith, left, high, more)
 smaller end before after false left low high goes = omega (arith, left, low, high)
 
@@ -85,7 +94,8 @@ at_seat : (seat : ℕ) (mine : List Entry) (idle : ℕ → List Entry) → and_i
 at_seat seat mine idle = let same : (seat == seat) ≡ true = (Decides-eqb seat seat).1 refl in rw same refl
 
 -- after a turn that gave fewer calls the actor was woken
-pub turn_reached : (end : ℕ) (told : ℕ → List Entry) (before after : List Entry) (old new : Player) → old.made ≤ end → new.part ≡ old.part → HasTurned all_pass (end - old.made) told before after old new → HasPlayedTo end true new after
+pub turn_reached : (end : ℕ) (told : ℕ → List Entry) (before after : List Entry) (old new : Player) → old.made ≤ end → new.part ≡ old.part
+    → HasTurned all_pass (end - old.made) told before after old new → HasPlayedTo end true new after
 turn_reached end told before after old new low part t = by t.made
   where
     by : HasMadeAll all_pass (end - old.made) told before after old new ⊎ HasMadeFewer all_pass (end - old.made) told before after old new → HasPlayedTo end true new after
@@ -125,11 +135,13 @@ rests_stale kind mine built (inl quiet) =
     let some = follows_some kind built in
     absurd (subst (HasNoNews some.0) (none_added quiet.recent mine quiet.are) (quiet.quiet some.0 some.1))
 
-pub turn_stale : (end : ℕ) (before after : List Entry) (old new : Player) (reached : HasPlayedTo end true old before) → old.part.named ≡ true → IsBuiltKind old.part.kind → old.made < end → new.made ≡ old.made → HasTurned all_pass (end - old.made) reached.told before after old new
+pub turn_stale : (end : ℕ) (before after : List Entry) (old new : Player) (reached : HasPlayedTo end true old before) → old.part.named ≡ true
+    → IsBuiltKind old.part.kind → old.made < end → new.made ≡ old.made → HasTurned all_pass (end - old.made) reached.told before after old new
     → WasToldStale old.part.kind (own (seat_at old.part (new.made + 1)) after)
 turn_stale end before after old new reached named built left none t = by t.made
   where
-    by : HasMadeAll all_pass (end - old.made) reached.told before after old new ⊎ HasMadeFewer all_pass (end - old.made) reached.told before after old new → WasToldStale old.part.kind (own (seat_at old.part (new.made + 1)) after)
+    by : HasMadeAll all_pass (end - old.made) reached.told before after old new
+        ⊎ HasMadeFewer all_pass (end - old.made) reached.told before after old new → WasToldStale old.part.kind (own (seat_at old.part (new.made + 1)) after)
     by (inl all) = absurd (let m = all.made in omega (arith, m, none, left))
     by (inr few) =
         let made = few.made in

@@ -1,7 +1,7 @@
 -- What an audit keeps from entry to entry.
 use Rattle.std.specs.Prelude.{◌≡◌, Bool, true, false, List, ◌∷◌, Option, Some, None, Ok, Err}
 use Rattle.std.specs.declared.result.Result.{Result}
-use Rattle.kube_types.specs.declared.names.LicenceRule.{LicenceRule}
+use Rattle.kube_parts.specs.declared.names.LicenceRule.{LicenceRule}
 use Rattle.call_types.specs.declared.entry.Entry.{Entry}
 use Rattle.call_types.specs.declared.setup.Setup.{Setup}
 use Rattle.binder_model.specs.Run.{Run}

@@ -19,7 +19,8 @@ abbrev pub bare_line : App
 bare_line = on_top (λ s. record s { no_binary_name = true; disable_help_flag = true; disable_version_flag = true }) (new_app (codes "pvbind"))
 
 abbrev pub line : App
-line = with_rule (with_rule (with_rule (with_rule (with_rule bare_line command_rule) (option_rule (codes "workers"))) (option_rule (codes "seed"))) (option_rule (codes "calls"))) (option_rule (codes "budget"))
+line = with_rule (with_rule (with_rule (with_rule (with_rule bare_line command_rule) (option_rule (codes "workers"))) (option_rule (codes "seed")))
+    (option_rule (codes "calls"))) (option_rule (codes "budget"))
 
 -- the matches have the texts of the parts, or the words are outside the grammar
 abbrev pub Matches : List Text → Result ArgMatches WordsError → Type 0

@@ -1,11 +1,11 @@
 -- How many volumes a node may give to claims that are as large as one, and of its class. A choice of this project.
 use Rattle.std.specs.Prelude.{ℕ, suc, ◌+◌, ◌-◌, Bool, false, not, ◌&&◌, List, [], ◌∷◌, Option, Some, None, bytes_eq, nat_le, if◌then◌else◌}
-use Rattle.kube_types.specs.declared.objects.Claim.{Claim as ClaimData}
-use Rattle.kube_types.specs.declared.objects.Node.{Node as NodeData}
-use Rattle.kube_types.specs.declared.objects.Volume.{Volume as VolumeData}
-use Rattle.kube_types.specs.declared.objects.Object.{Object}
-use Rattle.kube_types.specs.Bindings.{class_of_claim, class_of_volume, is_deleting, is_ended}
-use Rattle.kube_types.specs.VolumeIndex.{as_volume}
+use Rattle.kube_objects.specs.declared.objects.Claim.{Claim as ClaimData}
+use Rattle.kube_objects.specs.declared.objects.Node.{Node as NodeData}
+use Rattle.kube_objects.specs.declared.objects.Volume.{Volume as VolumeData}
+use Rattle.kube_objects.specs.declared.objects.Object.{Object}
+use Rattle.kube_objects.specs.Bindings.{class_of_claim, class_of_volume, is_deleting, is_ended}
+use Rattle.volume_index.specs.VolumeIndex.{as_volume}
 use Rattle.label_rules.specs.Selectors.{admits}
 use Rattle.binder_model.specs.Matching.{is_excluded}
 

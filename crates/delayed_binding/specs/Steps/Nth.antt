@@ -1,7 +1,7 @@
 -- The write at a place among the claims that are to be provisioned. A choice of this project.
 use Rattle.std.specs.Prelude.{ℕ, List, Option, Some, None}
-use Rattle.kube_types.specs.declared.key.Key.{Key}
-use Rattle.kube_types.specs.declared.objects.Object.{Object}
+use Rattle.kube_objects.specs.declared.key.Key.{Key}
+use Rattle.kube_objects.specs.declared.objects.Object.{Object}
 use Rattle.call_types.specs.declared.request.Request.{Request}
 use Rattle.delayed_binding.specs.Writes.{node_write}
 

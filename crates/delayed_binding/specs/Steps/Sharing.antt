@@ -1,13 +1,13 @@
 -- How the claims that are not fixed are put in order and get their shares one by one. A choice of this project.
 use Rattle.std.specs.Prelude.{ℕ, suc, ◌≡◌, ◌⊎◌, Bool, true, false, List, [], ◌∷◌, ◌++◌, Option, Some, None, IfSome, if◌then◌else◌}
 use Rattle.std.specs.Ordering.{is_gt}
-use Rattle.kube_types.specs.declared.key.Key.{Key}
-use Rattle.kube_types.specs.declared.objects.Claim.{Claim as ClaimData}
-use Rattle.kube_types.specs.declared.objects.Node.{Node as NodeData}
-use Rattle.kube_types.specs.declared.objects.Object.{Object}
-use Rattle.kube_types.specs.declared.objects.Object.TheVariants.{Claim}
-use Rattle.kube_types.specs.Keys.{key_of}
-use Rattle.kube_types.specs.VolumeIndex.{Index, StandsFor, volumes_in}
+use Rattle.kube_objects.specs.declared.key.Key.{Key}
+use Rattle.kube_objects.specs.declared.objects.Claim.{Claim as ClaimData}
+use Rattle.kube_objects.specs.declared.objects.Node.{Node as NodeData}
+use Rattle.kube_objects.specs.declared.objects.Object.{Object}
+use Rattle.kube_objects.specs.declared.objects.Object.TheVariants.{Claim}
+use Rattle.kube_objects.specs.Keys.{key_of}
+use Rattle.volume_index.specs.VolumeIndex.{Index, StandsFor, volumes_in}
 use Rattle.binder_model.specs.Choice.{AreShares, IsProvisioned, Share, TakesVolume, can_provision, claim_cmp}
 use Rattle.binder_model.specs.Matching.{IsBest, is_excluded}
 use Rattle.volume_match.specs.Passing.{PassedAreExcluded}

@@ -6,12 +6,12 @@ use Rattle.std.proofs.lemmas.Cmp.{tied_itself}
 use Rattle.std.proofs.lemmas.Bool.Decides.{Decides-eqb}
 use Rattle.std.proofs.lemmas.Slice.Eq.{bytes_eq-Decides}
 use Rattle.std.proofs.lemmas.Bool.{and_parts}
-use Rattle.kube_types.specs.declared.uid.Uid.{Uid}
-use Rattle.kube_types.specs.declared.key.Key.{Key}
-use Rattle.kube_types.specs.declared.objects.DataId.{DataId}
-use Rattle.kube_types.specs.declared.objects.Object.TheVariants.{Volume}
-use Rattle.kube_types.specs.Sources.{data_id_of}
-use Rattle.kube_types.proofs.SameKeys.{same_key-Decides}
+use Rattle.kube_parts.specs.declared.uid.Uid.{Uid}
+use Rattle.kube_objects.specs.declared.key.Key.{Key}
+use Rattle.kube_objects.specs.declared.objects.DataId.{DataId}
+use Rattle.kube_objects.specs.declared.objects.Object.TheVariants.{Volume}
+use Rattle.kube_objects.specs.Sources.{data_id_of}
+use Rattle.kube_objects.proofs.SameKeys.{same_key-Decides}
 use Rattle.call_types.specs.declared.entry.Entry.{Entry}
 use Rattle.call_types.specs.declared.request.Request.{Request}
 use Rattle.call_types.specs.declared.request.Request.TheVariants as requests
@@ -37,7 +37,8 @@ by_asked t e h = rw h refl
 
 -- by what was told to be read
 by_read : (t : Topic) (e : Entry) → e.told ≡ true → is_about t (read_topic e.request e.reply) ≡ true → speaks t e ≡ true
-by_read t e told h = by (is_about t (asked_topic e.request)) (is_about t (if_told e.told (read_topic e.request e.reply))) (is_about t (if_told e.told (found_topic e.reply))) (ap (λ b. is_about t (if_told b (read_topic e.request e.reply))) told ∙ h)
+by_read t e told h = by (is_about t (asked_topic e.request)) (is_about t (if_told e.told (read_topic e.request e.reply))) (is_about t
+    (if_told e.told (found_topic e.reply))) (ap (λ b. is_about t (if_told b (read_topic e.request e.reply))) told ∙ h)
   where
     by : (a b d : Bool) → b ≡ true → (a || (b || d)) ≡ true
     by true b d h = refl
@@ -46,7 +47,8 @@ by_read t e told h = by (is_about t (asked_topic e.request)) (is_about t (if_tol
 
 -- by what was told to be found
 by_found : (t : Topic) (e : Entry) → e.told ≡ true → is_about t (found_topic e.reply) ≡ true → speaks t e ≡ true
-by_found t e told h = by (is_about t (asked_topic e.request)) (is_about t (if_told e.told (read_topic e.request e.reply))) (is_about t (if_told e.told (found_topic e.reply))) (ap (λ b. is_about t (if_told b (found_topic e.reply))) told ∙ h)
+by_found t e told h = by (is_about t (asked_topic e.request)) (is_about t (if_told e.told (read_topic e.request e.reply))) (is_about t
+    (if_told e.told (found_topic e.reply))) (ap (λ b. is_about t (if_told b (found_topic e.reply))) told ∙ h)
   where
     by : (a b d : Bool) → d ≡ true → (a || (b || d)) ≡ true
     by true b d h = refl
@@ -84,7 +86,8 @@ told_some true o h = (refl, h)
 told_some false o h = absurd (true≢false (sym h))
 
 take_about : (node : List ℕ) (request : Request) (reply : Reply) → is_some (epoch_told node request reply) ≡ true → is_about (about_name matters.Taken node) (read_topic request reply) ≡ true
-take_about node (requests.TakeNode taken) (replies.Epoch epoch) h = itself (about_name matters.Taken node) (about_name matters.Taken taken) (ap (about_name matters.Taken) ((bytes_eq-Decides taken node).0 (some_true _ epoch h)))
+take_about node (requests.TakeNode taken) (replies.Epoch epoch) h =
+    itself (about_name matters.Taken node) (about_name matters.Taken taken) (ap (about_name matters.Taken) ((bytes_eq-Decides taken node).0 (some_true _ epoch h)))
 take_about node (requests.TakeNode taken) (replies.Done o) h = absurd (true≢false (sym h))
 take_about node (requests.TakeNode taken) (replies.Left o) h = absurd (true≢false (sym h))
 take_about node (requests.TakeNode taken) (replies.Found o) h = absurd (true≢false (sym h))
@@ -170,7 +173,8 @@ one_id a b h =
     λ i. record { driver = driver i; id = id i }
 
 find_about : (id : DataId) (told : Bool) (reply : Reply) → is_some (found_over id told reply) ≡ true → (told ≡ true) × (is_about (about_data matters.Over id) (found_topic reply) ≡ true)
-find_about id true (replies.Found (Volume v)) h = (refl, itself (about_data matters.Over id) (about_data matters.Over (data_id_of v.source)) (ap (about_data matters.Over) (one_id (data_id_of v.source) id (some_true _ v h))))
+find_about id true (replies.Found (Volume v)) h =
+    (refl, itself (about_data matters.Over id) (about_data matters.Over (data_id_of v.source)) (ap (about_data matters.Over) (one_id (data_id_of v.source) id (some_true _ v h))))
 find_about id told reply h = absurd (true≢false (sym h))
 
 pub finds_heard : (id : DataId) → Hears (about_data matters.Over id) (finds id)

@@ -6,14 +6,15 @@ use Rattle.std.specs.Cmp.{IsTotalOrder}
 use Rattle.std.specs.Ordering.{is_eq, ordering_then}
 use Rattle.std.proofs.lemmas.Cmp.{nat_cmp_total, on_total, then_total}
 use Rattle.std.proofs.lemmas.Map.Lookups.{exact_unsigned}
-use Rattle.kube_types.proofs.KeyOrder.{equal_keys, key_cmp_total}
+use Rattle.kube_objects.proofs.KeyOrder.{equal_keys, key_cmp_total}
 use Rattle.evidence_agent.specs.declared.by_place.topics.Matter.{Matter}
 use Rattle.evidence_agent.specs.declared.by_place.topics.Matter.TheVariants as matters
 use Rattle.evidence_agent.specs.declared.by_place.topics.Topic.{Topic}
 use Rattle.evidence_agent.specs.Places.Topics.{matter_index, topic_cmp}
 
 pub topic_cmp_total : IsTotalOrder topic_cmp
-topic_cmp_total = then_total (then_total (on_total (λ (t : Topic). matter_index t.matter) nat_cmp_total) (on_total (λ (t : Topic). t.key) key_cmp_total)) (on_total (λ (t : Topic). t.uid.0) nat_cmp_total)
+topic_cmp_total = then_total (then_total (on_total (λ (t : Topic). matter_index t.matter) nat_cmp_total)
+    (on_total (λ (t : Topic). t.key) key_cmp_total)) (on_total (λ (t : Topic). t.uid.0) nat_cmp_total)
 
 both_equal : (r s : Ordering) → ordering_then r s ≡ Equal → (r ≡ Equal) × (s ≡ Equal)
 both_equal Less s e = absurd (true≢false (sym (ap is_eq e)))

@@ -35,7 +35,8 @@ heard : (told : Bool) (r : Option Topic) (t : Topic) → told ≡ true → is_ab
 heard told r t h = ap (λ b. is_about t (if_told b r)) (sym h)
 
 -- after an entry that was told
-pub told_lasts : (e : Entry) (mine : List Entry) (place : ℕ) (a b d f : List Last) → e.told ≡ true → length mine ≡ place → Puts (asked_topic e.request) place a b → Puts (read_topic e.request e.reply) place b d → Puts (found_topic e.reply) place d f → AreLastsOf a mine → AreLastsOf f (e ∷ mine)
+pub told_lasts : (e : Entry) (mine : List Entry) (place : ℕ) (a b d f : List Last) → e.told ≡ true → length mine ≡ place
+    → Puts (asked_topic e.request) place a b → Puts (read_topic e.request e.reply) place b d → Puts (found_topic e.reply) place d f → AreLastsOf a mine → AreLastsOf f (e ∷ mine)
 told_lasts e mine place a b d f told at first second third all t =
     let asked = is_about t (asked_topic e.request) in
     let read = is_about t (read_topic e.request e.reply) in
@@ -51,7 +52,8 @@ unheard : (told : Bool) (r : Option Topic) (t : Topic) → told ≡ false → fa
 unheard told r t h = ap (λ b. is_about t (if_told b r)) (sym h)
 
 -- after one that was not
-pub lost_lasts : (e : Entry) (mine : List Entry) (place : ℕ) (a b : List Last) → e.told ≡ false → length mine ≡ place → Puts (asked_topic e.request) place a b → AreLastsOf a mine → AreLastsOf b (e ∷ mine)
+pub lost_lasts : (e : Entry) (mine : List Entry) (place : ℕ) (a b : List Last) → e.told ≡ false → length mine ≡ place
+    → Puts (asked_topic e.request) place a b → AreLastsOf a mine → AreLastsOf b (e ∷ mine)
 lost_lasts e mine place a b lost at first all t =
     let asked = is_about t (asked_topic e.request) in
     first t

@@ -1,5 +1,35 @@
 -- An entry at a place, and what is known of those after it.
-use Rattle.std.proofs.Common.{◌≡◌, ℕ, zero, suc, ◌<◌, ◌≤◌, List, [], ◌∷◌, ◌++◌, length, get_or, reverse, Bool, true, false, true≢false, Option, Some, None, inl, inr, refl, sym, ◌∙◌, ap, arith, subst, if◌then◌else◌}
+use Rattle.std.proofs.Common.{
+  ◌≡◌,
+  ℕ,
+  zero,
+  suc,
+  ◌<◌,
+  ◌≤◌,
+  List,
+  [],
+  ◌∷◌,
+  ◌++◌,
+  length,
+  get_or,
+  reverse,
+  Bool,
+  true,
+  false,
+  true≢false,
+  Option,
+  Some,
+  None,
+  inl,
+  inr,
+  refl,
+  sym,
+  ◌∙◌,
+  ap,
+  arith,
+  subst,
+  if◌then◌else◌,
+}
 use Rattle.std.specs.Prelude.{◌⊎◌}
 use Rattle.std.proofs.lemmas.List.{reverse-append}
 use Rattle.call_types.specs.declared.entry.Entry.{Entry}
@@ -30,7 +60,8 @@ one_more (y ∷ ys) x place entry (inr h) = inr (one_more ys x place entry h)
 pub read_stands : (xs : List Entry) (i : ℕ) (d : Entry) → i < length xs → StandsAt (reverse xs) i (get_or xs i d)
 read_stands [] i d h = absurd (omega (arith, h))
 read_stands (x ∷ xs) zero d h = subst (λ ys. StandsAt ys 0 x) (sym (reverse-append (x ∷ []) xs)) (before_all (reverse xs) x)
-read_stands (x ∷ xs) (suc i) d h = subst (λ ys. StandsAt ys (suc i) (get_or xs i d)) (sym (reverse-append (x ∷ []) xs)) (one_more (reverse xs) x i (get_or xs i d) (read_stands xs i d (omega (arith, h))))
+read_stands (x ∷ xs) (suc i) d h = subst (λ ys. StandsAt ys (suc i) (get_or xs i d)) (sym (reverse-append (x ∷ []) xs)) (one_more (reverse xs) x i
+    (get_or xs i d) (read_stands xs i d (omega (arith, h))))
 
 -- of what stands at a place something holds
 pub stands_some : (P : Entry → Type 0) (mine : List Entry) (place : ℕ) (entry : Entry) → StandsAt mine place entry → P entry → SomeOf P mine
@@ -72,7 +103,8 @@ pub last_since : (t : Topic) (q : Entry → Bool) → Hears t q → (mine : List
 last_since t q hears [] place entry is stands = absurd stands
 last_since t q hears (e ∷ mine) place entry is stands = by (speaks t e) refl is stands (last_since t q hears mine place entry)
   where
-    by : (b : Bool) → speaks t e ≡ b → (if b then Some (length mine) else last_of t mine) ≡ Some place → ((length mine ≡ place) × (e ≡ entry)) ⊎ StandsAt mine place entry → (last_of t mine ≡ Some place → StandsAt mine place entry → Since q mine place entry) → Since q (e ∷ mine) place entry
+    by : (b : Bool) → speaks t e ≡ b → (if b then Some (length mine) else last_of t mine) ≡ Some place → ((length mine ≡ place) × (e ≡ entry))
+        ⊎ StandsAt mine place entry → (last_of t mine ≡ Some place → StandsAt mine place entry → Since q mine place entry) → Since q (e ∷ mine) place entry
     by true said last (inl h) rest = subst (Since q (e ∷ mine) place) h.1 (Here e h.0)
     by true said last (inr h) rest = let at = some_place _ _ last in let below = stands_below mine place entry h in absurd (omega (arith, at, below))
     by false said last (inl h) rest = let below = last_below t mine place last in let at = h.0 in absurd (omega (arith, at, below))
@@ -99,6 +131,7 @@ pub last_behind : (t : Topic) (q : Entry → Bool) → Hears t q → (place : �
 last_behind t q hears place [] upto = tt
 last_behind t q hears place (e ∷ mine) upto = by (speaks t e) refl upto (last_behind t q hears place mine)
   where
-    by : (b : Bool) → speaks t e ≡ b → IsUpto place (if b then Some (length mine) else last_of t mine) → (IsUpto place (last_of t mine) → IsQuietBehind q place mine) → (place < length mine → q e ≡ false) × IsQuietBehind q place mine
+    by : (b : Bool) → speaks t e ≡ b → IsUpto place (if b then Some (length mine) else last_of t mine)
+        → (IsUpto place (last_of t mine) → IsQuietBehind q place mine) → (place < length mine → q e ≡ false) × IsQuietBehind q place mine
     by true said last rest = ((λ after. absurd (omega (arith, last, after))), quiet_upto q place mine (omega (arith, last)))
     by false said last rest = ((λ after. is_quiet t q hears e said), rest last)

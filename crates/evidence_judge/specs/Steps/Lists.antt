@@ -1,7 +1,7 @@
 -- For proofs alone: the versions of the lists with which a seat follows the kinds.
 use Rattle.std.specs.Prelude.{ℕ, ◌≡◌, List, Option, Some, None}
-use Rattle.kube_types.specs.declared.parts.Kind.{Kind}
-use Rattle.kube_types.specs.declared.parts.Kind.TheVariants as kinds
+use Rattle.kube_parts.specs.declared.parts.Kind.{Kind}
+use Rattle.kube_parts.specs.declared.parts.Kind.TheVariants as kinds
 use Rattle.call_types.specs.declared.entry.Entry.{Entry}
 use Rattle.binder_model.specs.Reading.{Following, Unlisted, ListedAt, following_of}
 use Rattle.evidence_judge.specs.declared.lists.Lists.{Lists}

@@ -2,10 +2,10 @@
 use Rattle.std.proofs.Common.{◌≡◌, Bool, true, false, true≢false, ◌||◌, List, [], ◌∷◌, Option, Some, None, refl, sym, inl, inr}
 use Rattle.std.proofs.lemmas.Bool.{or_parts, or_from}
 use Rattle.std.specs.List.{list_any}
-use Rattle.kube_types.specs.declared.names.Field.{Field}
-use Rattle.kube_types.specs.declared.names.ImportFault.{ImportFault}
-use Rattle.kube_types.specs.declared.objects.Object.{Object}
-use Rattle.kube_types.specs.Keys.{key_of, meta_of, same_key}
+use Rattle.kube_parts.specs.declared.names.Field.{Field}
+use Rattle.kube_parts.specs.declared.names.ImportFault.{ImportFault}
+use Rattle.kube_objects.specs.declared.objects.Object.{Object}
+use Rattle.kube_objects.specs.Keys.{key_of, meta_of, same_key}
 use Rattle.binder_model.specs.Imports.{fault_if, fault_of_field, holds_of_pair, import_fault, is_ended_for, refers_to_another, shares_uid}
 use Rattle.model_laws.proofs.Lists.{IsIn, none_some}
 use Rattle.field_rules.specs.Stores.Steps.Passing.{clash}

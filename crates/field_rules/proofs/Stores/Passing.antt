@@ -6,11 +6,11 @@ use Rattle.std.proofs.lemmas.List.{append_assoc, map-append}
 use Rattle.std.proofs.lemmas.List.Folds.{list_any-append}
 use Rattle.std.specs.Cmp.{nat_eq_equiv}
 use Rattle.std.specs.List.{list_any}
-use Rattle.kube_types.specs.declared.key.Key.{Key}
-use Rattle.kube_types.specs.declared.names.ImportFault.{ImportFault}
-use Rattle.kube_types.specs.declared.objects.Object.{Object}
-use Rattle.kube_types.specs.Keys.{key_of, meta_of, same_key}
-use Rattle.kube_types.proofs.SameKeys.{same_key_swapped}
+use Rattle.kube_objects.specs.declared.key.Key.{Key}
+use Rattle.kube_parts.specs.declared.names.ImportFault.{ImportFault}
+use Rattle.kube_objects.specs.declared.objects.Object.{Object}
+use Rattle.kube_objects.specs.Keys.{key_of, meta_of, same_key}
+use Rattle.kube_objects.proofs.SameKeys.{same_key_swapped}
 use Rattle.binder_model.specs.Imports.{ImportsPass, PassAfter, import_fault, is_ended_for, refers_to_another, shares_uid}
 use Rattle.model_laws.proofs.Imported.{passed}
 use Rattle.model_laws.proofs.Lists.{IsIn, some_left, some_or, some_right}
@@ -116,7 +116,8 @@ no_more keys uids [] u new there = refl
 no_more keys uids (o ∷ os) u new there =
     let n = and_parts (is_new keys uids o) (come_new (keys ++ key_of o ∷ []) (uids ++ uid_number o ∷ []) os) new in
     let still : list_any (nat_eq u) (uids ++ uid_number o ∷ []) ≡ true = list_any-append (nat_eq u) uids (uid_number o ∷ []) ∙ ap (λ b. b || list_any (nat_eq u) (uid_number o ∷ [])) there in
-    or_from (nat_eq u (uid_number o)) (list_any (nat_eq u) (map uid_number os)) (by (nat_eq u (uid_number o)) refl (new_parts keys uids o n.0).uid) (no_more (keys ++ key_of o ∷ []) (uids ++ uid_number o ∷ []) os u n.1 still)
+    or_from (nat_eq u (uid_number o)) (list_any (nat_eq u) (map uid_number os)) (by (nat_eq u (uid_number o)) refl (new_parts keys uids o n.0).uid)
+    (no_more (keys ++ key_of o ∷ []) (uids ++ uid_number o ∷ []) os u n.1 still)
   where
     by : (b : Bool) → nat_eq u (uid_number o) ≡ b → list_any (nat_eq (uid_number o)) uids ≡ false → b ≡ false
     by true e none = absurd (true≢false (sym there ∙ alike (nat_eq u) (nat_eq (uid_number o)) uids (λ x h. nat_eq_equiv.congr u (uid_number o) x e) ∙ none))
@@ -129,13 +130,15 @@ news_apart keys uids (o ∷ os) new =
     (no_more (keys ++ key_of o ∷ []) (uids ++ uid_number o ∷ []) os (uid_number o) n.1 stands, news_apart (keys ++ key_of o ∷ []) (uids ++ uid_number o ∷ []) os n.1)
   where
     stands : list_any (nat_eq (uid_number o)) (uids ++ uid_number o ∷ []) ≡ true
-    stands = list_any-append (nat_eq (uid_number o)) uids (uid_number o ∷ []) ∙ ap (λ b. list_any (nat_eq (uid_number o)) uids || (b || false)) (nat_eq_equiv.refl (uid_number o)) ∙ or_true (list_any (nat_eq (uid_number o)) uids)
+    stands = list_any-append (nat_eq (uid_number o)) uids (uid_number o ∷ [])
+        ∙ ap (λ b. list_any (nat_eq (uid_number o)) uids || (b || false)) (nat_eq_equiv.refl (uid_number o)) ∙ or_true (list_any (nat_eq (uid_number o)) uids)
 
 -- ---- the answer
 
 any_clash : (imports : List Object) → come_new [] [] imports ≡ true
     → list_any (refers_wrongly (map uid_number imports) imports) imports ≡ list_any (λ v. list_any (clash v) imports) imports
-any_clash imports new = alike (refers_wrongly (map uid_number imports) imports) (λ v. list_any (clash v) imports) imports (λ v h. looked_up imports v (news_apart [] [] imports new) (news_known [] [] imports new))
+any_clash imports new = alike (refers_wrongly (map uid_number imports) imports) (λ v. list_any (clash v) imports) imports (λ v h. looked_up imports v
+    (news_apart [] [] imports new) (news_known [] [] imports new))
 
 pub failing : (imports : List Object) → come_new [] [] imports ≡ false → IsTrue false ↔ ImportsPass imports
 failing imports old = (λ e. absurd (true≢false (sym e)), λ p. sym old ∙ news [] imports (λ a h. absurd h) p)

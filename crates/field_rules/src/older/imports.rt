@@ -3,8 +3,8 @@
 ghost use Rattle.std.specs.Prelude.{◌≡◌, ◌↔◌, ◌++◌, [], ◌∷◌, true, is_some, map, IsTrue, IfOk, IfSome};
 ghost use Rattle.std.specs.List.{list_any};
 ghost use Rattle.std.specs.Option.{option_copied};
-ghost use Rattle.kube_types.specs.Bindings.{ref_uid};
-ghost use Rattle.kube_types.specs.Keys.{key_of};
+ghost use Rattle.kube_objects.specs.Bindings.{ref_uid};
+ghost use Rattle.kube_objects.specs.Keys.{key_of};
 ghost use Rattle.binder_model.specs.Imports.{ImportsPass, reference_of};
 ghost use Rattle.field_rules.specs.Stores.Steps.Passing.{clash, come_new, is_new, referred, refers_wrongly, uid_number};
 

@@ -4,9 +4,9 @@ ghost use Rattle.std.specs.Prelude.{◌≡◌, ◌++◌};
 ghost use Rattle.std.proofs.Common.{ap};
 ghost use Rattle.std.specs.Hash as fed;
 ghost use Rattle.std.specs.Cmp.{partial_equiv_from_equiv};
-ghost use Rattle.kube_types.specs.declared.key.Key.{Key};
-ghost use Rattle.kube_types.specs.Keys.{key_of, kind_index, same_key};
-ghost use Rattle.kube_types.proofs.SameKeys.{same_key-Decides, same_key_equivalence};
+ghost use Rattle.kube_objects.specs.declared.key.Key.{Key};
+ghost use Rattle.kube_objects.specs.Keys.{key_of, kind_index, same_key};
+ghost use Rattle.kube_objects.proofs.SameKeys.{same_key-Decides, same_key_equivalence};
 
 use crate::has_same_key;
 use kube_types::key::{kind_index, kind_of, meta_of};
@@ -26,8 +26,8 @@ impl<'o> Drop for Named<'o> {
 }
 
 impl<'o> Model for Named<'o> {
-    ghost use Rattle.kube_types.specs.declared.key.Key.{Key};
-    ghost use Rattle.kube_types.specs.Keys.{key_of};
+    ghost use Rattle.kube_objects.specs.declared.key.Key.{Key};
+    ghost use Rattle.kube_objects.specs.Keys.{key_of};
 
     ghost Value = { Key };
 

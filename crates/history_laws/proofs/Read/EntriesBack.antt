@@ -5,7 +5,7 @@ use Rattle.serde_json.specs.Data.{no_members}
 use Rattle.json_text.specs.Build.{number_data}
 use Rattle.json_text.specs.Members.{filled_array, object_of}
 use Rattle.json_text.proofs.PutAll.{get-put_all}
-use Rattle.kube_types.specs.declared.objects.Object.{Object}
+use Rattle.kube_objects.specs.declared.objects.Object.{Object}
 use Rattle.call_types.specs.declared.request.SeatKind.{SeatKind}
 use Rattle.call_types.specs.declared.request.SeatKind.TheVariants as seats
 use Rattle.call_types.specs.declared.entry.Entry.{Entry}
@@ -45,7 +45,8 @@ number_back n is = refl
 abbrev pool : List ℕ → List ℕ → ℕ → Option (List ℕ × List ℕ) → Pool
 pool name provisioner bytes topology = record { name = name; provisioner = provisioner; bytes = bytes; topology = topology }
 
-pool_found : (name provisioner : List ℕ) (bytes : ℕ) (topology : Option (List ℕ × List ℕ)) → pool_at (shown (pool_pairs (pool name provisioner bytes topology))) ≡ Some (pool name provisioner bytes topology)
+pool_found : (name provisioner : List ℕ) (bytes : ℕ) (topology : Option (List ℕ × List ℕ))
+    → pool_at (shown (pool_pairs (pool name provisioner bytes topology))) ≡ Some (pool name provisioner bytes topology)
 pool_found name provisioner bytes None = refl
 pool_found name provisioner bytes (Some t) = refl
 
@@ -66,7 +67,13 @@ parts_back : (s : Setup) → IsSetup s → parts_in (object_of (setup_pairs s)) 
 unfolding parts_in
 parts_back s is =
     ap parts_at (looked (setup_pairs s))
-    ∙ rw (list_back number_in number_data IsNumber number_back s.faults is.faults, imports_back s.imports is.imports, list_back pool_in pool_data IsPool pool_back s.pools is.pools, is.rising, passes_back [] s.imports is.passing) refl
+    ∙ rw (
+      list_back number_in number_data IsNumber number_back s.faults is.faults,
+      imports_back s.imports is.imports,
+      list_back pool_in pool_data IsPool pool_back s.pools is.pools,
+      is.rising,
+      passes_back [] s.imports is.passing,
+    ) refl
 
 pub setup_back : (s : Setup) → IsSetup s → setup_in (setup_data s) ≡ Some s
 unfolding setup_in setup_data

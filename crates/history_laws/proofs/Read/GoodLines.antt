@@ -8,9 +8,9 @@ use Rattle.json_text.specs.Build.{number_data, Good, GoodItems, GoodOption, Good
 use Rattle.json_text.specs.Members.{text, items_data, array_data, filled_array, pairs_data, object_of}
 use Rattle.json_text.proofs.Good.{deeper, good_append, good_array, good_boolean, good_item, good_items, good_none, good_number, good_object, good_object_of, good_string}
 use Rattle.plain_data.specs.Pairs.{Pair}
-use Rattle.kube_types.specs.declared.uid.Uid.{Uid}
-use Rattle.kube_types.specs.declared.key.Key.{Key}
-use Rattle.kube_types.specs.declared.objects.Object.{Object}
+use Rattle.kube_parts.specs.declared.uid.Uid.{Uid}
+use Rattle.kube_objects.specs.declared.key.Key.{Key}
+use Rattle.kube_objects.specs.declared.objects.Object.{Object}
 use Rattle.call_types.specs.declared.request.NewStatus.{NewStatus}
 use Rattle.call_types.specs.declared.request.NewStatus.TheVariants as statuses
 use Rattle.call_types.specs.declared.request.Request.{Request}
@@ -136,7 +136,10 @@ good_reply r is = good_object_of 129 (reply_pairs r) (good_reply_pairs r is)
 
 pub good_entry : (e : Entry) → IsNumber e.seat → IsRequest e.request → IsReply e.reply → Good 131 (entry_data e)
 unfolding entry_data
-good_entry e seat request reply = good_object_of 130 (entry_pairs e) (deeper (deeper (good_request e.request request)), (good_string, (good_reply e.reply reply, (good_number e.seat seat, (good_boolean e.told, tt)))))
+good_entry e seat request reply = good_object_of 130 (entry_pairs e) (
+  deeper (deeper (good_request e.request request)),
+  (good_string, (good_reply e.reply reply, (good_number e.seat seat, (good_boolean e.told, tt)))),
+)
 
 pub entry_good : (e : Entry) → IsEntry e → Good 131 (entry_data e)
 entry_good e is = good_entry e is.seat is.request is.reply

@@ -9,14 +9,14 @@ use Rattle.json_text.specs.Build.{number_data, pick}
 use Rattle.json_text.specs.Members.{MemberList, text, filled, items_data, pairs_data, object_of}
 use Rattle.json_text.proofs.PutAll.{get-put_all}
 use Rattle.plain_data.specs.Pairs.{Pair, ArePairs}
-use Rattle.kube_types.specs.Words.{kind_word}
-use Rattle.kube_types.proofs.NamedWords.{kinds_inverse}
-use Rattle.kube_types.proofs.UidTexts.{reads_back}
-use Rattle.kube_types.specs.declared.key.Key.{Key}
-use Rattle.kube_types.specs.declared.uid.Uid.{Uid}
-use Rattle.kube_types.specs.declared.parts.Modes.{Modes}
-use Rattle.kube_types.specs.declared.objects.Amount.{Amount}
-use Rattle.kube_types.specs.declared.objects.Object.{Object}
+use Rattle.kube_parts.specs.Words.{kind_word}
+use Rattle.kube_parts.proofs.NamedWords.{kinds_inverse}
+use Rattle.kube_parts.proofs.UidTexts.{reads_back}
+use Rattle.kube_objects.specs.declared.key.Key.{Key}
+use Rattle.kube_parts.specs.declared.uid.Uid.{Uid}
+use Rattle.kube_parts.specs.declared.parts.Modes.{Modes}
+use Rattle.kube_objects.specs.declared.objects.Amount.{Amount}
+use Rattle.kube_objects.specs.declared.objects.Object.{Object}
 use Rattle.object_print.specs.Metadata.{uid_data}
 use Rattle.object_print.specs.Parts.{modes_data}
 use Rattle.object_print.specs.Objects.{object_data}
@@ -28,7 +28,22 @@ use Rattle.object_laws.proofs.Back.{object_back}
 use Rattle.object_laws.proofs.PartsBack.{modes_items, pairs_back}
 use Rattle.history_text.specs.Requests.{amount_text}
 use Rattle.history_lines.specs.Answers.{◌>>=◌, taken}
-use Rattle.history_lines.specs.Members.{Look, look_in, filled_from, some_text_from, some_number_from, uid_in, some_uid_from, quantity_in, some_amount_from, object_in, items_from, modes_at, some_labels_from, key_at}
+use Rattle.history_lines.specs.Members.{
+  Look,
+  look_in,
+  filled_from,
+  some_text_from,
+  some_number_from,
+  uid_in,
+  some_uid_from,
+  quantity_in,
+  some_amount_from,
+  object_in,
+  items_from,
+  modes_at,
+  some_labels_from,
+  key_at,
+}
 
 -- the members of an object that is printed from a list
 abbrev pub shown : MemberList → Look
@@ -76,14 +91,16 @@ some_amount_back (Some a) is = next (λ v. Some (Some v)) (quantity_back a is)
 pub object_again : (o : Object) → IsGivenObject o → object_in (object_data o) ≡ Some o
 object_again o is = ap taken (object_back o is)
 
-items_back : {X : Type 0} (read : Data → Option X) (data_of : X → Data) (P : X → Type 0) → ((x : X) → P x → read (data_of x) ≡ Some x) → (xs found : List X) → All P xs → items_from read (items_data data_of xs) found ≡ Some (found ++ xs)
+items_back : {X : Type 0} (read : Data → Option X) (data_of : X → Data) (P : X → Type 0) → ((x : X) → P x → read (data_of x) ≡ Some x)
+    → (xs found : List X) → All P xs → items_from read (items_data data_of xs) found ≡ Some (found ++ xs)
 items_back read data_of P back [] found is = ap Some (sym (append-nil found))
 items_back read data_of P back (x ∷ xs) found is =
     next (λ y. items_from read (items_data data_of xs) (found ++ y ∷ [])) (back x (All-head P x xs is))
     ∙ items_back read data_of P back xs (found ++ x ∷ []) (All-tail P x xs is)
     ∙ ap Some (append_assoc found (x ∷ []) xs)
 
-pub list_back : {X : Type 0} (read : Data → Option X) (data_of : X → Data) (P : X → Type 0) → ((x : X) → P x → read (data_of x) ≡ Some x) → (xs : List X) → All P xs → items_from read (items_data data_of xs) [] ≡ Some xs
+pub list_back : {X : Type 0} (read : Data → Option X) (data_of : X → Data) (P : X → Type 0) → ((x : X) → P x → read (data_of x) ≡ Some x)
+    → (xs : List X) → All P xs → items_from read (items_data data_of xs) [] ≡ Some xs
 list_back read data_of P back xs is = items_back read data_of P back xs [] is
 
 pub modes_again : (m : Modes) (k : List ℕ) (look : Look) → look k ≡ Some (modes_data m) → modes_at k look ≡ Some m

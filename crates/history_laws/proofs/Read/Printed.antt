@@ -37,7 +37,8 @@ ends_here part parts found all is same rest ends joins = record {
   text = joins ∙ ap (λ p. p ++ rest) ((bytes_eq-Decides part (codes "end")).0 is);
 }
 
-one_more : (part next : List ℕ) (parts : List (List ℕ)) (found all : List Entry) (e : Entry) → in_line entry_of part ≡ Ok e → AreRead (next ∷ parts) (found ++ e ∷ []) all → AreRead (part ∷ next ∷ parts) found all
+one_more : (part next : List ℕ) (parts : List (List ℕ)) (found all : List Entry) (e : Entry) → in_line entry_of part ≡ Ok e
+    → AreRead (next ∷ parts) (found ++ e ∷ []) all → AreRead (part ∷ next ∷ parts) found all
 one_more part next parts found all e is r = record {
   entries = e ∷ r.entries;
   rest = r.rest;
@@ -61,7 +62,8 @@ entries_are n [] found all h = absurd (cc)
 entries_are n ([] ∷ []) found all h = absurd (cc)
 entries_are n ((b ∷ bs) ∷ []) found all h = by (bytes_eq (b ∷ bs) (codes "end")) refl h
   where
-    by : (t : Bool) → bytes_eq (b ∷ bs) (codes "end") ≡ t → (if t then Ok found else at_line n (in_line entry_of (b ∷ bs)) (λ e. refused_line (n + 1) MissingEnd)) ≡ Ok all → AreRead ((b ∷ bs) ∷ []) found all
+    by : (t : Bool) → bytes_eq (b ∷ bs) (codes "end") ≡ t
+        → (if t then Ok found else at_line n (in_line entry_of (b ∷ bs)) (λ e. refused_line (n + 1) MissingEnd)) ≡ Ok all → AreRead ((b ∷ bs) ∷ []) found all
     by true is same = ends_here (b ∷ bs) [] found all is (same_ok found all same) [] tt (sym (append-nil (b ∷ bs)))
     by false is same = absurd (no_end n (in_line entry_of (b ∷ bs)) all same)
 entries_are n (part ∷ next ∷ parts) found all h = by (bytes_eq part (codes "end")) (in_line entry_of part) refl refl (λ e k. entries_are (n + 1) (next ∷ parts) (found ++ e ∷ []) all k) h
@@ -80,7 +82,8 @@ record HasRead (parts : List (List ℕ)) (h : History) : Type 0 where
   pub ends : IsRest rest
   pub text : join_with_byte 10 parts ≡ joined (lines_before_end h.setup h.entries) ++ (codes "end" ++ rest)
 
-setup_step : (line next : List ℕ) (parts : List (List ℕ)) (s : Setup) (es : List Entry) → in_line setup_of line ≡ Ok s → AreRead (next ∷ parts) [] es → HasRead (line ∷ next ∷ parts) (record { setup = s; entries = es })
+setup_step : (line next : List ℕ) (parts : List (List ℕ)) (s : Setup) (es : List Entry) → in_line setup_of line ≡ Ok s → AreRead (next ∷ parts) [] es
+    → HasRead (line ∷ next ∷ parts) (record { setup = s; entries = es })
 setup_step line next parts s es is r = record {
   rest = r.rest;
   ends = r.ends;
@@ -104,7 +107,8 @@ history_is ([] ∷ []) h is = absurd (cc)
 history_is ((b ∷ bs) ∷ []) h is = absurd (alone (in_line setup_of (b ∷ bs)) h is)
 history_is (line ∷ next ∷ parts) h is = by (in_line setup_of line) refl is
   where
-    go : (s : Setup) → in_line setup_of line ≡ Ok s → (es : List Entry) → entries_from 2 (lines_in (next ∷ parts)) [] ≡ Ok es → (k : History) → record { setup = s; entries = es } ≡ k → HasRead (line ∷ next ∷ parts) k
+    go : (s : Setup) → in_line setup_of line ≡ Ok s → (es : List Entry) → entries_from 2 (lines_in (next ∷ parts)) [] ≡ Ok es → (k : History)
+        → record { setup = s; entries = es } ≡ k → HasRead (line ∷ next ∷ parts) k
     go s read es entries k same = subst (λ x. HasRead (line ∷ next ∷ parts) x) same (setup_step line next parts s es read (entries_are 2 (next ∷ parts) [] es entries))
 
     by : (r : Result Setup Reason) → in_line setup_of line ≡ r → at_line 1 r (λ s. with_setup s (entries_from 2 (lines_in (next ∷ parts)) [])) ≡ Ok h → HasRead (line ∷ next ∷ parts) h

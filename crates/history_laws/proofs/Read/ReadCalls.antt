@@ -3,7 +3,7 @@ use Rattle.std.proofs.Common.{Option, Some, None, IfSome, codes}
 use Rattle.std.specs.List.{All}
 use Rattle.serde_json.specs.Data.{Data}
 use Rattle.plain_data.specs.Pairs.{ArePairs}
-use Rattle.kube_types.specs.Named.{volume_phase_named, claim_phase_named}
+use Rattle.kube_parts.specs.Named.{volume_phase_named, claim_phase_named}
 use Rattle.object_laws.specs.Given.{IsGivenObject, IsAmount, IsUid}
 use Rattle.history_lines.specs.declared.words.AskWord.{AskWord}
 use Rattle.history_lines.specs.declared.words.AskWord.TheVariants as asks
@@ -12,11 +12,50 @@ use Rattle.history_lines.specs.declared.words.ReplyWord.TheVariants as words
 use Rattle.history_lines.specs.declared.words.RefusalWord.{RefusalWord}
 use Rattle.history_lines.specs.declared.words.RefusalWord.TheVariants as names
 use Rattle.history_lines.specs.Words.{ask_named, replied_word, all_replies, refusal_named, change_named, field_named, rule_named}
-use Rattle.history_lines.specs.Members.{Look, look_in, standing, text_at, some_text_at, number_at, some_number_at, flag_at, uid_in, uid_at, some_uid_at, some_amount_at, object_in, object_at, list_at, modes_at, some_labels_at, kind_at, key_at, data_id_at, some_topology_at}
+use Rattle.history_lines.specs.Members.{
+  Look,
+  look_in,
+  standing,
+  text_at,
+  some_text_at,
+  number_at,
+  some_number_at,
+  flag_at,
+  uid_in,
+  uid_at,
+  some_uid_at,
+  some_amount_at,
+  object_in,
+  object_at,
+  list_at,
+  modes_at,
+  some_labels_at,
+  kind_at,
+  key_at,
+  data_id_at,
+  some_topology_at,
+}
 use Rattle.history_lines.specs.Requests.{edit_at, status_from, status_at, request_by, request_in}
 use Rattle.history_lines.specs.Replies.{event_in, mounted_in, refusal_by, refusal_at, reply_by, reply_in}
 use Rattle.history_laws.specs.Read.Given.{IsNumber, IsStatus, IsRequest, IsEvent, IsMountRow, IsRefusal, IsReply}
-use Rattle.history_laws.proofs.Read.ReadParts.{step, past, IsRead, AllRead, looks, number_at_given, IsSomeNumber, some_number_given, uid_in_given, uid_at_given, some_uid_given, some_amount_given, object_in_given, object_at_given, list_at_given, some_labels_given}
+use Rattle.history_laws.proofs.Read.ReadParts.{
+  step,
+  past,
+  IsRead,
+  AllRead,
+  looks,
+  number_at_given,
+  IsSomeNumber,
+  some_number_given,
+  uid_in_given,
+  uid_at_given,
+  some_uid_given,
+  some_amount_given,
+  object_in_given,
+  object_at_given,
+  list_at_given,
+  some_labels_given,
+}
 
 -- ---- requests
 

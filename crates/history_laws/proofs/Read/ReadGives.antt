@@ -5,7 +5,7 @@ use Rattle.std.specs.Str.{is_utf8}
 use Rattle.std.proofs.lemmas.List.Elements.{All-nil, All-cons, All-append, All-head, All-tail}
 use Rattle.serde_json.specs.Data.{Data, depth}
 use Rattle.serde_json.specs.Read.{read}
-use Rattle.kube_types.specs.declared.objects.Object.{Object}
+use Rattle.kube_objects.specs.declared.objects.Object.{Object}
 use Rattle.call_types.specs.declared.entry.Entry.{Entry}
 use Rattle.call_types.specs.declared.setup.Pool.{Pool}
 use Rattle.call_types.specs.declared.setup.Setup.{Setup}
@@ -155,7 +155,8 @@ setup_given line s h =
 entries_given : (n : ℕ) (lines : List (List ℕ)) (found : List Entry) → All IsTold found → IfOk (entries_from n lines found) (All IsTold)
 entries_given n [] found h = tt
 entries_given n (line ∷ lines) found h =
-    by (bytes_eq line (codes "end")) (in_line entry_of line) refl (λ e is. entries_given (n + 1) lines (found ++ e ∷ []) (All-append IsTold found (e ∷ []) h (All-cons IsTold e [] is (All-nil IsTold))))
+    by (bytes_eq line (codes "end")) (in_line entry_of line) refl
+    (λ e is. entries_given (n + 1) lines (found ++ e ∷ []) (All-append IsTold found (e ∷ []) h (All-cons IsTold e [] is (All-nil IsTold))))
   where
     by : (b : Bool) (r : Result Entry Reason) → in_line entry_of line ≡ r
         → ((e : Entry) → IsTold e → IfOk (entries_from (n + 1) lines (found ++ e ∷ [])) (All IsTold))

@@ -13,8 +13,8 @@ use Rattle.json_text.proofs.ReadValues.{canonical-read}
 use Rattle.quantity_text.specs.declared.errors.AmountError.{AmountError}
 use Rattle.quantity_text.specs.Quantity.{amount_of}
 use Rattle.plain_data.specs.Pairs.{ArePairs}
-use Rattle.kube_types.specs.Uids.{uid_of_text}
-use Rattle.kube_types.proofs.UidFits.{uid_fits}
+use Rattle.kube_parts.specs.Uids.{uid_of_text}
+use Rattle.kube_parts.proofs.UidFits.{uid_fits}
 use Rattle.object_text.specs.declared.errors.ObjectError.{ObjectError}
 use Rattle.object_text.specs.declared.errors.Member.TheVariants as members
 use Rattle.object_text.specs.MemberReaders.{pairs_in, pairs_or_none}
@@ -25,7 +25,30 @@ use Rattle.object_laws.proofs.GivesParts.{past as then_past, pairs_given}
 use Rattle.object_laws.proofs.Gives.{IsSound, sound_given}
 use Rattle.object_laws.proofs.PartsRead.{IsTaken, AreTaken, HasTakenParts, taken_reads, taken_parts, taken_member}
 use Rattle.history_lines.specs.Answers.{◌>>=◌, taken}
-use Rattle.history_lines.specs.Members.{Look, look_in, number_in, number_at, some_number_from, some_number_at, uid_in, uid_at, some_uid_from, some_uid_at, quantity_in, some_amount_from, some_amount_at, object_in, object_at, items_from, list_in, list_at, some_list_from, some_list_at, some_labels_from, some_labels_at}
+use Rattle.history_lines.specs.Members.{
+  Look,
+  look_in,
+  number_in,
+  number_at,
+  some_number_from,
+  some_number_at,
+  uid_in,
+  uid_at,
+  some_uid_from,
+  some_uid_at,
+  quantity_in,
+  some_amount_from,
+  some_amount_at,
+  object_in,
+  object_at,
+  items_from,
+  list_in,
+  list_at,
+  some_list_from,
+  some_list_at,
+  some_labels_from,
+  some_labels_at,
+}
 use Rattle.history_laws.specs.Read.Given.{IsNumber}
 
 -- ---- steps of a reader
@@ -140,10 +163,12 @@ object_in_given d t = of_taken IsGivenObject (object_of d) (sound_given d (sound
 pub object_at_given : (k : List ℕ) (m : Look) → AllRead m → IfSome (object_at k m) IsGivenObject
 object_at_given k m all = step IsRead IsGivenObject (m k) object_in (all k) object_in_given
 
-items_given : {X : Type 0} (read : Data → Option X) (P : X → Type 0) → ((d : Data) → IsRead d → IfSome (read d) P) → (ds : Items) → AreTaken 126 ds → (found : List X) → All P found → IfSome (items_from read ds found) (All P)
+items_given : {X : Type 0} (read : Data → Option X) (P : X → Type 0) → ((d : Data) → IsRead d → IfSome (read d) P) → (ds : Items) → AreTaken 126 ds
+    → (found : List X) → All P found → IfSome (items_from read ds found) (All P)
 items_given read P each no_items t found h = h
 items_given read P each (item d ds) t found h =
-    step P (All P) (read d) (λ x. items_from read ds (found ++ x ∷ [])) (each d (weaker d t.0)) (λ x is. items_given read P each ds t.1 (found ++ x ∷ []) (All-append P found (x ∷ []) h (All-cons P x [] is (All-nil P))))
+    step P (All P) (read d) (λ x. items_from read ds (found ++ x ∷ [])) (each d (weaker d t.0))
+    (λ x is. items_given read P each ds t.1 (found ++ x ∷ []) (All-append P found (x ∷ []) h (All-cons P x [] is (All-nil P))))
 
 list_given : {X : Type 0} (read : Data → Option X) (P : X → Type 0) → ((d : Data) → IsRead d → IfSome (read d) P) → (o : Option Data) → IfSome o IsRead → IfSome (list_in read o) (All P)
 list_given read P each None t = tt
@@ -157,7 +182,8 @@ list_given read P each (Some (object ms)) t = tt
 pub list_at_given : {X : Type 0} (read : Data → Option X) (P : X → Type 0) → ((d : Data) → IsRead d → IfSome (read d) P) → (k : List ℕ) (m : Look) → AllRead m → IfSome (list_at read k m) (All P)
 list_at_given read P each k m all = list_given read P each (m k) (all k)
 
-pub some_list_given : {X : Type 0} (read : Data → Option X) (P : X → Type 0) → ((d : Data) → IsRead d → IfSome (read d) P) → (k : List ℕ) (m : Look) → AllRead m → IfSome (some_list_at read k m) (All P)
+pub some_list_given : {X : Type 0} (read : Data → Option X) (P : X → Type 0) → ((d : Data) → IsRead d → IfSome (read d) P) → (k : List ℕ) (m : Look)
+    → AllRead m → IfSome (some_list_at read k m) (All P)
 some_list_given {X = X} read P each k m all = by (m k) (all k)
   where
     by : (o : Option Data) → IfSome o IsRead → IfSome (some_list_from read o) (All P)

@@ -1,8 +1,8 @@
 -- What is printed of a request is read again.
 use Rattle.std.proofs.Common.{◌≡◌, ℕ, List, ◌∷◌, Option, Some, codes, refl, ap, ◌∙◌}
 use Rattle.json_text.specs.Members.{MemberList, text}
-use Rattle.kube_types.proofs.NamedWords.{kinds_inverse, policies_inverse, volume_phases_inverse, claim_phases_inverse}
-use Rattle.kube_types.specs.declared.key.Key.{Key}
+use Rattle.kube_parts.proofs.NamedWords.{kinds_inverse, policies_inverse, volume_phases_inverse, claim_phases_inverse}
+use Rattle.kube_objects.specs.declared.key.Key.{Key}
 use Rattle.call_types.specs.declared.edit.Edit.{Edit}
 use Rattle.call_types.specs.declared.edit.Edit.TheVariants as edits
 use Rattle.call_types.specs.declared.request.NewStatus.{NewStatus}
@@ -16,7 +16,21 @@ use Rattle.history_lines.specs.Answers.{◌>>=◌}
 use Rattle.history_lines.specs.Members.{Look, look_in, some_number_at, key_at, uid_in}
 use Rattle.history_lines.specs.Requests.{two_texts_in, edit_at, edit_request_at, status_at, update_status_at, request_at, request_in}
 use Rattle.history_laws.specs.Read.Given.{IsStatus, IsRequest}
-use Rattle.history_laws.proofs.Read.Members.{shown, looked, next, some_text_back, some_number_back, uid_back, some_uid_back, some_amount_back, object_again, list_back, modes_again, some_labels_back, key_back}
+use Rattle.history_laws.proofs.Read.Members.{
+  shown,
+  looked,
+  next,
+  some_text_back,
+  some_number_back,
+  uid_back,
+  some_uid_back,
+  some_amount_back,
+  object_again,
+  list_back,
+  modes_again,
+  some_labels_back,
+  key_back,
+}
 
 -- the members of a request
 abbrev ask_pairs : Request → MemberList

@@ -56,11 +56,13 @@ lines_are text s es is h =
 
 -- ---- entries
 
-go_on : (n : ℕ) (e : Entry) (lines : List (List ℕ)) (found : List Entry) → IsEntry e → IsShallow e → IsLineToRead (entry_line e) → entries_from n (entry_line e ∷ lines) found ≡ entries_from (n + 1) lines (found ++ e ∷ [])
+go_on : (n : ℕ) (e : Entry) (lines : List (List ℕ)) (found : List Entry) → IsEntry e → IsShallow e → IsLineToRead (entry_line e)
+    → entries_from n (entry_line e ∷ lines) found ≡ entries_from (n + 1) lines (found ++ e ∷ [])
 go_on n e lines found is shallow fine =
     rw (not_end e) (ap (λ r. at_line n r (λ x. entries_from (n + 1) lines (found ++ x ∷ []))) (line_in entry_of (entry_line e) e fine.short (entry_read e is shallow fine.utf8)))
 
-entries_read : (n : ℕ) (es : List Entry) (lines : List (List ℕ)) (found : List Entry) → All IsEntry es → All IsShallow es → All IsLineToRead (map entry_line es) → entries_from n (map entry_line es ++ codes "end" ∷ lines) found ≡ Ok (found ++ es)
+entries_read : (n : ℕ) (es : List Entry) (lines : List (List ℕ)) (found : List Entry) → All IsEntry es → All IsShallow es
+    → All IsLineToRead (map entry_line es) → entries_from n (map entry_line es ++ codes "end" ∷ lines) found ≡ Ok (found ++ es)
 entries_read n [] lines found is shallow fine = ap Ok (sym (append-nil found))
 entries_read n (e ∷ es) lines found is shallow fine =
     go_on n e (map entry_line es ++ codes "end" ∷ lines) found (All-head IsEntry e es is) (All-head IsShallow e es shallow) (All-head IsLineToRead (entry_line e) (map entry_line es) fine)
@@ -75,7 +77,8 @@ text_is_read text s es is shallow fine h =
     let others : All IsLineToRead (map entry_line es) = All-tail IsLineToRead (setup_line s) (map entry_line es) fine in
     let last = end_first h.0 h.1 in
     ap history_in (lines_are text s es is h ∙ ap (λ l. setup_line s ∷ (map entry_line es ++ l)) last.1)
-    ∙ ap (λ r. at_line 1 r (λ x. with_setup x (entries_from 2 (map entry_line es ++ codes "end" ∷ last.0) []))) (line_in setup_of (setup_line s) s own.short (setup_read s is.setup shallow.setup own.utf8))
+    ∙ ap (λ r. at_line 1 r (λ x. with_setup x (entries_from 2 (map entry_line es ++ codes "end" ∷ last.0) [])))
+    (line_in setup_of (setup_line s) s own.short (setup_read s is.setup shallow.setup own.utf8))
     ∙ ap (with_setup s) (entries_read 2 es last.0 [] is.entries shallow.entries others)
 
 pub printed_text : (s : Setup) (es : List Entry) (more : List ℕ) → IsTextOf (history_text s es ++ more) s es

@@ -4,17 +4,17 @@ use Rattle.std.specs.Prelude.{◌≡◌, ℕ, Bool, true, false, List, [], ◌�
 use Rattle.std.proofs.lemmas.List.Elements.{All-nil, All-cons, All-head, All-tail, All-append}
 use Rattle.plain_data.specs.Pairs.{Pair, ArePairs}
 use Rattle.quantity_text.proofs.Accepted.{amounts_are_of_the_grammar}
-use Rattle.kube_types.specs.declared.uid.Uid.{Uid}
-use Rattle.kube_types.specs.declared.key.Key.{Key}
-use Rattle.kube_types.specs.declared.parts.ClaimPhase.{ClaimPhase}
-use Rattle.kube_types.specs.declared.parts.ClaimPhase.TheVariants as claims
-use Rattle.kube_types.specs.declared.parts.Modes.{Modes}
-use Rattle.kube_types.specs.declared.objects.Meta.{Meta}
-use Rattle.kube_types.specs.declared.objects.Amount.{Amount}
-use Rattle.kube_types.specs.declared.objects.Volume.{Volume as VolumeData}
-use Rattle.kube_types.specs.declared.objects.Claim.{Claim as ClaimData}
-use Rattle.kube_types.specs.declared.objects.Object.TheVariants.{Node, Volume, Claim, Pod}
-use Rattle.kube_types.specs.Bindings.{selected_node, ref_uid, is_completed, is_protected_volume, is_protected_claim}
+use Rattle.kube_parts.specs.declared.uid.Uid.{Uid}
+use Rattle.kube_objects.specs.declared.key.Key.{Key}
+use Rattle.kube_parts.specs.declared.parts.ClaimPhase.{ClaimPhase}
+use Rattle.kube_parts.specs.declared.parts.ClaimPhase.TheVariants as claims
+use Rattle.kube_parts.specs.declared.parts.Modes.{Modes}
+use Rattle.kube_objects.specs.declared.objects.Meta.{Meta}
+use Rattle.kube_objects.specs.declared.objects.Amount.{Amount}
+use Rattle.kube_objects.specs.declared.objects.Volume.{Volume as VolumeData}
+use Rattle.kube_objects.specs.declared.objects.Claim.{Claim as ClaimData}
+use Rattle.kube_objects.specs.declared.objects.Object.TheVariants.{Node, Volume, Claim, Pod}
+use Rattle.kube_objects.specs.Bindings.{selected_node, ref_uid, is_completed, is_protected_volume, is_protected_claim}
 use Rattle.call_types.specs.declared.entry.Entry.{Entry}
 use Rattle.call_types.specs.declared.request.NewStatus.TheVariants as statuses
 use Rattle.call_types.specs.declared.request.SeatKind.{SeatKind}
@@ -29,7 +29,22 @@ use Rattle.binder_model.specs.OpsLicence.{AreLabels, MayProvision, MayCreate, Is
 use Rattle.binder_model.specs.SchedulerLicence.{MaySelectNode, MayAssign}
 use Rattle.binder_model.specs.AgentLicence.{IsReadReady, AreReadReady, IsReadyPod, WasShownReady, since_epoch, IsEndingPod}
 use Rattle.binder_model.specs.Reading.{MayRead}
-use Rattle.binder_model.specs.Licence.{AtVolume, AtClaim, AtVolumeKey, AtClaimKey, ClaimMay, ClaimPhaseMay, MayDeleteVolume, RowAllows, VolumeMay, binder_claim, binder_claim_phase, binder_volume, claim_guard, volume_guard}
+use Rattle.binder_model.specs.Licence.{
+  AtVolume,
+  AtClaim,
+  AtVolumeKey,
+  AtClaimKey,
+  ClaimMay,
+  ClaimPhaseMay,
+  MayDeleteVolume,
+  RowAllows,
+  VolumeMay,
+  binder_claim,
+  binder_claim_phase,
+  binder_volume,
+  claim_guard,
+  volume_guard,
+}
 use Rattle.object_laws.specs.Given.{IsUid, IsMeta, IsAmount, IsVolume, IsClaim}
 use Rattle.history_laws.specs.Read.Given.{IsNumber, IsRequest, IsEntry}
 use Rattle.history_laws.specs.Runs.Laws.{LicensedAskGiven}
@@ -102,7 +117,8 @@ writes_claim : (done : Bool) (mine : List Entry) (new o : ClaimData) → All IsE
 writes_claim true mine new o all h row = completes mine o new all h row
 writes_claim false mine new o all h row = assigns_class mine o new h row
 
-shows : (phase : ClaimPhase) (mine : List Entry) (modes : Modes) (amount : Option Amount) (o : ClaimData) → All IsEntry mine → IsClaim o → ClaimPhaseMay (binder_claim_phase phase) mine modes amount o → IfSome amount IsAmount
+shows : (phase : ClaimPhase) (mine : List Entry) (modes : Modes) (amount : Option Amount) (o : ClaimData) → All IsEntry mine → IsClaim o
+    → ClaimPhaseMay (binder_claim_phase phase) mine modes amount o → IfSome amount IsAmount
 shows claims.Bound mine modes amount o all h row =
     let r = told_volume (IsShown o modes amount) mine all row.told in
     subst (λ (a : Option Amount). IfSome a IsAmount) (sym r.1.0.same_amount) r.1.1.amount
@@ -124,7 +140,8 @@ labels_given mine c true labels all h =
     let node = newest_given mine (node_key h.0) (Node h.2.0) all h.2.1.0 in
     subst (λ (l : Option (List Pair)). IfSome l ArePairs) (sym h.2.1.1) node.meta.labels
 
-provisions : (mine : List Entry) (name provisioner : List ℕ) (bytes : ℕ) (labels : Option (List Pair)) → All IsEntry mine → MayProvision mine name provisioner bytes labels → IsNumber bytes × IfSome labels ArePairs
+provisions : (mine : List Entry) (name provisioner : List ℕ) (bytes : ℕ) (labels : Option (List Pair)) → All IsEntry mine
+    → MayProvision mine name provisioner bytes labels → IsNumber bytes × IfSome labels ArePairs
 provisions mine name provisioner bytes labels all row =
     let claim = newest_given mine (claim_key row.claim.meta.namespace row.claim.meta.name) (Claim row.claim) all row.newest in
     (subst IsNumber (sym row.sized) (amount_small row.claim.amount claim.amount), labels_given mine row.claim row.class.delayed labels all row.placed)

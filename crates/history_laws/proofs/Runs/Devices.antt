@@ -3,13 +3,40 @@ use Rattle.std.proofs.Common.{arith}
 use Rattle.std.specs.Prelude.{ℕ, ◌+◌, ◌==◌, ◌^◌, ◌<◌, ◌≤◌, max, Bool, true, false, List, [], ◌∷◌, Option, Some, None, IfSome, All, bytes_eq, if◌then◌else◌}
 use Rattle.std.proofs.lemmas.List.Elements.{All-nil, All-cons, All-head, All-tail, All-append, All-filter, All-weaker}
 use Rattle.plain_data.specs.Pairs.{Pair}
-use Rattle.kube_types.specs.declared.uid.Uid.{Uid}
+use Rattle.kube_parts.specs.declared.uid.Uid.{Uid}
 use Rattle.call_types.specs.declared.setup.Pool.{Pool}
 use Rattle.call_types.specs.declared.setup.Setup.{Setup}
 use Rattle.call_types.specs.declared.request.Request.{Request}
 use Rattle.call_types.specs.declared.request.Request.TheVariants as requests
 use Rattle.call_types.specs.declared.reply.Reply.{Reply}
-use Rattle.binder_model.specs.Devices.{Data, MountAt, Devices, DeviceAnswer, epoch_of, epoch_if_stale, rows_on, is_mounted_on, put_mount, with_mount, without_mount, would_serve, free_bytes, most_free, first_fit, data_named, is_planned, after_call, provision_new, provision, erase, unless_planned, unless_stale, take_node, with_mounts, device_answer}
+use Rattle.binder_model.specs.Devices.{
+  Data,
+  MountAt,
+  Devices,
+  DeviceAnswer,
+  epoch_of,
+  epoch_if_stale,
+  rows_on,
+  is_mounted_on,
+  put_mount,
+  with_mount,
+  without_mount,
+  would_serve,
+  free_bytes,
+  most_free,
+  first_fit,
+  data_named,
+  is_planned,
+  after_call,
+  provision_new,
+  provision,
+  erase,
+  unless_planned,
+  unless_stale,
+  take_node,
+  with_mounts,
+  device_answer,
+}
 use Rattle.object_laws.specs.Given.{IsUid}
 use Rattle.history_laws.specs.Read.Given.{IsNumber, IsMountRow, IsRequest, IsReply, IsPool}
 use Rattle.history_laws.specs.Runs.Keeping.{IsEpoch, IsMount, AreGivenDevices}
@@ -75,17 +102,20 @@ pub devices_more : (most : ℕ) (d : Devices) → AreGivenDevices most d → Are
 devices_more most d h = let calls = h.calls in record { epochs = All-weaker (IsEpoch most) (IsEpoch (most + 1)) (epoch_more most) d.epochs h.epochs; mounts = h.mounts; calls = omega (arith, calls) }
 
 counted : (most : ℕ) (d : Devices) (reply : Reply) → AreGivenDevices most d → IsReply reply → IsGivenAnswer most (after_call d reply)
-counted most d reply h k = let calls = h.calls in record { reply = k; devices = record { epochs = All-weaker (IsEpoch most) (IsEpoch (most + 1)) (epoch_more most) d.epochs h.epochs; mounts = h.mounts; calls = omega (arith, calls) } }
+counted most d reply h k = let calls = h.calls in
+    record { reply = k; devices = record { epochs = All-weaker (IsEpoch most) (IsEpoch (most + 1)) (epoch_more most) d.epochs h.epochs; mounts = h.mounts; calls = omega (arith, calls) } }
 
 by_test : (most : ℕ) (b : Bool) (x y : DeviceAnswer) → IsGivenAnswer most x → IsGivenAnswer most y → IsGivenAnswer most (if b then x else y)
 by_test most true x y kx ky = kx
 by_test most false x y kx ky = ky
 
-unless_planned_given : (setup : Setup) (most : ℕ) (d : Devices) (next : DeviceAnswer) → most < 2 ^ 62 → AreGivenDevices most d → IsGivenAnswer most next → IsGivenAnswer most (unless_planned setup d next)
+unless_planned_given : (setup : Setup) (most : ℕ) (d : Devices) (next : DeviceAnswer) → most < 2 ^ 62 → AreGivenDevices most d
+    → IsGivenAnswer most next → IsGivenAnswer most (unless_planned setup d next)
 unfolding unless_planned
 unless_planned_given setup most d next few h k = let calls = h.calls in by_test most (is_planned (d.calls + 1) setup.faults) _ next (counted most d _ h (omega (arith, calls, few))) k
 
-unless_stale_given : (most : ℕ) (d : Devices) (stale : Option ℕ) (next : DeviceAnswer) → AreGivenDevices most d → IfSome stale IsNumber → IsGivenAnswer most next → IsGivenAnswer most (unless_stale d stale next)
+unless_stale_given : (most : ℕ) (d : Devices) (stale : Option ℕ) (next : DeviceAnswer) → AreGivenDevices most d → IfSome stale IsNumber
+    → IsGivenAnswer most next → IsGivenAnswer most (unless_stale d stale next)
 unfolding unless_stale
 unless_stale_given most d None next h is k = k
 unless_stale_given most d (Some current) next h is k = record { reply = is; devices = devices_more most d h }
@@ -125,12 +155,14 @@ with_mounts_given most d node ms h are = let calls = h.calls in record {
 pub device_answer_given : (setup : Setup) (most : ℕ) (d : Devices) (request : Request)
     → All IsPool setup.pools → most < 2 ^ 62 → AreGivenDevices most d → IsRequest request → IfSome (device_answer setup d request) (IsGivenAnswer most)
 unfolding device_answer erase
-device_answer_given setup most d (requests.Provision name provisioner bytes labels) are few h k = unless_planned_given setup most d _ few h (provision_given setup.pools most d name provisioner bytes labels (data_named name d.stored) are h)
+device_answer_given setup most d (requests.Provision name provisioner bytes labels) are few h k =
+    unless_planned_given setup most d _ few h (provision_given setup.pools most d name provisioner bytes labels (data_named name d.stored) are h)
 device_answer_given setup most d (requests.Erase id) are few h k = unless_planned_given setup most d _ few h (counted most _ _ (record { epochs = h.epochs; mounts = h.mounts; calls = h.calls }) tt)
 device_answer_given setup most d (requests.TakeNode node) are few h k = take_given most d node few h
 device_answer_given setup most d (requests.Mounts node epoch) are few h k = unless_stale_given most d _ _ h (stale_number most d node epoch few h) (with_mounts_given most d node d.mounts h h.mounts)
 device_answer_given setup most d (requests.Mount node epoch pod claims) are few h k =
-    unless_stale_given most d _ _ h (stale_number most d node epoch few h) (with_mounts_given most d node (with_mount node pod claims d.mounts) h (mounted_given node pod claims d.mounts k.1 k.2 h.mounts))
+    unless_stale_given most d _ _ h (stale_number most d node epoch few h)
+    (with_mounts_given most d node (with_mount node pod claims d.mounts) h (mounted_given node pod claims d.mounts k.1 k.2 h.mounts))
 device_answer_given setup most d (requests.Unmount node epoch pod) are few h k =
     unless_stale_given most d _ _ h (stale_number most d node epoch few h) (with_mounts_given most d node (without_mount node pod d.mounts) h (All-filter _ IsMount d.mounts h.mounts))
 device_answer_given setup most d _ are few h k = tt

@@ -3,10 +3,10 @@ use Rattle.std.proofs.Common.{refl, sym, arith}
 use Rattle.std.specs.Prelude.{◌≡◌, ℕ, ◌+◌, ◌^◌, ◌<◌, nat_lt, Bool, true, false, List, ◌∷◌, Option, Some, None, IfSome, All, codes, if◌then◌else◌}
 use lib.Pointwise.{pointwise_long}
 use Rattle.std.proofs.lemmas.List.Elements.{All-cons}
-use Rattle.kube_types.specs.declared.names.Field.TheVariants as fields
-use Rattle.kube_types.specs.declared.parts.Kind.{Kind}
-use Rattle.kube_types.specs.declared.objects.Object.{Object}
-use Rattle.kube_types.specs.Keys.{meta_of, key_of, key_cmp}
+use Rattle.kube_parts.specs.declared.names.Field.TheVariants as fields
+use Rattle.kube_parts.specs.declared.parts.Kind.{Kind}
+use Rattle.kube_objects.specs.declared.objects.Object.{Object}
+use Rattle.kube_objects.specs.Keys.{meta_of, key_of, key_cmp}
 use Rattle.call_types.specs.declared.setup.Setup.{Setup}
 use Rattle.call_types.specs.declared.request.SeatKind.{SeatKind}
 use Rattle.call_types.specs.declared.request.Request.{Request}
@@ -102,7 +102,9 @@ module _ (setup : Setup) (is : IsSetup setup) (most : ℕ) (few : most < 2 ^ 62)
   unfolding watch
   watched kind from = by (nat_lt w.store.version from) (nat_lt from (oldest (base setup) w.store.version))
     where
-      by : (a b : Bool) → IsGivenEffect most w (if a then OnStore (Says (Refused (Invalid fields.From))) else if b then OnStore (Says (Refused (Gone (oldest (base setup) w.store.version)))) else OnStore (Says (Events (told_events kind from w.store.version w.log))))
+      by : (a b : Bool) → IsGivenEffect most w
+          (if a then OnStore (Says (Refused (Invalid fields.From))) else if b then OnStore
+          (Says (Refused (Gone (oldest (base setup) w.store.version)))) else OnStore (Says (Events (told_events kind from w.store.version w.log))))
       by true b = refused most w _ h tt
       by false true = refused most w _ h oldest_is
       by false false = on_store most w (Says (Events (told_events kind from w.store.version w.log))) h (record { given = told_given kind from w.store.version w.log version_is h.log })
@@ -127,4 +129,5 @@ pub calls_keep_given : CallsKeepGiven
 unfolding effect
 calls_keep_given setup most w kind (requests.SetTime at) is few h k = timed most w at h
 calls_keep_given setup most w kind (requests.Watch of_kind from) is few h k = watched setup is most few w h of_kind from
-calls_keep_given setup most w kind request is few h k = asked setup is most few w h kind request (device_answer setup w.devices request) (device_answer_given setup most w.devices request is.pools few h.devices k) k
+calls_keep_given setup most w kind request is few h k =
+    asked setup is most few w h kind request (device_answer setup w.devices request) (device_answer_given setup most w.devices request is.pools few h.devices k) k

@@ -4,15 +4,15 @@ use Rattle.std.specs.Prelude.{ℕ, ◌+◌, ◌^◌, ◌≤◌, List, [], ◌∷
 use Rattle.std.proofs.lemmas.Cmp.{nat_list_cmp_total}
 use Rattle.plain_data.specs.Pairs.{Pair, ArePairs, pair_key, put_pair, without_key}
 use Rattle.plain_data.proofs.RowFacts.{rising_put, rising_without}
-use Rattle.kube_types.specs.declared.objects.Meta.{Meta}
-use Rattle.kube_types.specs.declared.objects.Ref.{Ref}
-use Rattle.kube_types.specs.declared.objects.Volume.{Volume as VolumeData}
-use Rattle.kube_types.specs.declared.objects.Claim.{Claim as ClaimData}
-use Rattle.kube_types.specs.declared.objects.Pod.{Pod as PodData}
-use Rattle.kube_types.specs.declared.objects.Object.{Object}
-use Rattle.kube_types.specs.declared.objects.Object.TheVariants.{Class, Node, Volume, Claim, Pod}
-use Rattle.kube_types.specs.Keys.{meta_of}
-use Rattle.kube_types.specs.Bindings.{bound_by_controller, is_empty}
+use Rattle.kube_objects.specs.declared.objects.Meta.{Meta}
+use Rattle.kube_objects.specs.declared.objects.Ref.{Ref}
+use Rattle.kube_objects.specs.declared.objects.Volume.{Volume as VolumeData}
+use Rattle.kube_objects.specs.declared.objects.Claim.{Claim as ClaimData}
+use Rattle.kube_objects.specs.declared.objects.Pod.{Pod as PodData}
+use Rattle.kube_objects.specs.declared.objects.Object.{Object}
+use Rattle.kube_objects.specs.declared.objects.Object.TheVariants.{Class, Node, Volume, Claim, Pod}
+use Rattle.kube_objects.specs.Keys.{meta_of}
+use Rattle.kube_objects.specs.Bindings.{bound_by_controller, is_empty}
 use Rattle.call_types.specs.declared.edit.Edit.{Edit}
 use Rattle.call_types.specs.declared.edit.Edit.TheVariants as edits
 use Rattle.call_types.specs.declared.request.NewStatus.{NewStatus}
@@ -204,7 +204,16 @@ created_or_first m h = by (is_empty m.created)
     by false = h
 
 imported_meta_given : (b : Bool) (m : Meta) → IsMeta b m → IsMeta b (imported_meta m)
-imported_meta_given b m h = record { namespace = h.namespace; uid = h.uid; version = h.version; created = created_or_first m h.created; deleted = h.deleted; labels = h.labels; annotations = h.annotations }
+imported_meta_given b m h = record {
+  namespace = h.namespace;
+  uid = h.uid;
+  version = h.version;
+  created = created_or_first m h.created;
+  deleted =
+      h.deleted;
+  labels = h.labels;
+  annotations = h.annotations;
+}
 
 pub imported_given : (imports : List Object) (o : Object) → IsGivenObject o → IsGivenObject (imported_object imports o)
 unfolding imported_object

@@ -2,15 +2,15 @@
 use Rattle.std.proofs.Common.{arith}
 use Rattle.std.specs.Prelude.{ℕ, ◌+◌, ◌^◌, ◌≤◌, Bool, true, false, List, Option, Some, None, IfSome, All}
 use Rattle.std.proofs.lemmas.List.Elements.{All-filter}
-use Rattle.kube_types.specs.declared.uid.Uid.{Uid}
-use Rattle.kube_types.specs.declared.names.Field.{Field}
-use Rattle.kube_types.specs.declared.names.Rule.{Rule}
-use Rattle.kube_types.specs.declared.parts.Kind.{Kind}
-use Rattle.kube_types.specs.declared.objects.Pod.{Pod as PodData}
-use Rattle.kube_types.specs.declared.objects.Object.{Object}
-use Rattle.kube_types.specs.declared.objects.Object.TheVariants.{Class, Node, Volume, Claim, Pod}
-use Rattle.kube_types.specs.Keys.{key_cmp, key_of, meta_of, rows_of, is_of_kind}
-use Rattle.kube_types.specs.Bindings.{is_deleting, is_uid}
+use Rattle.kube_parts.specs.declared.uid.Uid.{Uid}
+use Rattle.kube_parts.specs.declared.names.Field.{Field}
+use Rattle.kube_parts.specs.declared.names.Rule.{Rule}
+use Rattle.kube_parts.specs.declared.parts.Kind.{Kind}
+use Rattle.kube_objects.specs.declared.objects.Pod.{Pod as PodData}
+use Rattle.kube_objects.specs.declared.objects.Object.{Object}
+use Rattle.kube_objects.specs.declared.objects.Object.TheVariants.{Class, Node, Volume, Claim, Pod}
+use Rattle.kube_objects.specs.Keys.{key_cmp, key_of, meta_of, rows_of, is_of_kind}
+use Rattle.kube_objects.specs.Bindings.{is_deleting, is_uid}
 use Rattle.call_types.specs.declared.edit.Edit.{Edit}
 use Rattle.call_types.specs.declared.request.NewStatus.{NewStatus}
 use Rattle.call_types.specs.declared.request.SeatKind.{SeatKind}
@@ -19,7 +19,36 @@ use Rattle.call_types.specs.declared.request.Request.TheVariants as requests
 use Rattle.call_types.specs.declared.reply.Refusal.{Refusal}
 use Rattle.binder_model.specs.Store.{State, leaves, leaves_at_once}
 use Rattle.binder_model.specs.Edits.{edited_object}
-use Rattle.binder_model.specs.Answers.{Outcome, Says, Stores, Removes, refuse, refuse_field, refuse_rule, refuse_stale, write_of, write_outcome, create, update, with_status, written_if_fits, update_status, edit_to, edit, delete_of, delete, get, is_in_namespace, listed_rows, list, pod_if, pod_with, bind, finish, outcome}
+use Rattle.binder_model.specs.Answers.{
+  Outcome,
+  Says,
+  Stores,
+  Removes,
+  refuse,
+  refuse_field,
+  refuse_rule,
+  refuse_stale,
+  write_of,
+  write_outcome,
+  create,
+  update,
+  with_status,
+  written_if_fits,
+  update_status,
+  edit_to,
+  edit,
+  delete_of,
+  delete,
+  get,
+  is_in_namespace,
+  listed_rows,
+  list,
+  pod_if,
+  pod_with,
+  bind,
+  finish,
+  outcome,
+}
 use Rattle.object_laws.specs.Given.{IsStamp, IsPod, IsGivenObject}
 use Rattle.history_laws.specs.Read.Given.{IsNumber, IsStatus, IsRequest, IsRefusal, IsReply}
 use Rattle.history_laws.proofs.Runs.Lists.{find_all}
@@ -155,6 +184,8 @@ outcome_given s kind (requests.Edit key change) moment stale few rows at k h = e
 outcome_given s kind (requests.Delete key given) moment stale few rows at k h = delete_outcome s few moment given _ at (find_all key_cmp key_of IsGivenObject key s.rows rows)
 outcome_given s kind (requests.Get key) moment stale few rows at k h = get_outcome _ (find_all key_cmp key_of IsGivenObject key s.rows rows)
 outcome_given s kind (requests.List of_kind namespace) moment stale few rows at k h = list_outcome s of_kind namespace few rows
-outcome_given s kind (requests.BindPod key uid node) moment stale few rows at k h = refused_or _ _ _ tt (bind_outcome s few node _ (pod_found uid _ (find_all key_cmp key_of IsGivenObject key s.rows rows)))
-outcome_given s kind (requests.FinishPod key uid node epoch) moment stale few rows at k h = refused_or _ _ _ tt (finish_outcome s few stale node _ k (pod_found uid _ (find_all key_cmp key_of IsGivenObject key s.rows rows)))
+outcome_given s kind (requests.BindPod key uid node) moment stale few rows at k h =
+    refused_or _ _ _ tt (bind_outcome s few node _ (pod_found uid _ (find_all key_cmp key_of IsGivenObject key s.rows rows)))
+outcome_given s kind (requests.FinishPod key uid node epoch) moment stale few rows at k h =
+    refused_or _ _ _ tt (finish_outcome s few stale node _ k (pod_found uid _ (find_all key_cmp key_of IsGivenObject key s.rows rows)))
 outcome_given s kind _ moment stale few rows at k h = record { given = tt }

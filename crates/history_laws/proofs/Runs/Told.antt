@@ -2,14 +2,14 @@
 use Rattle.std.proofs.Common.{subst, sym, inl, inr}
 use Rattle.std.specs.Prelude.{◌≡◌, ℕ, ◌==◌, Bool, true, false, List, [], ◌∷◌, Option, Some, None, IfSome, All, bytes_eq, is_some, if◌then◌else◌, ◌&&◌, ⊤}
 use Rattle.std.proofs.lemmas.List.Elements.{All-nil, All-cons, All-head, All-tail, All-append}
-use Rattle.kube_types.specs.declared.key.Key.{Key}
-use Rattle.kube_types.specs.declared.parts.Kind.{Kind}
-use Rattle.kube_types.specs.declared.objects.Volume.{Volume as VolumeData}
-use Rattle.kube_types.specs.declared.objects.Claim.{Claim as ClaimData}
-use Rattle.kube_types.specs.declared.objects.Pod.{Pod as PodData}
-use Rattle.kube_types.specs.declared.objects.Object.{Object}
-use Rattle.kube_types.specs.declared.objects.Object.TheVariants.{Class, Node, Volume, Claim, Pod}
-use Rattle.kube_types.specs.Keys.{same_kind}
+use Rattle.kube_objects.specs.declared.key.Key.{Key}
+use Rattle.kube_parts.specs.declared.parts.Kind.{Kind}
+use Rattle.kube_objects.specs.declared.objects.Volume.{Volume as VolumeData}
+use Rattle.kube_objects.specs.declared.objects.Claim.{Claim as ClaimData}
+use Rattle.kube_objects.specs.declared.objects.Pod.{Pod as PodData}
+use Rattle.kube_objects.specs.declared.objects.Object.{Object}
+use Rattle.kube_objects.specs.declared.objects.Object.TheVariants.{Class, Node, Volume, Claim, Pod}
+use Rattle.kube_objects.specs.Keys.{same_kind}
 use Rattle.call_types.specs.declared.entry.Entry.{Entry}
 use Rattle.call_types.specs.declared.request.Request.{Request}
 use Rattle.call_types.specs.declared.request.Request.TheVariants as requests
@@ -19,7 +19,23 @@ use Rattle.call_types.specs.declared.reply.Event.{Event}
 use Rattle.call_types.specs.declared.reply.Refusal.TheVariants as refusals
 use Rattle.call_types.specs.declared.reply.Reply.{Reply}
 use Rattle.call_types.specs.declared.reply.Reply.TheVariants as replies
-use Rattle.binder_model.specs.Told.{own, first_some, objects_of_event, objects_of_events, objects_in, TellsObject, ToldObject, IsVolumeWith, IsClaimWith, IsPodWith, ToldVolume, ToldClaim, ToldPod, After, IsNewest}
+use Rattle.binder_model.specs.Told.{
+  own,
+  first_some,
+  objects_of_event,
+  objects_of_events,
+  objects_in,
+  TellsObject,
+  ToldObject,
+  IsVolumeWith,
+  IsClaimWith,
+  IsPodWith,
+  ToldVolume,
+  ToldClaim,
+  ToldPod,
+  After,
+  IsNewest,
+}
 use Rattle.binder_model.specs.Reading.{Following, Unlisted, ListedAt, reached_on, follow_on, following_of, IsFrom}
 use Rattle.binder_model.specs.AgentLicence.{epoch_told, epoch_in, last_epoch, since_epoch, is_get_of, last_get}
 use Rattle.model_laws.proofs.Newest.{newest_told}
@@ -44,7 +60,8 @@ event_objects changes.Deleted o h = All-nil IsGivenObject
 
 events_objects : (es : List Event) → All IsEvent es → All IsGivenObject (objects_of_events es)
 events_objects [] h = All-nil IsGivenObject
-events_objects (e ∷ es) h = All-append IsGivenObject (objects_of_event e.change e.object) (objects_of_events es) (event_objects e.change e.object (All-head IsEvent e es h).object) (events_objects es (All-tail IsEvent e es h))
+events_objects (e ∷ es) h = All-append IsGivenObject (objects_of_event e.change e.object) (objects_of_events es) (event_objects e.change e.object
+    (All-head IsEvent e es h).object) (events_objects es (All-tail IsEvent e es h))
 
 pub objects_given : (reply : Reply) → IsReply reply → All IsGivenObject (objects_in reply)
 objects_given (replies.Done o) h = All-cons IsGivenObject o [] h (All-nil IsGivenObject)

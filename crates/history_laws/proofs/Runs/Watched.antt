@@ -2,7 +2,7 @@
 use Rattle.std.proofs.Common.{arith}
 use Rattle.std.specs.Prelude.{ℕ, ◌==◌, ◌^◌, ◌≤◌, Bool, true, false, List, [], ◌∷◌, All, take, filter, length, if◌then◌else◌}
 use Rattle.std.proofs.lemmas.List.Elements.{All-head, All-tail, All-filter, All-take}
-use Rattle.kube_types.specs.declared.parts.Kind.{Kind}
+use Rattle.kube_parts.specs.declared.parts.Kind.{Kind}
 use Rattle.call_types.specs.declared.reply.Event.{Event}
 use Rattle.binder_model.specs.Watching.{oldest, is_later, events_after, last_version, most_events, reached_version, told_events}
 use Rattle.history_laws.specs.Read.Given.{IsNumber, IsEvent, AreEvents}

@@ -3,14 +3,14 @@ use Rattle.std.proofs.Common.{refl, arith}
 use Rattle.std.specs.Prelude.{ℕ, List, [], Bool, true, false, Option, Some, None, IfSome, if◌then◌else◌}
 use Rattle.serde_json.specs.Data.{no_members}
 use Rattle.plain_data.specs.Pairs.{put_pair, without_key}
-use Rattle.kube_types.specs.declared.uid.Uid.{Uid}
-use Rattle.kube_types.specs.declared.objects.Meta.{Meta}
-use Rattle.kube_types.specs.declared.objects.DataId.{DataId}
-use Rattle.kube_types.specs.declared.objects.Ref.{Ref}
-use Rattle.kube_types.specs.declared.objects.Class.{Class as ClassData}
-use Rattle.kube_types.specs.declared.objects.Volume.{Volume as VolumeData}
-use Rattle.kube_types.specs.declared.objects.Claim.{Claim as ClaimData}
-use Rattle.kube_types.specs.Bindings.{bind_completed, bound_by_controller, provisioned_by, yes, has_key, is_empty}
+use Rattle.kube_parts.specs.declared.uid.Uid.{Uid}
+use Rattle.kube_objects.specs.declared.objects.Meta.{Meta}
+use Rattle.kube_objects.specs.declared.objects.DataId.{DataId}
+use Rattle.kube_objects.specs.declared.objects.Ref.{Ref}
+use Rattle.kube_objects.specs.declared.objects.Class.{Class as ClassData}
+use Rattle.kube_objects.specs.declared.objects.Volume.{Volume as VolumeData}
+use Rattle.kube_objects.specs.declared.objects.Claim.{Claim as ClaimData}
+use Rattle.kube_objects.specs.Bindings.{bind_completed, bound_by_controller, provisioned_by, yes, has_key, is_empty}
 use Rattle.binder_model.specs.BindWrites.{annotated_meta, annotated_meta_if, ref_to, taken_for, completed_with, without_uid, unbound_volume}
 use Rattle.binder_model.specs.Provisioning.{provisioned_meta, provisioned_volume}
 use Rattle.object_laws.specs.Given.{IsMeta, IsRef, IsVolume, IsClaim}
@@ -39,7 +39,8 @@ pub unbound_given : (v : VolumeData) → IsVolume v → IsVolume (unbound_volume
 unfolding unbound_volume
 unbound_given v h = by (has_key bound_by_controller v.meta.annotations)
   where
-    by : (b : Bool) → IsVolume (if b then record v { claim_ref = None; meta = record v.meta { annotations = without_key bound_by_controller v.meta.annotations } } else record v { claim_ref = without_uid v.claim_ref })
+    by : (b : Bool) → IsVolume (if b then record v
+        { claim_ref = None; meta = record v.meta { annotations = without_key bound_by_controller v.meta.annotations } } else record v { claim_ref = without_uid v.claim_ref })
     by true = volume_reference v _ None h (meta_annotations false v.meta _ h.meta (pairs_without bound_by_controller _ h.meta.annotations)) tt
     by false = volume_reference v v.meta (without_uid v.claim_ref) h h.meta (without_uid_given v.claim_ref)
 

@@ -15,11 +15,13 @@ ReadIsPrinted = (text : List ℕ) (h : History) → history_of text ≡ Ok h →
 
 -- what the text has is read, where a text can give it and its lines are not too long and not too deep
 abbrev pub TextIsRead : Type 0
-TextIsRead = (text : List ℕ) (s : Setup) (es : List Entry) → IsTextHistory s es → AreShallow s es → All IsLineToRead (lines_before_end s es) → IsTextOf text s es → history_of text ≡ Ok (record { setup = s; entries = es })
+TextIsRead = (text : List ℕ) (s : Setup) (es : List Entry) → IsTextHistory s es → AreShallow s es → All IsLineToRead (lines_before_end s es)
+    → IsTextOf text s es → history_of text ≡ Ok (record { setup = s; entries = es })
 
 -- so is the printed text, whatever follows it
 abbrev pub PrintedIsRead : Type 0
-PrintedIsRead = (s : Setup) (es : List Entry) (more : List ℕ) → IsTextHistory s es → AreShallow s es → All IsLineToRead (lines_before_end s es) → history_of (history_text s es ++ more) ≡ Ok (record { setup = s; entries = es })
+PrintedIsRead = (s : Setup) (es : List Entry) (more : List ℕ) → IsTextHistory s es → AreShallow s es → All IsLineToRead (lines_before_end s es)
+    → history_of (history_text s es ++ more) ≡ Ok (record { setup = s; entries = es })
 
 -- what is read is such that a text can give it, and nests no deeper than is read
 abbrev pub ReadGives : Type 0

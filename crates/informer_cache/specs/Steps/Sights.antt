@@ -1,8 +1,8 @@
 -- What is known before a list and after it, as the code finds it. A choice of this project.
 use Rattle.std.specs.Prelude.{ℕ, ◌≡◌, ◌⊎◌, nat_lt, Bool, false, List, Option, Some, None, if◌then◌else◌}
-use Rattle.kube_types.specs.declared.key.Key.{Key}
-use Rattle.kube_types.specs.declared.objects.Object.{Object}
-use Rattle.kube_types.specs.Keys.{row_at}
+use Rattle.kube_objects.specs.declared.key.Key.{Key}
+use Rattle.kube_objects.specs.declared.objects.Object.{Object}
+use Rattle.kube_objects.specs.Keys.{row_at}
 use Rattle.binder_model.specs.Told.{Telling, first_some, later, listing}
 use Rattle.informer_cache.specs.Knowledge.{RowState, ListState, absence, covers, lacked, row_told, telling_in}
 use Rattle.informer_cache.specs.Marks.{greater}

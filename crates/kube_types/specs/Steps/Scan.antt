@@ -1,26 +1,16 @@
--- The first of the candidates at the places before a bound, by an order; and the first default class.
+-- The first default class at the places before a bound.
 -- A choice of this project.
 use Rattle.std.specs.Prelude.{ℕ, ◌≡◌, ◌≢◌, ◌<◌, Bool, true, List, Option, Some, None, slice_get}
 use Rattle.std.specs.declared.cmp.Ordering.{Ordering}
 use Rattle.std.specs.declared.cmp.Ordering.TheVariants.{Greater}
 use Rattle.std.specs.Ordering.{is_lt}
-use Rattle.kube_types.specs.declared.parts.Kind.TheVariants as kinds
-use Rattle.kube_types.specs.declared.objects.Class.{Class as ClassData}
-use Rattle.kube_types.specs.declared.objects.Object.{Object}
-use Rattle.kube_types.specs.declared.objects.Object.TheVariants.{Class}
-use Rattle.kube_types.specs.Keys.{rows_of}
+use Rattle.kube_parts.specs.declared.parts.Kind.TheVariants as kinds
+use Rattle.kube_objects.specs.declared.objects.Class.{Class as ClassData}
+use Rattle.kube_objects.specs.declared.objects.Object.{Object}
+use Rattle.kube_objects.specs.declared.objects.Object.TheVariants.{Class}
+use Rattle.kube_objects.specs.Keys.{rows_of}
 use Rattle.kube_types.specs.Defaults.{class_cmp, is_default}
-
--- the candidate at this place, before which no candidate at a place below the bound stands
-pub record IsFirstAt {X : Type 0} (cmp : X → X → Ordering) (Candidate : ℕ → X → Type 0) (bound place : ℕ) : Type 0 where
-  pub it : X
-  pub candidate : Candidate place it
-  pub first : (other : ℕ) → other < bound → (x : X) → Candidate other x → cmp it x ≢ Greater
-
--- the first candidate at the places below the bound, or none where there is none
-abbrev pub IsFirstBelow : {X : Type 0} → (X → X → Ordering) → (ℕ → X → Type 0) → ℕ → Option ℕ → Type 0
-IsFirstBelow cmp Candidate bound (Some place) = IsFirstAt cmp Candidate bound place
-IsFirstBelow {X = X} cmp Candidate bound None = (place : ℕ) → place < bound → (x : X) → Candidate place x → ⊥
+use Rattle.volume_index.specs.Steps.Scan.{IsFirstBelow}
 
 -- a class at a place, marked as a default one
 abbrev pub IsMarkedAt : List Object → ℕ → ClassData → Type 0

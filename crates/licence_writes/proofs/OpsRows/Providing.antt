@@ -1,12 +1,12 @@
 -- The provisioner's rows, as the code tests them.
 use Rattle.std.proofs.Common.{◌≡◌, ◌↔◌, IsTrue, ℕ, Bool, true, false, List, Option, Some, sym, ◌∙◌, ap, subst}
 use Rattle.plain_data.specs.Pairs.{Pair, value_at, without_key}
-use Rattle.kube_types.specs.declared.uid.Uid.{Uid}
-use Rattle.kube_types.specs.declared.objects.Claim.{Claim as ClaimData}
-use Rattle.kube_types.specs.declared.objects.Class.{Class as ClassData}
-use Rattle.kube_types.specs.declared.objects.Node.{Node as NodeData}
-use Rattle.kube_types.specs.declared.objects.Object.TheVariants.{Class, Node, Claim}
-use Rattle.kube_types.specs.Bindings.{class_of_claim, is_completed, selected_node}
+use Rattle.kube_parts.specs.declared.uid.Uid.{Uid}
+use Rattle.kube_objects.specs.declared.objects.Claim.{Claim as ClaimData}
+use Rattle.kube_objects.specs.declared.objects.Class.{Class as ClassData}
+use Rattle.kube_objects.specs.declared.objects.Node.{Node as NodeData}
+use Rattle.kube_objects.specs.declared.objects.Object.TheVariants.{Class, Node, Claim}
+use Rattle.kube_objects.specs.Bindings.{class_of_claim, is_completed, selected_node}
 use Rattle.call_types.specs.declared.entry.Entry.{Entry}
 use Rattle.binder_model.specs.ObjectKeys.{claim_key, class_key, node_key}
 use Rattle.binder_model.specs.OpsLicence.{AreLabels, IsUnserved, MayClearNode, MayProvision}
@@ -21,13 +21,15 @@ use Rattle.licence_writes.specs.OpsRows.Providing.{IsAsked, IsAskedFor, IsProvid
 abbrev pub NodeLabels : List Entry → List ℕ → Option (List Pair) → Type 0
 NodeLabels mine name labels = (node : NodeData) × (IsNewest mine (node_key name) (Node node) × (labels ≡ Some node.meta.labels))
 
-pub label_row : (mine : List Entry) (name : List ℕ) (labels : Option (List Pair)) (node : NodeData) (b : Bool) → IsNewest mine (node_key name) (Node node) → (IsTrue b ↔ (labels ≡ Some node.meta.labels)) → (IsTrue b ↔ NodeLabels mine name labels)
+pub label_row : (mine : List Entry) (name : List ℕ) (labels : Option (List Pair)) (node : NodeData) (b : Bool)
+    → IsNewest mine (node_key name) (Node node) → (IsTrue b ↔ (labels ≡ Some node.meta.labels)) → (IsTrue b ↔ NodeLabels mine name labels)
 label_row mine name labels node b newest is = (
   (λ t. (node, (newest, is.0 t))),
   (λ s. is.1 (s.1.1 ∙ ap (λ (n : NodeData). Some n.meta.labels) (node_is mine (node_key name) s.0 node s.1.0 newest))),
 )
 
-pub labels_row : (mine : List Entry) (c : ClaimData) (name : List ℕ) (labels : Option (List Pair)) (b : Bool) → value_at selected_node c.meta.annotations ≡ Some name → (IsTrue b ↔ NodeLabels mine name labels) → (IsTrue b ↔ AreLabels mine c true labels)
+pub labels_row : (mine : List Entry) (c : ClaimData) (name : List ℕ) (labels : Option (List Pair)) (b : Bool)
+    → value_at selected_node c.meta.annotations ≡ Some name → (IsTrue b ↔ NodeLabels mine name labels) → (IsTrue b ↔ AreLabels mine c true labels)
 labels_row mine c name labels b found is = (
   (λ t. (name, found, is.0 t)),
   (λ s. is.1 (subst (λ n. NodeLabels mine n labels) (one _ _ (sym s.1 ∙ found)) s.2)),
@@ -55,7 +57,8 @@ provision_row mine name provisioner bytes labels b is = (
       (record { class = row.class; class_newest = row.class_newest; provided = record { by_class = row.by_class; real = row.real; placed = row.placed } }))),
 )
   where
-    there : (c : ClaimData) → IsNewest mine (claim_key c.meta.namespace c.meta.name) (Claim c) → IsAsked name bytes c → IsProvided mine c provisioner labels → MayProvision mine name provisioner bytes labels
+    there : (c : ClaimData) → IsNewest mine (claim_key c.meta.namespace c.meta.name) (Claim c) → IsAsked name bytes c
+        → IsProvided mine c provisioner labels → MayProvision mine name provisioner bytes labels
     there c newest asked p = record {
       claim = c;
       uid = asked.0;
@@ -75,7 +78,8 @@ provision_row mine name provisioner bytes labels b is = (
 abbrev pub without_node : ClaimData → ClaimData
 without_node o = record o { meta = record o.meta { annotations = without_key selected_node o.meta.annotations } }
 
-pub clear_row : (mine : List Entry) (o new : ClaimData) (uid : Uid) (node : List ℕ) (b : Bool) → is_completed o ≡ false → o.meta.uid ≡ Some uid → value_at selected_node o.meta.annotations ≡ Some node → new ≡ without_node o
+pub clear_row : (mine : List Entry) (o new : ClaimData) (uid : Uid) (node : List ℕ) (b : Bool) → is_completed o ≡ false → o.meta.uid ≡ Some uid
+    → value_at selected_node o.meta.annotations ≡ Some node → new ≡ without_node o
     → (IsTrue b ↔ IsUnserved mine o uid node) → (IsTrue b ↔ MayClearNode mine o new)
 clear_row mine o new uid node b undone known selected change is = (
   (λ t. record { undone = undone; uid = uid; known = known; node = node; selected = selected; why = is.0 t; change = change }),

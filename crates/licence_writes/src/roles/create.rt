@@ -1,8 +1,8 @@
 //! Where the provisioner may create a volume.
 
 ghost use Rattle.std.specs.Prelude.{◌≡◌, ◌↔◌, IsTrue, [], ◌∷◌, reverse};
-ghost use Rattle.kube_types.specs.declared.parts.Op.TheVariants as ops;
-ghost use Rattle.kube_types.specs.declared.parts.VolumePhase.TheVariants as phases;
+ghost use Rattle.kube_parts.specs.declared.parts.Op.TheVariants as ops;
+ghost use Rattle.kube_parts.specs.declared.parts.VolumePhase.TheVariants as phases;
 ghost use Rattle.binder_model.specs.At.{HasUid};
 ghost use Rattle.binder_model.specs.Provisioning.{data_name, provisioned_meta, terms_for};
 ghost use Rattle.binder_model.specs.Told.{After, ToldClaim};

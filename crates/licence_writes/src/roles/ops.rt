@@ -1,10 +1,10 @@
 //! Where the provisioner and reclaimer may write and call the back end.
 
 ghost use Rattle.std.specs.Prelude.{◌≡◌, ◌↔◌, IsTrue, Some, reverse};
-ghost use Rattle.kube_types.specs.declared.objects.Object.TheVariants as objects;
+ghost use Rattle.kube_objects.specs.declared.objects.Object.TheVariants as objects;
 ghost use Rattle.plain_data.specs.Pairs.{without_key};
-ghost use Rattle.kube_types.specs.Bindings.{selected_node};
-ghost use Rattle.kube_types.specs.Sources.{data_id_of};
+ghost use Rattle.kube_objects.specs.Bindings.{selected_node};
+ghost use Rattle.kube_objects.specs.Sources.{data_id_of};
 ghost use Rattle.binder_model.specs.OpsLicence.{IsEndedOver, IsThisClaim, IsThisVolume, MayDelete, MayFail, TellsEraseFailed, TellsErased, TellsExhausted};
 ghost use Rattle.binder_model.specs.Provisioning.{data_name, is_wanting, provisions};
 ghost use Rattle.binder_model.specs.Told.{After, IsVolumeWith, ToldClaim};

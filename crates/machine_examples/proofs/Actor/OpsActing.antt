@@ -1,7 +1,7 @@
 -- The examples of the provisioner and reclaimer as an actor compute.
 use Rattle.std.proofs.Common.{◌≡◌, Bool, true, false, true≢false, Option, Some, None, refl, sym, ◌∙◌, ap, subst}
 use Rattle.call_types.specs.declared.request.SeatKind.TheVariants as seats
-use Rattle.kube_types.specs.declared.parts.Kind.TheVariants as kinds
+use Rattle.kube_parts.specs.declared.parts.Kind.TheVariants as kinds
 use Rattle.informer_cache.specs.All.{AllKnown}
 use Rattle.reclaim_ops.specs.declared.erase.EraseStep.{EraseStep}
 use Rattle.reclaim_ops.specs.declared.erase.EraseStep.TheVariants as erasing

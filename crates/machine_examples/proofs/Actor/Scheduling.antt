@@ -2,8 +2,8 @@
 use Rattle.std.proofs.Common.{ℕ, Bool, true, false, true≢false, List, [], ◌∷◌, Option, Some, None, refl, sym, ap}
 use Rattle.std.specs.Prelude.{bytes_eq, codes, is_some}
 use Rattle.plain_data.specs.Pairs.{value_at}
-use Rattle.kube_types.specs.declared.objects.Object.TheVariants.{Claim, Pod}
-use Rattle.kube_types.specs.Bindings.{selected_node}
+use Rattle.kube_objects.specs.declared.objects.Object.TheVariants.{Claim, Pod}
+use Rattle.kube_objects.specs.Bindings.{selected_node}
 use Rattle.call_types.specs.declared.request.Request.{Request}
 use Rattle.call_types.specs.declared.request.Request.TheVariants as requests
 use Rattle.binder_model.specs.BindWrites.{taken_for}
@@ -14,7 +14,19 @@ use Rattle.machine_examples.proofs.Schedule.Beginning.{begins, not_begun}
 use Rattle.machine_examples.specs.Schedule.Moves.{pod_bind, reference, selection}
 use Rattle.machine_examples.specs.Schedule.Refusals.{first_choice}
 use Rattle.worker_core.specs.declared.task.Under.{Under}
-use Rattle.machine_examples.specs.Actor.Schedulers.{SchedulerDecisionExamples, SchedulerMoveExamples, both_on, half_rows, matching_rows, ready_rows, refused_c, select_on, waiting_rows, writing, written_c}
+use Rattle.machine_examples.specs.Actor.Schedulers.{
+  SchedulerDecisionExamples,
+  SchedulerMoveExamples,
+  both_on,
+  half_rows,
+  matching_rows,
+  ready_rows,
+  refused_c,
+  select_on,
+  waiting_rows,
+  writing,
+  written_c,
+}
 
 -- tests that tell what begins apart
 
@@ -44,7 +56,8 @@ decisions = record {
   ready_pod_is_bound = begins (ready_rows (Pod pod)) [] pod (Some (writing (pod_bind ∷ []))) refl refl refl;
   bound_pod_is_left = refl;
   node_after_the_refused_is_selected = begins (waiting_rows refused_c) (first_choice ∷ []) pod (Some (writing (select_on (codes "n2") refused_c ∷ []))) refl refl refl;
-  refused_node_is_not_selected = not_begun (waiting_rows refused_c) (first_choice ∷ []) pod (Some (writing (select_on (codes "n1") refused_c ∷ []))) refl refl (λ h. true≢false (ap (op_selects (codes "n2")) h));
+  refused_node_is_not_selected = not_begun (waiting_rows refused_c) (first_choice ∷ []) pod (Some (writing (select_on (codes "n1") refused_c ∷ [])))
+      refl refl (λ h. true≢false (ap (op_selects (codes "n2")) h));
   first_node_is_where_nothing_was_refused = begins (waiting_rows refused_c) [] pod (Some (writing (select_on (codes "n1") refused_c ∷ []))) refl refl refl;
   stale_watch_passes_over_none = begins half_rows [] pod_of_two (Some (writing (both_on (codes "n1")))) refl refl refl;
   next_node_is_not_selected_then = not_begun half_rows [] pod_of_two (Some (writing (both_on (codes "n2")))) refl refl (λ h. true≢false (ap (op_selects (codes "n1")) h));

@@ -1,8 +1,8 @@
 -- What a seat must have been told, computed.
 use Rattle.std.proofs.Common.{◌≡◌, ◌⊎◌, refl, inl, inr}
 use Rattle.std.specs.Prelude.{List, [], ◌∷◌, true}
-use Rattle.kube_types.specs.declared.objects.Claim.{Claim as ClaimData}
-use Rattle.kube_types.specs.Uids.{uid_of_serial}
+use Rattle.kube_objects.specs.declared.objects.Claim.{Claim as ClaimData}
+use Rattle.kube_parts.specs.Uids.{uid_of_serial}
 use Rattle.call_types.specs.declared.entry.Entry.{Entry}
 use Rattle.call_types.specs.declared.request.SeatKind.TheVariants as seats
 use Rattle.binder_model.specs.At.{IsElsewhere}
@@ -48,7 +48,8 @@ too_early row = by row.why
     told (inr (inl t)) = t.1
     told (inr (inr h)) = h
 
-    by : WasReadGone (mine (tells_volume taken_a ∷ finds_none key_c ∷ [])) taken_a row.reference row.uid ⊎ (ToldClaim (IsElsewhere taken_a.meta.name row.uid) (mine (tells_volume taken_a ∷ finds_none key_c ∷ [])) × (is_reclaimed taken_a ≡ true)) → ⊥
+    by : WasReadGone (mine (tells_volume taken_a ∷ finds_none key_c ∷ [])) taken_a row.reference row.uid
+        ⊎ (ToldClaim (IsElsewhere taken_a.meta.name row.uid) (mine (tells_volume taken_a ∷ finds_none key_c ∷ [])) × (is_reclaimed taken_a ≡ true)) → ⊥
     by (inl h) = read h
     by (inr h) = told h.0
 

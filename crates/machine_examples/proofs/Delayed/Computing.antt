@@ -6,13 +6,13 @@ use Rattle.std.specs.Bool.{beq}
 use Rattle.std.specs.declared.cmp.Ordering.{Ordering}
 use Rattle.std.specs.declared.cmp.Ordering.TheVariants.{Less, Equal, Greater}
 use Rattle.std.proofs.lemmas.Bool.{and_from}
-use Rattle.kube_types.specs.declared.parts.Kind.TheVariants as kinds
-use Rattle.kube_types.specs.declared.objects.Claim.{Claim as ClaimData}
-use Rattle.kube_types.specs.declared.objects.Node.{Node as NodeData}
-use Rattle.kube_types.specs.declared.objects.Pod.{Pod as PodData}
-use Rattle.kube_types.specs.declared.objects.Volume.{Volume as VolumeData}
-use Rattle.kube_types.specs.declared.objects.Object.{Object}
-use Rattle.kube_types.specs.Keys.{AreRows, key_cmp, key_of, rows_of}
+use Rattle.kube_parts.specs.declared.parts.Kind.TheVariants as kinds
+use Rattle.kube_objects.specs.declared.objects.Claim.{Claim as ClaimData}
+use Rattle.kube_objects.specs.declared.objects.Node.{Node as NodeData}
+use Rattle.kube_objects.specs.declared.objects.Pod.{Pod as PodData}
+use Rattle.kube_objects.specs.declared.objects.Volume.{Volume as VolumeData}
+use Rattle.kube_objects.specs.declared.objects.Object.{Object}
+use Rattle.kube_objects.specs.Keys.{AreRows, key_cmp, key_of, rows_of}
 use Rattle.plain_data.specs.Rows.{IsAfter}
 use Rattle.binder_model.specs.Choice.{AreShares, IsProvisioned, Share, TakesVolume, can_provision, claims_of, fixed_admit, volume_admits}
 use Rattle.binder_model.specs.Matching.{IsBest}
@@ -22,7 +22,26 @@ use Rattle.volume_match.proofs.Scans.{absent, closed, kept, open_candidate, pass
 use Rattle.model_laws.proofs.Lists.{none_some, one}
 use Rattle.delayed_binding.specs.declared.choice.Choice.{Choice}
 use Rattle.delayed_binding.specs.declared.choice.Choice.TheVariants.{Assign, Prepare, Wait, NoNode}
-use Rattle.delayed_binding.specs.Choices.{AreAdmitted, IsChoice, IsChoiceAt, IsCompleted, IsPreparedOn, IsSearching, IsServedElsewhere, IsUnderWay, LacksClaim, ServesClaims, ServesAll, Stage, binds_of, is_past, others_in, provisions_of, set_aside, stage_of}
+use Rattle.delayed_binding.specs.Choices.{
+  AreAdmitted,
+  IsChoice,
+  IsChoiceAt,
+  IsCompleted,
+  IsPreparedOn,
+  IsSearching,
+  IsServedElsewhere,
+  IsUnderWay,
+  LacksClaim,
+  ServesClaims,
+  ServesAll,
+  Stage,
+  binds_of,
+  is_past,
+  others_in,
+  provisions_of,
+  set_aside,
+  stage_of,
+}
 use Rattle.delayed_binding.specs.Steps.Scans.{IsFirstInTurn, ServesInTurn, as_node}
 use Rattle.delayed_binding.proofs.Bests.{AreSetAside, aside_more, one_best, set_aside_is}
 use Rattle.delayed_binding.proofs.Rounds.{first_turn, found_first, no_turn, none_found, second_turn}
@@ -57,7 +76,11 @@ less_is Greater h = absurd (true≢false (sym h))
 
 after_is : (x : Object) (xs : List Object) → is_after x xs ≡ true → IsAfter key_cmp key_of x xs
 after_is x [] h = tt
-after_is x (y ∷ ys) h = (less_is (key_cmp (key_of x) (key_of y)) (and_left (is_less (key_cmp (key_of x) (key_of y))) (is_after x ys) h), after_is x ys (and_right (is_less (key_cmp (key_of x) (key_of y))) (is_after x ys) h))
+after_is x (y ∷ ys) h = (
+  less_is (key_cmp (key_of x) (key_of y)) (and_left (is_less (key_cmp (key_of x) (key_of y))) (is_after x ys) h),
+  after_is x
+      ys (and_right (is_less (key_cmp (key_of x) (key_of y))) (is_after x ys) h),
+)
 
 pub rising_is : (xs : List Object) → is_rising xs ≡ true → AreRows xs
 rising_is [] h = tt
@@ -77,18 +100,21 @@ abbrev best_of : List Object → ClaimData → NodeData → List ℕ → Option 
 best_of rows c n out = best_below rows c n out (length (rows_of kinds.PersistentVolume rows))
 
 module _ (rows : List Object) (c : ClaimData) (n : NodeData) (out : List ℕ) where
-  better_is : (place : ℕ) (o : Option VolumeData) (before : Option ℕ) → volume_at rows place ≡ o → IsBestBelow rows c (Some n) false out place before → IsBestBelow rows c (Some n) false out (place + 1) (better rows c n out place o before)
+  better_is : (place : ℕ) (o : Option VolumeData) (before : Option ℕ) → volume_at rows place ≡ o → IsBestBelow rows c (Some n) false out place before
+      → IsBestBelow rows c (Some n) false out (place + 1) (better rows c n out place o before)
   better_is place None before there h = passed_over rows c (Some n) false out place before (absent rows c (Some n) false out place there) h
   better_is place (Some v) before there h = by (is_open c (Some n) false out place v) (is_preferred rows c v before) refl refl
     where
-      by : (opened preferred : Bool) → is_open c (Some n) false out place v ≡ opened → is_preferred rows c v before ≡ preferred → IsBestBelow rows c (Some n) false out (place + 1) (if opened then (if preferred then Some place else before) else before)
+      by : (opened preferred : Bool) → is_open c (Some n) false out place v ≡ opened → is_preferred rows c v before ≡ preferred
+          → IsBestBelow rows c (Some n) false out (place + 1) (if opened then (if preferred then Some place else before) else before)
       by true true k p = taken rows c (Some n) false out place before v (open_candidate rows c (Some n) false out place v there k) p h
       by true false k p = kept rows c (Some n) false out place before v there p h
       by false preferred k p = passed_over rows c (Some n) false out place before (closed rows c (Some n) false out place v there k) h
 
   below_is : (bound : ℕ) → IsBestBelow rows c (Some n) false out bound (best_below rows c n out bound)
   below_is zero = λ place lt v k. absurd (omega (arith, lt))
-  below_is (suc place) = subst (λ bound. IsBestBelow rows c (Some n) false out bound (best_below rows c n out (suc place))) (next place) (better_is place (volume_at rows place) (best_below rows c n out place) refl (below_is place))
+  below_is (suc place) = subst (λ bound. IsBestBelow rows c (Some n) false out bound (best_below rows c n out (suc place))) (next place) (better_is
+      place (volume_at rows place) (best_below rows c n out place) refl (below_is place))
     where
       next : (k : ℕ) → k + 1 ≡ suc k
       next k = omega arith
@@ -129,13 +155,16 @@ module _ (rows : List Object) (n : NodeData) where
   some_are [] out shares h = subst (AreShares rows n out []) (one [] shares h) tt
   some_are (c ∷ cs) out shares h = by (best_of rows c n out) (best_is rows c n out) h (some_are cs)
     where
-      provided : (b : Bool) → can_provision rows c ≡ b → IsBest rows c (Some n) false out None → (if b then with_share IsProvisioned (shares_of rows n out cs) else None) ≡ Some shares → ((out : List ℕ) (shares : List Share) → shares_of rows n out cs ≡ Some shares → AreShares rows n out cs shares) → AreShares rows n out (c ∷ cs) shares
+      provided : (b : Bool) → can_provision rows c ≡ b → IsBest rows c (Some n) false out None
+          → (if b then with_share IsProvisioned (shares_of rows n out cs) else None) ≡ Some shares
+          → ((out : List ℕ) (shares : List Share) → shares_of rows n out cs ≡ Some shares → AreShares rows n out cs shares) → AreShares rows n out (c ∷ cs) shares
       provided true can none h rest =
           let w = with_is IsProvisioned (shares_of rows n out cs) shares h in
           subst (AreShares rows n out (c ∷ cs)) w.whole (none, can, rest out w.rest w.is)
       provided false can none h rest = none_some h
 
-      by : (o : Option ℕ) → IsBest rows c (Some n) false out o → share_by rows c out o (λ taken. shares_of rows n taken cs) ≡ Some shares → ((out : List ℕ) (shares : List Share) → shares_of rows n out cs ≡ Some shares → AreShares rows n out cs shares) → AreShares rows n out (c ∷ cs) shares
+      by : (o : Option ℕ) → IsBest rows c (Some n) false out o → share_by rows c out o (λ taken. shares_of rows n taken cs) ≡ Some shares
+          → ((out : List ℕ) (shares : List Share) → shares_of rows n out cs ≡ Some shares → AreShares rows n out cs shares) → AreShares rows n out (c ∷ cs) shares
       by (Some place) best h rest =
           let w = with_is (TakesVolume place) (shares_of rows n (place ∷ out) cs) shares h in
           subst (AreShares rows n out (c ∷ cs)) w.whole (best, rest (place ∷ out) w.rest w.is)
@@ -146,7 +175,8 @@ module _ (rows : List Object) (n : NodeData) where
     none_are [] out aside h shares are = none_some (sym h)
     none_are (c ∷ cs) out aside h shares are = by (best_of rows c n out) (best_is rows c n out) h shares are (λ taken kept e all these. none_are cs taken kept e all these)
       where
-        provided : (b : Bool) → can_provision rows c ≡ b → (if b then with_share IsProvisioned (shares_of rows n out cs) else None) ≡ None → (shares : List Share) → IsBest rows c (Some n) false out None → AreShares rows n out (c ∷ cs) shares
+        provided : (b : Bool) → can_provision rows c ≡ b → (if b then with_share IsProvisioned (shares_of rows n out cs) else None) ≡ None
+            → (shares : List Share) → IsBest rows c (Some n) false out None → AreShares rows n out (c ∷ cs) shares
             → ((taken : List ℕ) → AreSetAside rows taken → shares_of rows n taken cs ≡ None → (all : List Share) → AreShares rows n taken cs all → ⊥) → ⊥
         provided b can h [] none are rest = are
         provided b can h (TakesVolume q ∷ shares) none are rest = none q are.0.volume are.0.candidate
@@ -158,7 +188,8 @@ module _ (rows : List Object) (n : NodeData) where
         by (Some place) best h [] are rest = are
         by (Some place) best h (TakesVolume q ∷ shares) are rest =
             let same : q ≡ place = one q place (one_best rows order c (Some n) false out aside (Some q) (Some place) are.0 best) in
-            rest (place ∷ out) (aside_more rows out place aside) (with_none (TakesVolume place) (shares_of rows n (place ∷ out) cs) h) shares (subst (λ k. AreShares rows n (k ∷ out) cs shares) same are.1)
+            rest (place ∷ out) (aside_more rows out place aside) (with_none (TakesVolume place) (shares_of rows n (place ∷ out) cs) h) shares
+            (subst (λ k. AreShares rows n (k ∷ out) cs shares) same are.1)
         by (Some place) best h (IsProvisioned ∷ shares) are rest = are.0 place best.volume best.candidate
         by None none h shares are rest = provided (can_provision rows c) refl h shares none are rest
 
@@ -195,7 +226,8 @@ abbrev pub prepared_there : List Object → List ClaimData → NodeData → Opti
 prepared_there rows claims n None = None
 prepared_there rows claims n (Some shares) = Some (Prepare n.meta.name (binds_of rows (others_in rows claims) shares) (provisions_of (others_in rows claims) shares))
 
-pub there_is : (rows : List Object) (claims : List ClaimData) (n : NodeData) (found : Option Choice) → is_rising rows ≡ true → prepared_there rows claims n (serving rows claims n) ≡ found → IsPreparedOn rows claims n found
+pub there_is : (rows : List Object) (claims : List ClaimData) (n : NodeData) (found : Option Choice) → is_rising rows ≡ true
+    → prepared_there rows claims n (serving rows claims n) ≡ found → IsPreparedOn rows claims n found
 there_is rows claims n found rising is = subst (IsPreparedOn rows claims n) is (by (serving rows claims n) refl)
   where
     by : (o : Option (List Share)) → serving rows claims n ≡ o → IsPreparedOn rows claims n (prepared_there rows claims n o)
@@ -225,7 +257,8 @@ abbrev IsFirstIn : (NodeData → Bool) → List Object → Option NodeData → T
 IsFirstIn test os None = HasNone test os
 IsFirstIn test os (Some n) = IsFound test os n
 
-later : (test : NodeData → Bool) (o : Object) (os : List Object) (found : Option NodeData) → ((m : NodeData) → as_node (Some o) ≡ Some m → test m ≡ true → ⊥) → IsFirstIn test os found → IsFirstIn test (o ∷ os) found
+later : (test : NodeData → Bool) (o : Object) (os : List Object) (found : Option NodeData)
+    → ((m : NodeData) → as_node (Some o) ≡ Some m → test m ≡ true → ⊥) → IsFirstIn test os found → IsFirstIn test (o ∷ os) found
 later test o os None none h = all
   where
     all : HasNone test (o ∷ os)
@@ -307,7 +340,8 @@ module _ (rows : List Object) (order : AreRows rows) (claims : List ClaimData) (
   turn_none : (past : Bool) → HasNone (in_turn_serves rows claims last past) (rows_of kinds.Node rows) → IsFirstInTurn rows claims last past None
   turn_none past none = none_found rows order (ServesInTurn rows claims last past) (length (rows_of kinds.Node rows)) refl (λ k lt m at s. none k m at (no_serving m past s))
 
-  turn_some : (past : Bool) (n : NodeData) (o : Option (List Share)) → serving rows claims n ≡ o → IsFound (in_turn_serves rows claims last past) (rows_of kinds.Node rows) n → IsFirstInTurn rows claims last past (Some (prepared_by rows claims n o))
+  turn_some : (past : Bool) (n : NodeData) (o : Option (List Share)) → serving rows claims n ≡ o
+      → IsFound (in_turn_serves rows claims last past) (rows_of kinds.Node rows) n → IsFirstInTurn rows claims last past (Some (prepared_by rows claims n o))
   turn_some past n None is f = absurd (true≢false (sym (sym (ap is_some is) ∙ and_right (beq (is_past last n) past) (serves rows claims n) f.passes)))
   turn_some past n (Some shares) is f = record {
     place = f.place;
@@ -318,17 +352,20 @@ module _ (rows : List Object) (order : AreRows rows) (claims : List ClaimData) (
     first = λ k lt m at s. f.first k lt m at (no_serving m past s);
   }
 
-  prepared_is : (first second : Option NodeData) → IsFirstIn (in_turn_serves rows claims last true) (rows_of kinds.Node rows) first → IsFirstIn (in_turn_serves rows claims last false) (rows_of kinds.Node rows) second → IsChoiceAt IsSearching rows claims last (prepared_on rows claims first second)
+  prepared_is : (first second : Option NodeData) → IsFirstIn (in_turn_serves rows claims last true) (rows_of kinds.Node rows) first
+      → IsFirstIn (in_turn_serves rows claims last false) (rows_of kinds.Node rows) second → IsChoiceAt IsSearching rows claims last (prepared_on rows claims first second)
   prepared_is (Some n) second f g = first_turn rows claims last order (prepared_by rows claims n (serving rows claims n)) (turn_some true n (serving rows claims n) refl f)
   prepared_is None (Some n) f g = second_turn rows claims last order (prepared_by rows claims n (serving rows claims n)) (turn_none true f) (turn_some false n (serving rows claims n) refl g)
   prepared_is None None f g = no_turn rows claims last order (turn_none true f) (turn_none false g)
 
   at_stage : (stage : Stage) → IsChoiceAt stage rows claims last (chosen_at stage rows claims last)
   at_stage LacksClaim = refl
-  at_stage IsCompleted = assigned_is (first_in (λ n. list_all (volume_admits rows n) claims) (rows_of kinds.Node rows)) (first_is (λ n. list_all (volume_admits rows n) claims) (rows_of kinds.Node rows))
+  at_stage IsCompleted = assigned_is (first_in (λ n. list_all (volume_admits rows n) claims) (rows_of kinds.Node rows)) (first_is
+      (λ n. list_all (volume_admits rows n) claims) (rows_of kinds.Node rows))
   at_stage IsServedElsewhere = refl
   at_stage IsUnderWay = refl
-  at_stage IsSearching = prepared_is (first_serving rows claims last true) (first_serving rows claims last false) (first_is (in_turn_serves rows claims last true) (rows_of kinds.Node rows)) (first_is (in_turn_serves rows claims last false) (rows_of kinds.Node rows))
+  at_stage IsSearching = prepared_is (first_serving rows claims last true) (first_serving rows claims last false) (first_is
+      (in_turn_serves rows claims last true) (rows_of kinds.Node rows)) (first_is (in_turn_serves rows claims last false) (rows_of kinds.Node rows))
 
 chosen_is : (rows : List Object) (p : PodData) (last : Option (List ℕ)) → AreRows rows → IsChoice rows p last (chosen rows p last)
 chosen_is rows p last order = at_stage rows order (claims_of rows p) last (stage_of rows p)

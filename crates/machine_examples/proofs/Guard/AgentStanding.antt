@@ -41,7 +41,11 @@ agent_evidence_examples = record {
   not_before_each_claim_was_counted = λ h. none_some (sym h.whole);
   unmounts_a_leaving_pod = record { current = refl; told = inl (refl, inl (record { same = refl; placed = refl; scheduled = refl; deleting = refl })) };
   not_by_an_older_epoch = λ h. differ (is_epoch 3) h.current refl refl;
-  finishes_after_mounts_without_it = record { ending = record { current = refl; told = inr (inl (refl, inl (record { same = refl; placed = refl; scheduled = refl; deleting = refl }))) }; unmounted = refl };
+  finishes_after_mounts_without_it = record {
+    ending = record
+        { current = refl; told = inr (inl (refl, inl (record { same = refl; placed = refl; scheduled = refl; deleting = refl }))) };
+    unmounted = refl;
+  };
   not_before_the_mounts_were_told = λ h. true≢false (sym h.unmounted);
   not_where_they_have_it = λ h. true≢false (sym h.unmounted);
   started_by_a_list = (λ e. inl (refl, refl), refl);

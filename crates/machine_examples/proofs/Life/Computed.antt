@@ -1,15 +1,15 @@
 -- The examples compute.
 use Rattle.std.proofs.Common.{◌≡◌, ◌≤◌, ℕ, List, [], ◌∷◌, ◌++◌, Bool, true, false, true≢false, Option, Some, None, inl, inr, refl, sym, ◌∙◌, ap, subst, arith, if◌then◌else◌}
 use Rattle.std.specs.Prelude.{◌==◌, ◌&&◌, bytes_eq}
-use Rattle.kube_types.specs.declared.key.Key.{Key}
-use Rattle.kube_types.specs.declared.parts.Kind.TheVariants as kinds
-use Rattle.kube_types.specs.declared.objects.Object.{Object}
-use Rattle.kube_types.specs.declared.objects.Object.TheVariants.{Volume}
-use Rattle.kube_types.specs.declared.objects.Volume.{Volume as VolumeData}
+use Rattle.kube_objects.specs.declared.key.Key.{Key}
+use Rattle.kube_parts.specs.declared.parts.Kind.TheVariants as kinds
+use Rattle.kube_objects.specs.declared.objects.Object.{Object}
+use Rattle.kube_objects.specs.declared.objects.Object.TheVariants.{Volume}
+use Rattle.kube_objects.specs.declared.objects.Volume.{Volume as VolumeData}
 use Rattle.kube_types.specs.declared.lookup.Live.TheVariants.{NotAsked}
-use Rattle.kube_types.specs.declared.parts.VolumePhase.TheVariants as volumes
-use Rattle.kube_types.specs.Bindings.{is_empty}
-use Rattle.kube_types.specs.Keys.{key_of, kind_index, row_at, same_key}
+use Rattle.kube_parts.specs.declared.parts.VolumePhase.TheVariants as volumes
+use Rattle.kube_objects.specs.Bindings.{is_empty}
+use Rattle.kube_objects.specs.Keys.{key_of, kind_index, row_at, same_key}
 use Rattle.call_types.specs.declared.entry.Entry.{Entry}
 use Rattle.call_types.specs.declared.request.Request.{Request}
 use Rattle.call_types.specs.declared.request.Request.TheVariants as requests
@@ -75,11 +75,15 @@ later_none None = refl
 later_none (Some t) = refl
 
 pub shown_one : (v : VolumeData) (key : Key) → row_at key (rows v) ≡ object_of (newest (seat_of seats.Binder (tells_volume v ∷ [])) key)
-shown_one v key = by (kind_index kinds.PersistentVolume == kind_index key.kind) refl ∙ sym (ap object_of (later_none (if kind_index kinds.PersistentVolume == kind_index key.kind then Some (listing v.meta.version (row_at key (rows v))) else None)))
+shown_one v key = by (kind_index kinds.PersistentVolume == kind_index key.kind) refl
+    ∙ sym (ap object_of (later_none (if kind_index kinds.PersistentVolume == kind_index key.kind then Some (listing v.meta.version (row_at key (rows v))) else None)))
   where
-    by : (b : Bool) → (kind_index kinds.PersistentVolume == kind_index key.kind) ≡ b → row_at key (rows v) ≡ object_of (if kind_index kinds.PersistentVolume == kind_index key.kind then Some (listing v.meta.version (row_at key (rows v))) else None)
+    by : (b : Bool) → (kind_index kinds.PersistentVolume == kind_index key.kind) ≡ b
+        → row_at key (rows v) ≡ object_of (if kind_index kinds.PersistentVolume == kind_index key.kind then Some (listing v.meta.version (row_at key (rows v))) else None)
     by true e = sym (ap (λ b. object_of (if b then Some (listing v.meta.version (row_at key (rows v))) else None)) e ∙ listed_object v.meta.version (row_at key (rows v)))
-    by false e = row_at-put (Volume v) [] key ∙ ap (λ b. if b && bytes_eq v.meta.namespace key.namespace && bytes_eq v.meta.name key.name then Some (Volume v) else None) e ∙ sym (ap (λ b. object_of (if b then Some (listing v.meta.version (row_at key (rows v))) else None)) e)
+    by false e = row_at-put (Volume v) [] key
+        ∙ ap (λ b. if b && bytes_eq v.meta.namespace key.namespace && bytes_eq v.meta.name key.name then Some (Volume v) else None) e
+        ∙ sym (ap (λ b. object_of (if b then Some (listing v.meta.version (row_at key (rows v))) else None)) e)
 
 -- a volume for which the rules give a call is due
 
@@ -87,7 +91,8 @@ abbrev machine_in : BinderFirst → Option Machine
 machine_in (binder_firsts.Begins m) = Some m
 machine_in first = None
 
-module _ (v : VolumeData) (m : Machine) (request : Request) (asks : call_of m ≡ Some request) (mine : List Entry) (shown : (key : Key) → row_at key (rows v) ≡ object_of (newest mine key)) (there : row_at key_a (rows v) ≡ Some (Volume v))
+module _ (v : VolumeData) (m : Machine) (request : Request) (asks : call_of m ≡ Some request) (mine : List Entry)
+    (shown : (key : Key) → row_at key (rows v) ≡ object_of (newest mine key)) (there : row_at key_a (rows v) ≡ Some (Volume v))
     (decides : (rs : List Object) → Shows mine rs → volume_first v (volume_decision rs v NotAsked) ≡ binder_firsts.Begins m) where
   row : (rs : List Object) → Shows mine rs → row_at key_a rs ≡ Some (Volume v)
   row rs shows = shows.shown key_a ∙ sym (shown key_a) ∙ there
@@ -98,7 +103,8 @@ module _ (v : VolumeData) (m : Machine) (request : Request) (asks : call_of m �
   only_ : (rs : List Object) → Shows mine rs → (first : First) → IsDecision binder (memory_of binder mine) rs key_a first → BeginsCall first
   only_ rs shows firsts.Drops d = none_some (ap machine_in (is rs shows binder_firsts.Drops d))
   only_ rs shows (firsts.Queues other) d = none_some (ap machine_in (is rs shows (binder_firsts.Queues other) d))
-  only_ rs shows (firsts.Begins (tasks.Binder n)) d = record { task = tasks.Binder n; request = request; begins = refl; call = ap call_of (one n m (ap machine_in (is rs shows (binder_firsts.Begins n) d))) ∙ asks }
+  only_ rs shows (firsts.Begins (tasks.Binder n)) d =
+      record { task = tasks.Binder n; request = request; begins = refl; call = ap call_of (one n m (ap machine_in (is rs shows (binder_firsts.Begins n) d))) ∙ asks }
   only_ rs shows (firsts.Begins _) d = absurd d
 
   showing : Shows mine (rows v)
@@ -153,7 +159,8 @@ unfolding volume_decision
 available_drops = refl
 
 available_none : (mine : List Entry) → ((key : Key) → row_at key (rows a) ≡ object_of (newest mine key)) → (key : Key) → IsKeyDue binder key mine → ⊥
-available_none mine shown key = not_due key mine (rows a) (record { order = (tt, tt); shown = shown }) (subst (λ r. IsFirst (rows a) r binder_firsts.Drops) (sym (row_at-put (Volume a) [] key)) (by (same_key (key_of (Volume a)) key)))
+available_none mine shown key = not_due key mine (rows a) (record { order = (tt, tt); shown = shown }) (subst
+    (λ r. IsFirst (rows a) r binder_firsts.Drops) (sym (row_at-put (Volume a) [] key)) (by (same_key (key_of (Volume a)) key)))
   where
     by : (b : Bool) → IsFirst (rows a) (if b then Some (Volume a) else None) binder_firsts.Drops
     by true = available_drops
@@ -199,7 +206,8 @@ appended (d ∷ later) xs ys c = ap (λ x. d ∷ x) (appended later xs ys c)
 
 pub diligent_where_none : (role : Role) (calls : List Call) → NeverDue role calls → IsDiligent role calls
 diligent_where_none role calls never kind first fourth earlier between later e four key due =
-    absurd (never_before role calls (later ++ Some fourth ∷ []) (between ++ Some first ∷ earlier) never (e ∙ appended later between (Some first ∷ earlier) (Some fourth)) key (due_now role key (Some first ∷ earlier) between due))
+    absurd (never_before role calls (later ++ Some fourth ∷ []) (between ++ Some first ∷ earlier) never
+    (e ∙ appended later between (Some first ∷ earlier) (Some fourth)) key (due_now role key (Some first ∷ earlier) between due))
 
 -- four watches with nothing between leave a due key
 none_asked : (v : VolumeData) → WasAskedSince binder key_a (call watch ∷ call (tells_volume v) ∷ []) (call watch ∷ call watch ∷ []) → ⊥
@@ -214,7 +222,8 @@ none_asked v = none
     none (inr (inr h)) = h
 
 left : (v : VolumeData) → ((mine : List Entry) → ((key : Key) → row_at key (rows v) ≡ object_of (newest mine key)) → IsKeyDue binder key_a mine) → IsDiligent binder (watched v) → ⊥
-left v due diligent = none_asked v (diligent kinds.PersistentVolume (entry watch) (entry watch) (call (tells_volume v) ∷ []) (call watch ∷ call watch ∷ []) [] refl watch_examples.four key_a (due _ (shown_one v), (due _ (shown_one v), due _ (shown_one v))))
+left v due diligent = none_asked v (diligent kinds.PersistentVolume (entry watch) (entry watch) (call (tells_volume v) ∷ [])
+    (call watch ∷ call watch ∷ []) [] refl watch_examples.four key_a (due _ (shown_one v), (due _ (shown_one v), due _ (shown_one v))))
 
 pub pending_left : IsDiligent binder (watched pending_a) → ⊥
 pending_left = left pending_a pending_due
@@ -262,7 +271,10 @@ pub life_examples : LifeExamples
 life_examples = record {
   nothing_is_due = diligent_where_none binder (watched a) nothing;
   not_where_a_due_key_is_left = pending_left;
-  nor_in_order = λ diligent. none_asked pending_a (diligent kinds.PersistentVolume (entry watch) (entry watch) (call (tells_volume pending_a) ∷ []) (call watch ∷ call watch ∷ []) [] refl watch_examples.four key_a (pending_in_order _ (shown_one pending_a), (pending_in_order _ (shown_one pending_a), pending_in_order _ (shown_one pending_a))));
+  nor_in_order = λ diligent. none_asked pending_a
+      (diligent kinds.PersistentVolume (entry watch) (entry watch) (call (tells_volume pending_a) ∷ [])
+      (call watch ∷ call watch ∷ []) [] refl watch_examples.four key_a
+      (pending_in_order _ (shown_one pending_a), (pending_in_order _ (shown_one pending_a), pending_in_order _ (shown_one pending_a))));
   not_where_the_claim_is_not_read = left taken_a taken_due;
   the_claim_was_read = inr (inl asked_read);
 }

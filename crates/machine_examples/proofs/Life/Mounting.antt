@@ -1,13 +1,13 @@
 -- The examples of node agents compute.
 use Rattle.std.proofs.Common.{◌≡◌, ◌≤◌, List, [], ◌∷◌, Bool, true, false, true≢false, Option, Some, None, inl, inr, refl, sym, ◌∙◌, ap, subst, arith, if◌then◌else◌}
 use Rattle.std.specs.Prelude.{codes}
-use Rattle.kube_types.specs.declared.key.Key.{Key}
-use Rattle.kube_types.specs.declared.parts.Kind.{Kind}
-use Rattle.kube_types.specs.declared.parts.Kind.TheVariants as kinds
-use Rattle.kube_types.specs.declared.objects.Object.{Object}
-use Rattle.kube_types.specs.declared.objects.Object.TheVariants.{Pod}
-use Rattle.kube_types.specs.declared.objects.Pod.{Pod as PodData}
-use Rattle.kube_types.specs.Keys.{key_of, row_at, same_key}
+use Rattle.kube_objects.specs.declared.key.Key.{Key}
+use Rattle.kube_parts.specs.declared.parts.Kind.{Kind}
+use Rattle.kube_parts.specs.declared.parts.Kind.TheVariants as kinds
+use Rattle.kube_objects.specs.declared.objects.Object.{Object}
+use Rattle.kube_objects.specs.declared.objects.Object.TheVariants.{Pod}
+use Rattle.kube_objects.specs.declared.objects.Pod.{Pod as PodData}
+use Rattle.kube_objects.specs.Keys.{key_of, row_at, same_key}
 use Rattle.call_types.specs.declared.entry.Entry.{Entry}
 use Rattle.call_types.specs.declared.request.Request.{Request}
 use Rattle.call_types.specs.declared.request.Request.TheVariants as requests
@@ -63,7 +63,8 @@ module _ (q : PodData) (rows : List MountRow) (mine : List Entry) (took : (memor
   showing : Shows mine (Pod q ∷ [])
   showing = record { order = (tt, tt); shown = shown }
 
-  decided : (key : Key) (row : Option Object) (first : First) → row_at key (Pod q ∷ []) ≡ row → first ≡ agent_first (agent_begins node_1 1 rows row) → IsDecision agent (memory_of agent mine) (Pod q ∷ []) key first
+  decided : (key : Key) (row : Option Object) (first : First) → row_at key (Pod q ∷ []) ≡ row → first ≡ agent_first (agent_begins node_1 1 rows row)
+      → IsDecision agent (memory_of agent mine) (Pod q ∷ []) key first
   decided key row first there is =
       subst (λ epoch. IsAgentFirst node_1 epoch (memory_of agent mine).mounts (row_at key (Pod q ∷ [])) first) (sym took)
       (subst (λ mounts. IsAgentFirst node_1 (Some 1) mounts (row_at key (Pod q ∷ [])) first) (sym told)
@@ -122,7 +123,8 @@ reads_claim = at_start node_1 1 p uid_p (steps.ReadsClaim (codes "c"))
 unmounts : AgentOp
 unmounts = at_start node_1 1 ending_p uid_p steps.Unmounts
 
-module _ (mine : List Entry) (took : (memory_of agent mine).epoch ≡ Some 1) (told : (memory_of agent mine).mounts ≡ Some []) (shown : (key : Key) → row_at key (Pod p ∷ []) ≡ object_of (newest mine key)) where
+module _ (mine : List Entry) (took : (memory_of agent mine).epoch ≡ Some 1) (told : (memory_of agent mine).mounts ≡ Some [])
+    (shown : (key : Key) → row_at key (Pod p ∷ []) ≡ object_of (newest mine key)) where
   p_in_order : IsDueInOrder agent key_p mine
   unfolding agent_call reads_claim
   p_in_order = pod_in_order p [] mine took told shown reads_claim (requests.Get key_c) refl refl
@@ -164,7 +166,8 @@ few_before kinds.PersistentVolumeClaim = omega arith
 
 -- a key that is due before the read is that of the pod, and the read is a call for it
 reads_its_claim : (key : Key) → IsKeyDue agent key (entries before_read) → IsAskedFor agent key (entries before_read) (requests.Get key_c)
-reads_its_claim key due = subst (λ k. IsAskedFor agent k (entries before_read) (requests.Get key_c)) (due_is_its_key p [] (entries before_read) refl refl (shown_pod p) key due) (p_asked (entries before_read) refl refl (shown_pod p))
+reads_its_claim key due = subst (λ k. IsAskedFor agent k (entries before_read) (requests.Get key_c)) (due_is_its_key p [] (entries before_read) refl
+    refl (shown_pod p) key due) (p_asked (entries before_read) refl refl (shown_pod p))
 
 reading_is_diligent : IsDiligent agent (agent_calls pod_called_for)
 reading_is_diligent = read_in_time agent (entry_of seats.Agent watch_of_pods) (entry_of seats.Agent (finds_none key_c)) before_read few_before reads_its_claim
@@ -189,11 +192,13 @@ none_asked (inr (inl asked)) = watches_none _ asked
 none_asked (inr (inr h)) = h
 
 left : IsDiligent agent (agent_calls (pod_left [])) → ⊥
-left diligent = none_asked (diligent kinds.Pod (entry_of seats.Agent watch_of_pods) (entry_of seats.Agent watch_of_pods) (agent_calls told_pod) (agent_calls (watch_of_pods ∷ watch_of_pods ∷ [])) [] refl four_watches key_p
+left diligent = none_asked (diligent kinds.Pod (entry_of seats.Agent watch_of_pods) (entry_of seats.Agent watch_of_pods) (agent_calls told_pod)
+    (agent_calls (watch_of_pods ∷ watch_of_pods ∷ [])) [] refl four_watches key_p
     (p_due _ refl refl (shown_pod p), (p_due _ refl refl (shown_pod p), p_due _ refl refl (shown_pod p))))
 
 left_in_order : IsDiligentInOrder agent (agent_calls (pod_left [])) → ⊥
-left_in_order diligent = none_asked (diligent kinds.Pod (entry_of seats.Agent watch_of_pods) (entry_of seats.Agent watch_of_pods) (agent_calls told_pod) (agent_calls (watch_of_pods ∷ watch_of_pods ∷ [])) [] refl four_watches key_p
+left_in_order diligent = none_asked (diligent kinds.Pod (entry_of seats.Agent watch_of_pods) (entry_of seats.Agent watch_of_pods)
+    (agent_calls told_pod) (agent_calls (watch_of_pods ∷ watch_of_pods ∷ [])) [] refl four_watches key_p
     (p_in_order _ refl refl (shown_pod p), (p_in_order _ refl refl (shown_pod p), p_in_order _ refl refl (shown_pod p))))
 
 pub life_examples : AgentLifeExamples
@@ -204,7 +209,8 @@ life_examples = record {
   nor_in_order = left_in_order;
 }
   where
-    mounted_none : (mine : List Entry) → (memory_of agent mine).epoch ≡ Some 1 → (memory_of agent mine).mounts ≡ Some (row_of uid_p ∷ []) → ((key : Key) → row_at key (Pod p ∷ []) ≡ object_of (newest mine key)) → (key : Key) → IsKeyDue agent key mine → ⊥
+    mounted_none : (mine : List Entry) → (memory_of agent mine).epoch ≡ Some 1 → (memory_of agent mine).mounts ≡ Some (row_of uid_p ∷ [])
+        → ((key : Key) → row_at key (Pod p ∷ []) ≡ object_of (newest mine key)) → (key : Key) → IsKeyDue agent key mine → ⊥
     mounted_none mine took told shown = none_due p (row_of uid_p ∷ []) mine took told shown refl
 
     now : (key : Key) → row_at key (Pod p ∷ []) ≡ object_of (newest (seat_of seats.Agent (tells_pod p ∷ [])) key)
@@ -214,7 +220,16 @@ life_examples = record {
     no_pod key = not_due agent key _ [] (record { order = tt; shown = λ k. refl }) refl
 
     nothing : NeverDue agent (agent_calls (pod_left (row_of uid_p ∷ [])))
-    nothing = (mounted_none _ refl refl now, (mounted_none _ refl refl now, (mounted_none _ refl refl now, (mounted_none _ refl refl now, (mounted_none _ refl refl now, (no_pod, ((λ key due. due.gives.decided), (λ key due. due.gives.decided))))))))
+    nothing = (
+      mounted_none _ refl refl now,
+      (
+        mounted_none _ refl refl now,
+        (
+          mounted_none _ refl refl now,
+          (mounted_none _ refl refl now, (mounted_none _ refl refl now, (no_pod, ((λ key due. due.gives.decided), (λ key due. due.gives.decided))))),
+        ),
+      ),
+    )
 
 -- no call of a life comes after an answer StaleEpoch
 
@@ -222,16 +237,20 @@ module _ (role : Role) where
   abbrev stale_in : Memory → Bool
   stale_in m = m.stale
 
-  fresh_then : (s new : ActorState) (calls : List Call) (request : Request) (outcome : Outcome) → IsPlayed role s calls → PlaysCall s new request outcome (entries calls) → (memory_of role (entries calls)).stale ≡ false
+  fresh_then : (s new : ActorState) (calls : List Call) (request : Request) (outcome : Outcome) → IsPlayed role s calls
+      → PlaysCall s new request outcome (entries calls) → (memory_of role (entries calls)).stale ≡ false
   fresh_then s new calls request outcome played gives =
       let own : memory_of s.role (entries calls) ≡ memory_of role (entries calls) = ap (λ r. memory_of r (entries calls)) (same_role role s calls played) in
       ap stale_in (sym ((stands_now role s calls played).memory ∙ own)) ∙ calls_fresh s gives.turned request gives.turns.turn
 
   fresh_before : (s : ActorState) (calls : List Call) → IsPlayed role s calls → (c : Call) (before : List Call) → calls ≡ c ∷ before → (memory_of role (entries before)).stale ≡ false
   fresh_before s calls (Begins none new stands) c before e = none_some (ap head_in (sym none ∙ e))
-  fresh_before s calls (Told old b x request reply played is told gives stands) c before e = subst (λ y. (memory_of role (entries y)).stale ≡ false) (ap tail_in (sym is ∙ e)) (fresh_then old s b request _ played gives)
-  fresh_before s calls (LostBefore old b request played is gives stands) c before e = subst (λ y. (memory_of role (entries y)).stale ≡ false) (ap tail_in (sym is ∙ e)) (fresh_then old s b request _ played gives)
-  fresh_before s calls (LostAfter old b x request played is lost own gives stands) c before e = subst (λ y. (memory_of role (entries y)).stale ≡ false) (ap tail_in (sym is ∙ e)) (fresh_then old s b request _ played gives)
+  fresh_before s calls (Told old b x request reply played is told gives stands) c before e =
+      subst (λ y. (memory_of role (entries y)).stale ≡ false) (ap tail_in (sym is ∙ e)) (fresh_then old s b request _ played gives)
+  fresh_before s calls (LostBefore old b request played is gives stands) c before e =
+      subst (λ y. (memory_of role (entries y)).stale ≡ false) (ap tail_in (sym is ∙ e)) (fresh_then old s b request _ played gives)
+  fresh_before s calls (LostAfter old b x request played is lost own gives stands) c before e =
+      subst (λ y. (memory_of role (entries y)).stale ≡ false) (ap tail_in (sym is ∙ e)) (fresh_then old s b request _ played gives)
   fresh_before s calls (Wakes old turned played turns wakes stands) c before e = fresh_before old calls played c before e
 
 pub played_examples : AgentPlayedExamples

@@ -1,14 +1,14 @@
 -- The examples of protection compute.
 use Rattle.std.proofs.Common.{◌≡◌, List, [], ◌∷◌, Bool, true, false, true≢false, Option, Some, None, inl, inr, refl, sym, ap, arith}
 use Rattle.std.specs.Prelude.{codes}
-use Rattle.kube_types.specs.declared.key.Key.{Key}
-use Rattle.kube_types.specs.declared.parts.Kind.{Kind}
-use Rattle.kube_types.specs.declared.parts.Kind.TheVariants as kinds
-use Rattle.kube_types.specs.declared.objects.Claim.{Claim as ClaimData}
-use Rattle.kube_types.specs.declared.objects.Object.{Object}
-use Rattle.kube_types.specs.declared.objects.Object.TheVariants.{Volume, Claim, Pod}
-use Rattle.kube_types.specs.declared.objects.Pod.{Pod as PodData}
-use Rattle.kube_types.specs.Keys.{row_at}
+use Rattle.kube_objects.specs.declared.key.Key.{Key}
+use Rattle.kube_parts.specs.declared.parts.Kind.{Kind}
+use Rattle.kube_parts.specs.declared.parts.Kind.TheVariants as kinds
+use Rattle.kube_objects.specs.declared.objects.Claim.{Claim as ClaimData}
+use Rattle.kube_objects.specs.declared.objects.Object.{Object}
+use Rattle.kube_objects.specs.declared.objects.Object.TheVariants.{Volume, Claim, Pod}
+use Rattle.kube_objects.specs.declared.objects.Pod.{Pod as PodData}
+use Rattle.kube_objects.specs.Keys.{row_at}
 use Rattle.call_types.specs.declared.entry.Entry.{Entry}
 use Rattle.call_types.specs.declared.request.Request.{Request}
 use Rattle.call_types.specs.declared.request.Request.TheVariants as requests
@@ -68,7 +68,8 @@ abbrev pub is_binder : SeatKind → Bool
 is_binder seats.Binder = true
 is_binder kind = false
 
-claim_due : (mine : List Entry) (rows : List Object) (task : Task) (call : Request) → Shows mine rows → GivesCall claim_guard (memory_of claim_guard mine) rows (record { key = key_c; task = task; call = call }) → IsKeyDue claim_guard key_c mine
+claim_due : (mine : List Entry) (rows : List Object) (task : Task) (call : Request) → Shows mine rows
+    → GivesCall claim_guard (memory_of claim_guard mine) rows (record { key = key_c; task = task; call = call }) → IsKeyDue claim_guard key_c mine
 claim_due mine rows task call shows gives = rows_in_order claim_guard key_c mine tt (record {
   rows = rows;
   shows = shows;
@@ -78,7 +79,8 @@ claim_due mine rows task call shows gives = rows_in_order claim_guard key_c mine
   gives = gives;
 })
 
-volume_due : (mine : List Entry) (rows : List Object) (task : Task) (call : Request) → Shows mine rows → GivesCall volume_guard (memory_of volume_guard mine) rows (record { key = key_a; task = task; call = call }) → IsKeyDue volume_guard key_a mine
+volume_due : (mine : List Entry) (rows : List Object) (task : Task) (call : Request) → Shows mine rows
+    → GivesCall volume_guard (memory_of volume_guard mine) rows (record { key = key_a; task = task; call = call }) → IsKeyDue volume_guard key_a mine
 volume_due mine rows task call shows gives = rows_in_order volume_guard key_a mine tt (record {
   rows = rows;
   shows = shows;
@@ -98,18 +100,24 @@ not_due role key mine rows shows drops due = none_some (ap task_in (due.only row
 
 bare_volume_due : (mine : List Entry) → ((key : Key) → row_at key (Volume bare_a ∷ []) ≡ object_of (newest mine key)) → IsKeyDue volume_guard key_a mine
 unfolding volume_guard_call
-bare_volume_due mine shown = volume_due mine (Volume bare_a ∷ []) (tasks.VolumeProtect (record { volume = bare_a; step = volumes.Adds })) (volume_write_over bare_a (guarded_volume bare_a)) (record { order = (tt, tt); shown = shown }) (record { decided = refl; call = refl })
+bare_volume_due mine shown = volume_due mine (Volume bare_a ∷ []) (tasks.VolumeProtect (record { volume = bare_a; step = volumes.Adds }))
+    (volume_write_over bare_a (guarded_volume bare_a)) (record { order = (tt, tt); shown = shown }) (record { decided = refl; call = refl })
 
 pub due_examples : ProtectionDueExamples
 unfolding claim_guard_call volume_guard_call
 due_examples = record {
-  bare_claim = claim_due _ (Claim bare_c ∷ []) (tasks.ClaimProtect (record { claim = bare_c; step = claims.Adds })) (claim_write_over bare_c (guarded_claim bare_c)) (record { order = (tt, tt); shown = shown_claim bare_c }) (record { decided = refl; call = refl });
-  leaving_claim = claim_due _ (Claim leaving_c ∷ []) (tasks.ClaimProtect (record { claim = leaving_c; step = claims.ListsPods })) pods_of_default (record { order = (tt, tt); shown = shown_claim leaving_c }) (record { decided = refl; call = refl });
-  leaving_claim_beside_a_pod_of_another = claim_due _ (Claim leaving_c ∷ Pod other_p ∷ []) (tasks.ClaimProtect (record { claim = leaving_c; step = claims.ListsPods })) pods_of_default (record { order = ((refl, tt), (tt, tt)); shown = shown_both leaving_c other_p }) (record { decided = refl; call = refl });
+  bare_claim = claim_due _ (Claim bare_c ∷ []) (tasks.ClaimProtect (record { claim = bare_c; step = claims.Adds }))
+      (claim_write_over bare_c (guarded_claim bare_c)) (record { order = (tt, tt); shown = shown_claim bare_c }) (record { decided = refl; call = refl });
+  leaving_claim = claim_due _ (Claim leaving_c ∷ []) (tasks.ClaimProtect (record { claim = leaving_c; step = claims.ListsPods })) pods_of_default
+      (record { order = (tt, tt); shown = shown_claim leaving_c }) (record { decided = refl; call = refl });
+  leaving_claim_beside_a_pod_of_another =
+      claim_due _ (Claim leaving_c ∷ Pod other_p ∷ []) (tasks.ClaimProtect (record { claim = leaving_c; step = claims.ListsPods })) pods_of_default
+      (record { order = ((refl, tt), (tt, tt)); shown = shown_both leaving_c other_p }) (record { decided = refl; call = refl });
   not_a_leaving_claim_in_use = not_due claim_guard key_c _ (Claim leaving_c ∷ Pod p ∷ []) (record { order = ((refl, tt), (tt, tt)); shown = shown_both leaving_c p }) refl;
   not_a_guarded_claim = not_due claim_guard key_c _ (Claim c ∷ []) (record { order = (tt, tt); shown = shown_claim c }) refl;
   bare_volume = bare_volume_due _ (shown_one bare_a);
-  leaving_volume = volume_due _ (Volume leaving_a ∷ []) (tasks.VolumeProtect (record { volume = leaving_a; step = volumes.Drops })) (volume_write_over leaving_a (unguarded_volume leaving_a)) (record { order = (tt, tt); shown = shown_one leaving_a }) (record { decided = refl; call = refl });
+  leaving_volume = volume_due _ (Volume leaving_a ∷ []) (tasks.VolumeProtect (record { volume = leaving_a; step = volumes.Drops }))
+      (volume_write_over leaving_a (unguarded_volume leaving_a)) (record { order = (tt, tt); shown = shown_one leaving_a }) (record { decided = refl; call = refl });
   not_a_leaving_bound_volume = not_due volume_guard key_a _ (Volume leaving_bound_a ∷ []) (record { order = (tt, tt); shown = shown_one leaving_bound_a }) refl;
 }
 
@@ -133,7 +141,8 @@ none_asked = none
     none (inr (inr h)) = h
 
 left : IsDiligent volume_guard (guard_watched bare_a) → ⊥
-left diligent = none_asked (diligent kinds.PersistentVolume (guard_entry watch) (guard_entry watch) (guard_call (tells_volume bare_a) ∷ []) (guard_call watch ∷ guard_call watch ∷ []) [] refl four key_a (bare_volume_due _ (shown_one bare_a), (bare_volume_due _ (shown_one bare_a), bare_volume_due _ (shown_one bare_a))))
+left diligent = none_asked (diligent kinds.PersistentVolume (guard_entry watch) (guard_entry watch) (guard_call (tells_volume bare_a) ∷ [])
+    (guard_call watch ∷ guard_call watch ∷ []) [] refl four key_a (bare_volume_due _ (shown_one bare_a), (bare_volume_due _ (shown_one bare_a), bare_volume_due _ (shown_one bare_a))))
 
 pub life_examples : ProtectionLifeExamples
 life_examples = record {

@@ -1,14 +1,14 @@
 -- The examples of ops compute.
 use Rattle.std.proofs.Common.{◌≡◌, ◌≤◌, List, [], ◌∷◌, Bool, true, false, true≢false, Option, Some, None, inl, inr, refl, sym, ◌∙◌, ap, subst, arith, if◌then◌else◌}
-use Rattle.kube_types.specs.declared.key.Key.{Key}
-use Rattle.kube_types.specs.declared.parts.Kind.{Kind}
-use Rattle.kube_types.specs.declared.parts.Kind.TheVariants as kinds
-use Rattle.kube_types.specs.declared.objects.Class.{Class as ClassData}
-use Rattle.kube_types.specs.declared.objects.Claim.{Claim as ClaimData}
-use Rattle.kube_types.specs.declared.objects.Volume.{Volume as VolumeData}
-use Rattle.kube_types.specs.declared.objects.Object.{Object}
-use Rattle.kube_types.specs.declared.objects.Object.TheVariants.{Class, Volume, Claim}
-use Rattle.kube_types.specs.Keys.{AreRows, key_of, row_at, same_key}
+use Rattle.kube_objects.specs.declared.key.Key.{Key}
+use Rattle.kube_parts.specs.declared.parts.Kind.{Kind}
+use Rattle.kube_parts.specs.declared.parts.Kind.TheVariants as kinds
+use Rattle.kube_objects.specs.declared.objects.Class.{Class as ClassData}
+use Rattle.kube_objects.specs.declared.objects.Claim.{Claim as ClaimData}
+use Rattle.kube_objects.specs.declared.objects.Volume.{Volume as VolumeData}
+use Rattle.kube_objects.specs.declared.objects.Object.{Object}
+use Rattle.kube_objects.specs.declared.objects.Object.TheVariants.{Class, Volume, Claim}
+use Rattle.kube_objects.specs.Keys.{AreRows, key_of, row_at, same_key}
 use Rattle.call_types.specs.declared.entry.Entry.{Entry}
 use Rattle.call_types.specs.declared.request.Request.{Request}
 use Rattle.call_types.specs.declared.request.Request.TheVariants as requests
@@ -17,7 +17,27 @@ use Rattle.binder_model.specs.Told.{newest, object_of}
 use Rattle.informer_cache.proofs.Found.{row_at-put}
 use Rattle.model_laws.proofs.Lists.{none_some}
 use Rattle.model_examples.specs.OpsRows.{deleting_c}
-use Rattle.model_examples.specs.Samples.{Exchange, a, c, chosen_c, deleting_a, ended_a, entry_of, fast, finds_none, key_a, key_c, late, released_a, seat_of, still_bound_a, tells_claim, tells_class, tells_volume, uid_c}
+use Rattle.model_examples.specs.Samples.{
+  Exchange,
+  a,
+  c,
+  chosen_c,
+  deleting_a,
+  ended_a,
+  entry_of,
+  fast,
+  finds_none,
+  key_a,
+  key_c,
+  late,
+  released_a,
+  seat_of,
+  still_bound_a,
+  tells_claim,
+  tells_class,
+  tells_volume,
+  uid_c,
+}
 use Rattle.reclaim_ops.specs.declared.erase.EraseOp.{EraseOp}
 use Rattle.reclaim_ops.specs.declared.erase.EraseStep.TheVariants as erase_steps
 use Rattle.reclaim_ops.specs.declared.provision.ProvisionOp.{ProvisionOp}
@@ -65,7 +85,8 @@ shown_class k x key = by key.kind
 abbrev with_volume : ClassData → VolumeData → ClaimData → List Object
 with_volume k v x = Class k ∷ Volume v ∷ Claim x ∷ []
 
-shown_three : (k : ClassData) (v : VolumeData) (x : ClaimData) (key : Key) → row_at key (with_volume k v x) ≡ object_of (newest (seat_of seats.Ops (tells_claim x ∷ tells_class k ∷ tells_volume v ∷ [])) key)
+shown_three : (k : ClassData) (v : VolumeData) (x : ClaimData) (key : Key)
+    → row_at key (with_volume k v x) ≡ object_of (newest (seat_of seats.Ops (tells_claim x ∷ tells_class k ∷ tells_volume v ∷ [])) key)
 shown_three k v x key = by key.kind
   where
     by : (of : Kind) → row_at (record key { kind = of }) (with_volume k v x) ≡ object_of (newest (seat_of seats.Ops (tells_claim x ∷ tells_class k ∷ tells_volume v ∷ [])) (record key { kind = of }))
@@ -143,7 +164,8 @@ IsDropped rows row = firsts.Drops ≡ ops_first (claim_begins rows row) (volume_
 
 module _ (v : VolumeData) (mine : List Entry) (shown : (k : Key) → row_at k (Volume v ∷ []) ≡ object_of (newest mine k)) where
   dropped_by : (key : Key) (b : Bool) → same_key (key_of (Volume v)) key ≡ b → IsDropped (Volume v ∷ []) (if b then Some (Volume v) else None) → IsKeyDue ops key mine → ⊥
-  dropped_by key b at drops = not_due ops key mine (Volume v ∷ []) (record { order = (tt, tt); shown = shown }) (subst (λ row. IsDropped (Volume v ∷ []) row) (sym (row_at-put (Volume v) [] key ∙ ap (λ x. if x then Some (Volume v) else None) at)) drops)
+  dropped_by key b at drops = not_due ops key mine (Volume v ∷ []) (record { order = (tt, tt); shown = shown }) (subst
+      (λ row. IsDropped (Volume v ∷ []) row) (sym (row_at-put (Volume v) [] key ∙ ap (λ x. if x then Some (Volume v) else None) at)) drops)
 
   volume_none : IsDropped (Volume v ∷ []) (Some (Volume v)) → (key : Key) → IsKeyDue ops key mine → ⊥
   volume_none drops key = by (same_key (key_of (Volume v)) key) refl
@@ -189,7 +211,8 @@ few_before kinds.Pod = omega arith
 
 -- a key that is due before the read is that of the volume, and the read is a call for it
 reads_it : (key : Key) → IsKeyDue ops key (entries before_read) → IsAskedFor ops key (entries before_read) (requests.Get key_a)
-reads_it key due = subst (λ k. IsAskedFor ops k (entries before_read) (requests.Get key_a)) (due_is_its_key ended_a (entries before_read) (shown_one ended_a) key due) (ended_asked (entries before_read) (shown_one ended_a))
+reads_it key due = subst (λ k. IsAskedFor ops k (entries before_read) (requests.Get key_a))
+    (due_is_its_key ended_a (entries before_read) (shown_one ended_a) key due) (ended_asked (entries before_read) (shown_one ended_a))
 
 -- the lives in which nothing is read
 
@@ -219,24 +242,30 @@ four_of_volumes = let q = is_quiet kinds.PersistentVolume in record { opens = re
 four_of_claims : AreFour kinds.PersistentVolumeClaim
 four_of_claims = let q = is_quiet kinds.PersistentVolumeClaim in record { opens = refl; closes = refl; many = omega arith; quiet = (q, (q, (q, (q, tt)))) }
 
-left : (kind : Kind) (key : Key) (told : List Exchange) → AreFour kind → IsDueThroughout ops key (ops_calls (watch_of kind ∷ told)) (is_left kind) → IsDiligent ops (ops_calls (left_alone kind told)) → ⊥
-left kind key told four due diligent = none_asked kind key told (diligent kind (entry_of seats.Ops (watch_of kind)) (entry_of seats.Ops (watch_of kind)) (ops_calls told) (is_left kind) [] refl four key due)
+left : (kind : Kind) (key : Key) (told : List Exchange) → AreFour kind → IsDueThroughout ops key (ops_calls (watch_of kind ∷ told)) (is_left kind)
+    → IsDiligent ops (ops_calls (left_alone kind told)) → ⊥
+left kind key told four due diligent = none_asked kind key told (diligent kind (entry_of seats.Ops (watch_of kind))
+    (entry_of seats.Ops (watch_of kind)) (ops_calls told) (is_left kind) [] refl four key due)
 
-left_in_order : (kind : Kind) (key : Key) (told : List Exchange) → AreFour kind → IsDueInOrderThroughout ops key (ops_calls (watch_of kind ∷ told)) (is_left kind) → IsDiligentInOrder ops (ops_calls (left_alone kind told)) → ⊥
-left_in_order kind key told four due diligent = none_asked kind key told (diligent kind (entry_of seats.Ops (watch_of kind)) (entry_of seats.Ops (watch_of kind)) (ops_calls told) (is_left kind) [] refl four key due)
+left_in_order : (kind : Kind) (key : Key) (told : List Exchange) → AreFour kind
+    → IsDueInOrderThroughout ops key (ops_calls (watch_of kind ∷ told)) (is_left kind) → IsDiligentInOrder ops (ops_calls (left_alone kind told)) → ⊥
+left_in_order kind key told four due diligent =
+    none_asked kind key told (diligent kind (entry_of seats.Ops (watch_of kind)) (entry_of seats.Ops (watch_of kind)) (ops_calls told) (is_left kind) [] refl four key due)
 
 ended_left : IsDiligent ops (ops_calls (volume_left ended_a)) → ⊥
 ended_left = left kinds.PersistentVolume key_a (tells_volume ended_a ∷ []) four_of_volumes (ended_due _ (shown_one ended_a), (ended_due _ (shown_one ended_a), ended_due _ (shown_one ended_a)))
 
 claim_is_left : IsDiligent ops (ops_calls claim_left) → ⊥
-claim_is_left = left kinds.PersistentVolumeClaim key_c (tells_claim c ∷ tells_class fast ∷ []) four_of_claims (claim_due _ (shown_class fast c), (claim_due _ (shown_class fast c), claim_due _ (shown_class fast c)))
+claim_is_left = left kinds.PersistentVolumeClaim key_c (tells_claim c ∷ tells_class fast ∷ []) four_of_claims
+    (claim_due _ (shown_class fast c), (claim_due _ (shown_class fast c), claim_due _ (shown_class fast c)))
 
 pub life_examples : OpsLifeExamples
 life_examples = record {
   its_volume_is_read = read_in_time ops (entry_of seats.Ops (watch_of kinds.PersistentVolume)) (entry_of seats.Ops (finds_none key_a)) before_read few_before reads_it;
   nothing_is_due_of_a_volume_to_be_kept = diligent_where_none ops _ nothing;
   not_where_an_ended_volume_is_left = ended_left;
-  nor_in_order = left_in_order kinds.PersistentVolume key_a (tells_volume ended_a ∷ []) four_of_volumes (ended_in_order _ (shown_one ended_a), (ended_in_order _ (shown_one ended_a), ended_in_order _ (shown_one ended_a)));
+  nor_in_order = left_in_order kinds.PersistentVolume key_a (tells_volume ended_a ∷ []) four_of_volumes
+      (ended_in_order _ (shown_one ended_a), (ended_in_order _ (shown_one ended_a), ended_in_order _ (shown_one ended_a)));
   not_where_a_claim_is_left = claim_is_left;
 }
   where

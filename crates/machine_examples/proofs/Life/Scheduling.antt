@@ -2,16 +2,16 @@
 use Rattle.std.proofs.Common.{◌≡◌, ◌≤◌, ℕ, List, [], ◌∷◌, Bool, true, false, true≢false, Option, Some, None, inl, inr, refl, sym, ◌∙◌, ap, subst, arith, if◌then◌else◌}
 use Rattle.std.specs.Prelude.{bytes_eq, codes}
 use Rattle.plain_data.specs.Pairs.{value_at}
-use Rattle.kube_types.specs.declared.key.Key.{Key}
-use Rattle.kube_types.specs.declared.parts.Kind.{Kind}
-use Rattle.kube_types.specs.declared.parts.Kind.TheVariants as kinds
-use Rattle.kube_types.specs.declared.objects.Claim.{Claim as ClaimData}
-use Rattle.kube_types.specs.declared.objects.Object.{Object}
-use Rattle.kube_types.specs.declared.objects.Object.TheVariants.{Class, Node, Volume, Claim, Pod}
-use Rattle.kube_types.specs.declared.objects.Pod.{Pod as PodData}
-use Rattle.kube_types.specs.Bindings.{selected_node}
-use Rattle.kube_types.specs.Keys.{key_of, kind_index, kind_of, row_at, same_key}
-use Rattle.kube_types.proofs.KeyOrder.{row_at_key}
+use Rattle.kube_objects.specs.declared.key.Key.{Key}
+use Rattle.kube_parts.specs.declared.parts.Kind.{Kind}
+use Rattle.kube_parts.specs.declared.parts.Kind.TheVariants as kinds
+use Rattle.kube_objects.specs.declared.objects.Claim.{Claim as ClaimData}
+use Rattle.kube_objects.specs.declared.objects.Object.{Object}
+use Rattle.kube_objects.specs.declared.objects.Object.TheVariants.{Class, Node, Volume, Claim, Pod}
+use Rattle.kube_objects.specs.declared.objects.Pod.{Pod as PodData}
+use Rattle.kube_objects.specs.Bindings.{selected_node}
+use Rattle.kube_objects.specs.Keys.{key_of, kind_index, kind_of, row_at, same_key}
+use Rattle.kube_objects.proofs.KeyOrder.{row_at_key}
 use Rattle.call_types.specs.declared.entry.Entry.{Entry}
 use Rattle.call_types.specs.declared.request.Request.{Request}
 use Rattle.call_types.specs.declared.request.Request.TheVariants as requests
@@ -53,7 +53,19 @@ use Rattle.machine_examples.proofs.Life.Computed.{NeverDue, diligent_where_none,
 use Rattle.machine_examples.proofs.Life.Counted.{read_in_time}
 use Rattle.machine_examples.proofs.Life.Protected.{is_binder, not_due}
 use Rattle.machine_examples.specs.Life.Agents.{watch_of_pods}
-use Rattle.machine_examples.specs.Life.Schedules.{ScheduleDueExamples, ScheduleLifeExamples, SchedulePlayedExamples, returned, schedule_calls, scheduler, selection, selects_for, tells_all, tells_refused, unscheduled}
+use Rattle.machine_examples.specs.Life.Schedules.{
+  ScheduleDueExamples,
+  ScheduleLifeExamples,
+  SchedulePlayedExamples,
+  returned,
+  schedule_calls,
+  scheduler,
+  selection,
+  selects_for,
+  tells_all,
+  tells_refused,
+  unscheduled,
+}
 
 -- the rows of what was told
 
@@ -123,7 +135,8 @@ module _ (mine : List Entry) (shown : ShowsRows (rows c pod) mine) (none : (memo
 
 -- a key under which no pod stands is not due
 
-drops_other : (os : List Object) (mine : List Entry) (key : Key) (o : Object) → Shows mine os → row_at key os ≡ Some o → IsPodFirst os (memory_of scheduler mine).tries.refused (Some o) firsts.Drops → IsKeyDue scheduler key mine → ⊥
+drops_other : (os : List Object) (mine : List Entry) (key : Key) (o : Object) → Shows mine os → row_at key os ≡ Some o
+    → IsPodFirst os (memory_of scheduler mine).tries.refused (Some o) firsts.Drops → IsKeyDue scheduler key mine → ⊥
 drops_other os mine key o shows at drops = not_due scheduler key mine os shows (subst (λ row. IsPodFirst os (memory_of scheduler mine).tries.refused row firsts.Drops) (sym at) drops)
 
 drops_none : (os : List Object) (mine : List Entry) (key : Key) → Shows mine os → row_at key os ≡ None → IsKeyDue scheduler key mine → ⊥
@@ -167,7 +180,8 @@ none_due mine shown key due = by (row_at key (Pod scheduled ∷ [])) refl
 
     by : (row : Option Object) → row_at key (Pod scheduled ∷ []) ≡ row → ⊥
     by None at = drops_none (Pod scheduled ∷ []) mine key shows at due
-    by (Some o) at = drops_other (Pod scheduled ∷ []) mine key o shows at (subst (λ x. IsPodFirst (Pod scheduled ∷ []) (memory_of scheduler mine).tries.refused (Some x) firsts.Drops) (is_it o (found_stands key o (Pod scheduled ∷ []) at)) refl) due
+    by (Some o) at = drops_other (Pod scheduled ∷ []) mine key o shows at
+        (subst (λ x. IsPodFirst (Pod scheduled ∷ []) (memory_of scheduler mine).tries.refused (Some x) firsts.Drops) (is_it o (found_stands key o (Pod scheduled ∷ []) at)) refl) due
 
 -- the pod whose claim lost its node
 
@@ -183,7 +197,8 @@ settled true = refl
 settled false = refl
 
 came_back : (key : Key) → row_at key (Claim returned ∷ []) ≡ object_of (later (Some (listing 11 (row_at key (Claim returned ∷ [])))) (told_before (same_key (key_of (Claim returned)) key)))
-came_back key = subst (λ row. row ≡ object_of (later (Some (listing 11 row)) (told_before (same_key (key_of (Claim returned)) key)))) (sym (row_at-put (Claim returned) [] key)) (settled (same_key (key_of (Claim returned)) key))
+came_back key = subst (λ row. row ≡ object_of (later (Some (listing 11 row)) (told_before (same_key (key_of (Claim returned)) key))))
+    (sym (row_at-put (Claim returned) [] key)) (settled (same_key (key_of (Claim returned)) key))
 
 abbrev after_refusal : List Entry
 after_refusal = seat_of seats.Scheduler tells_refused
@@ -225,7 +240,8 @@ second_asked = record {
 }
 
 is_second : (task : Task) → IsPodFirst two_rows refused_nodes (Some (Pod pod)) (firsts.Begins task) → task_call task ≡ Some (selects_for returned n2)
-is_second (tasks.Schedule op) d = ap schedule_call (one op selecting_second (decisions_are_unique two_rows refused_nodes (Some (Pod pod)) (Some op) (Some selecting_second) shows_two.order d begins_second)) ∙ asks_second
+is_second (tasks.Schedule op) d = ap schedule_call (one op selecting_second
+    (decisions_are_unique two_rows refused_nodes (Some (Pod pod)) (Some op) (Some selecting_second) shows_two.order d begins_second)) ∙ asks_second
 is_second _ d = absurd d
 
 abbrev is_first_node : Option (List ℕ) → Bool
@@ -240,7 +256,8 @@ first_not_asked : IsAskedFor scheduler key_p after_refusal (selects_for returned
 first_not_asked a =
     let same : a.rows ≡ two_rows = rows_alike two_rows a.rows shows_two.order a.shows.order (λ k. a.shows.shown k ∙ sym (shown_two k)) in
     let decided : IsPodFirst two_rows refused_nodes (row_at key_p two_rows) (firsts.Begins a.under.task) =
-    subst (λ rs. IsPodFirst rs refused_nodes (row_at key_p rs) (firsts.Begins a.under.task)) same (subst (λ k. IsPodFirst a.rows refused_nodes (row_at k a.rows) (firsts.Begins a.under.task)) a.own a.gives.decided) in
+    subst (λ rs. IsPodFirst rs refused_nodes (row_at key_p rs) (firsts.Begins a.under.task)) same
+    (subst (λ k. IsPodFirst a.rows refused_nodes (row_at k a.rows) (firsts.Begins a.under.task)) a.own a.gives.decided) in
     let asked : selects_for returned n1 ≡ selects_for returned n2 = a.call ∙ one a.under.call (selects_for returned n2) (sym a.gives.call ∙ is_second a.under.task decided) in
     true≢false (ap selects_first asked)
 
@@ -270,7 +287,8 @@ few_before kinds.PersistentVolumeClaim = omega arith
 few_before kinds.Pod = omega arith
 
 selects_it : (key : Key) → IsKeyDue scheduler key (entries before_selection) → IsAskedFor scheduler key (entries before_selection) selection
-selects_it key due = subst (λ k. IsAskedFor scheduler k (entries before_selection) selection) (due_is_pod (entries before_selection) (shown_all c pod) key due) (asked_for (entries before_selection) (shown_all c pod) refl)
+selects_it key due = subst (λ k. IsAskedFor scheduler k (entries before_selection) selection) (due_is_pod (entries before_selection)
+    (shown_all c pod) key due) (asked_for (entries before_selection) (shown_all c pod) refl)
 
 -- the life in which the pod is left
 
@@ -306,7 +324,8 @@ life_examples = record {
   its_node_is_selected = read_in_time scheduler (entry_of seats.Scheduler watch_of_pods) (entry_of seats.Scheduler (selects (codes "n1") 10)) before_selection few_before selects_it;
   nothing_is_due_of_a_pod_with_a_node = diligent_where_none scheduler _ nothing;
   not_where_a_pod_is_left = pod_left;
-  nor_in_order = λ diligent. none_asked (diligent kinds.Pod (entry_of seats.Scheduler watch_of_pods) (entry_of seats.Scheduler watch_of_pods) (schedule_calls (tells_all c pod)) is_left [] refl four key_p
+  nor_in_order = λ diligent. none_asked (diligent kinds.Pod (entry_of seats.Scheduler watch_of_pods) (entry_of seats.Scheduler watch_of_pods)
+      (schedule_calls (tells_all c pod)) is_left [] refl four key_p
       (due_in_order _ (shown_all c pod) refl, (due_in_order _ (shown_all c pod) refl, due_in_order _ (shown_all c pod) refl)));
 }
   where

@@ -1,7 +1,7 @@
 -- What a seat must have been told, computed.
 use Rattle.std.proofs.Common.{refl, sym, subst, inl, inr, true≢false}
 use Rattle.std.specs.Prelude.{[], ◌∷◌, bytes_eq, codes, unwrap_or}
-use Rattle.kube_types.specs.Bindings.{is_bound}
+use Rattle.kube_objects.specs.Bindings.{is_bound}
 use Rattle.call_types.specs.declared.request.SeatKind.TheVariants as seats
 use Rattle.binder_model.specs.ObjectKeys.{node_key}
 use Rattle.binder_model.specs.OpsLicence.{IsToErase}
@@ -24,10 +24,18 @@ provision_evidence_examples = record {
   not_before_it_was_given = λ h. neither (λ x. x.0.1) (neither (λ x. x.0.1) (neither (λ x. x.0.1) (λ x. x))) h.given;
   not_of_other_data = λ h. neither (λ x. differ (λ i. bytes_eq i.id (codes "data-1")) x.0.1.1 refl refl) (neither (λ x. x.0.1) (neither (λ x. x.0.1) (neither (λ x. x.0.1) (λ x. x)))) h.given;
   not_where_the_answer_was_lost = λ h. neither (λ x. true≢false (sym x.0.0)) (neither (λ x. x.0.1) (neither (λ x. x.0.1) (neither (λ x. x.0.1) (λ x. x)))) h.given;
-  takes_a_node_back_that_is_exhausted = record { known = refl; told = inr (inl (refl, inl refl)); undone = refl; node = codes "n1"; selected = refl; why = inl (inl ((refl, refl), inl (refl, inl refl))) };
+  takes_a_node_back_that_is_exhausted = record {
+    known = refl;
+    told = inr (inl (refl, inl refl));
+    undone = refl;
+    node = codes "n1";
+    selected = refl;
+    why = inl (inl ((refl, refl), inl (refl, inl refl)));
+  };
   takes_a_node_back_that_is_gone = record { known = refl; told = inl (refl, inl refl); undone = refl; node = codes "n1"; selected = refl; why = inr refl };
   not_where_nothing_was_told_of_it = λ h. neither (neither (λ x. x.0.1) (λ x. x)) (λ x. x) h.why;
-  not_where_it_was_not_tried = λ h. neither (neither (λ x. x.0.1) (neither (λ x. x.0.1) (λ x. x))) (λ x. none_some (sym (subst (λ o. IsNewestAbsent (seat_of seats.Ops (tells_claim chosen_c ∷ tells_node n1 ∷ [])) (node_key (unwrap_or o []))) (sym h.selected) x))) h.why;
+  not_where_it_was_not_tried = λ h. neither (neither (λ x. x.0.1) (neither (λ x. x.0.1) (λ x. x))) (λ x. none_some
+      (sym (subst (λ o. IsNewestAbsent (seat_of seats.Ops (tells_claim chosen_c ∷ tells_node n1 ∷ [])) (node_key (unwrap_or o []))) (sym h.selected) x))) h.why;
   nodes_were_listed = record { nodes = inr (inl (refl, refl)) };
   nodes_were_listed_without_any = record { nodes = inl (refl, refl) };
   list_of_another_kind_does_not_count = λ h. neither (λ x. true≢false (sym x.1)) (λ x. x) h.nodes;

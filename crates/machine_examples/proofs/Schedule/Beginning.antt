@@ -2,10 +2,10 @@
 use Rattle.std.proofs.Common.{ℕ, ◌≡◌, Bool, true, false, true≢false, List, [], ◌∷◌, Option, Some, None, refl, sym, ap, subst}
 use Rattle.std.specs.Prelude.{bytes_eq, codes, is_some}
 use Rattle.plain_data.specs.Pairs.{value_at}
-use Rattle.kube_types.specs.declared.objects.Pod.{Pod as PodData}
-use Rattle.kube_types.specs.declared.objects.Object.{Object}
-use Rattle.kube_types.specs.declared.objects.Object.TheVariants.{Class, Node, Volume, Claim}
-use Rattle.kube_types.specs.Bindings.{is_scheduled, selected_node}
+use Rattle.kube_objects.specs.declared.objects.Pod.{Pod as PodData}
+use Rattle.kube_objects.specs.declared.objects.Object.{Object}
+use Rattle.kube_objects.specs.declared.objects.Object.TheVariants.{Class, Node, Volume, Claim}
+use Rattle.kube_objects.specs.Bindings.{is_scheduled, selected_node}
 use Rattle.call_types.specs.declared.request.Request.{Request}
 use Rattle.call_types.specs.declared.request.Request.TheVariants as requests
 use Rattle.binder_model.specs.BindWrites.{taken_for}
@@ -22,13 +22,15 @@ use Rattle.machine_examples.specs.Delayed.Scenes.{b, c, chosen_on, e, late, leav
 abbrev pub begun_on : List Object → List Tried → PodData → Option ScheduleOp
 begun_on rows refused p = begun_with (writes_for rows p (chosen rows p (last_refused rows p refused)))
 
-pub begins : (rows : List Object) (refused : List Tried) (p : PodData) (op : Option ScheduleOp) → is_rising rows ≡ true → is_scheduled p ≡ false → begun_on rows refused p ≡ op → BeginsOn rows refused (on p) op
+pub begins : (rows : List Object) (refused : List Tried) (p : PodData) (op : Option ScheduleOp) → is_rising rows ≡ true → is_scheduled p ≡ false
+    → begun_on rows refused p ≡ op → BeginsOn rows refused (on p) op
 begins rows refused p op rising unscheduled is =
     let last = last_refused rows p refused in
     let b : BeginsFor rows refused p op = record { choice = chosen rows p last; chosen = holds rows p last (chosen rows p last) rising refl; begins = sym is } in
     subst (λ s. BeginsIf s rows refused p op) (sym unscheduled) b
 
-pub not_begun : (rows : List Object) (refused : List Tried) (p : PodData) (op : Option ScheduleOp) → is_rising rows ≡ true → is_scheduled p ≡ false → (begun_on rows refused p ≡ op → ⊥) → BeginsOn rows refused (on p) op → ⊥
+pub not_begun : (rows : List Object) (refused : List Tried) (p : PodData) (op : Option ScheduleOp) → is_rising rows ≡ true → is_scheduled p ≡ false
+    → (begun_on rows refused p ≡ op → ⊥) → BeginsOn rows refused (on p) op → ⊥
 not_begun rows refused p op rising unscheduled differs b =
     differs (decisions_are_unique rows refused (on p) (begun_on rows refused p) op (rising_is rows rising) (begins rows refused p (begun_on rows refused p) rising unscheduled refl) b)
 

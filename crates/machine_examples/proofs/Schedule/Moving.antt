@@ -1,6 +1,6 @@
 -- What the scheduler's machine writes and makes of answers, computed.
 use Rattle.std.proofs.Common.{Bool, true, false, true≢false, Option, Some, refl, sym, ap}
-use Rattle.kube_types.specs.declared.objects.Object.TheVariants.{Claim}
+use Rattle.kube_objects.specs.declared.objects.Object.TheVariants.{Claim}
 use Rattle.call_types.specs.declared.request.Request.{Request}
 use Rattle.call_types.specs.declared.request.Request.TheVariants as requests
 use Rattle.binder_model.specs.BindWrites.{taken_for}

@@ -1,7 +1,7 @@
 -- What a seat must have been told, and what is due, computed.
 use Rattle.std.proofs.Common.{◌⊎◌, Bool, true, false, true≢false, Option, Some, inl, inr, refl, sym, ap}
-use Rattle.kube_types.specs.declared.names.Due.{Due}
-use Rattle.kube_types.specs.declared.names.Due.TheVariants as dues
+use Rattle.kube_parts.specs.declared.names.Due.{Due}
+use Rattle.kube_parts.specs.declared.names.Due.TheVariants as dues
 use Rattle.binder_model.specs.BindWrites.{taken_for}
 use Rattle.std.specs.Prelude.{codes}
 use Rattle.model_laws.proofs.Lists.{none_some}
@@ -19,17 +19,46 @@ is_assign action = false
 pub evidence_examples : EvidenceExamples
 unfolding taken_for
 evidence_examples = record {
-  told_volume_may_be_taken = (inr (inl (refl, inl (record { version = refl; placed = refl; named = refl }, record { live = refl; told = inl (refl, inl (record { known = refl; free = tt; change = refl })) }))), tt);
+  told_volume_may_be_taken = (
+    inr
+        (inl (refl, inl (record { version = refl; placed = refl; named = refl }, record { live = refl; told = inl (refl, inl (record { known = refl; free = tt; change = refl })) }))),
+    tt,
+  );
   untold_volume_may_not = λ h. elim h.0 [ inl here ↦ none_of_two here.1 | inr more ↦ more ];
   untold_claim_takes_none = λ h. elim h.0 [
     | inl here ↦ elim here.1 [ inl at ↦ elim at.1.told [ inl told ↦ none_of_two told.1 | inr more ↦ more ] | inr more ↦ more ]
     | inr more ↦ more
   ];
   both_may_be_written = (
-    inr (inr (inr (inr (inl (refl, inl (record { version = refl; placed = refl; named = refl }, record { live = refl; told = inr (inr (inr (inl (refl, inl (record { known = refl; free = tt; change = refl }))))) })))))),
-    (inr (inr (inl (refl, inl (record { version = refl; placed = refl; named = refl }, record { undone = refl; class = late; class_newest = refl; delayed = refl; node = n1; node_newest = refl; change = refl })))), tt),
+    inr (inr (inr (inr (inl (
+      refl,
+      inl
+          (record { version = refl; placed = refl; named = refl }, record { live = refl; told = inr (inr (inr (inl (refl, inl (record { known = refl; free = tt; change = refl }))))) }),
+    ))))),
+    (
+      inr (inr (inl (
+        refl,
+        inl (
+          record { version = refl; placed = refl; named = refl },
+          record
+              { undone = refl; class = late; class_newest = refl; delayed = refl; node = n1; node_newest = refl; change = refl },
+        ),
+      ))),
+      tt,
+    ),
   );
-  second_may_be_written_then = (inr (inr (inl (refl, inl (record { version = refl; placed = refl; named = refl }, record { undone = refl; class = late; class_newest = refl; delayed = refl; node = n1; node_newest = refl; change = refl })))), tt);
+  second_may_be_written_then = (
+    inr
+        (inr (inl (
+          refl,
+          inl (
+            record { version = refl; placed = refl; named = refl },
+            record
+                { undone = refl; class = late; class_newest = refl; delayed = refl; node = n1; node_newest = refl; change = refl },
+          ),
+        ))),
+    tt,
+  );
   untold_class_selects_none = λ h. elim h.0 [
     | inl here ↦ none_of_two here.1
     | inr more ↦ elim more [
@@ -37,7 +66,19 @@ evidence_examples = record {
       | inr rest ↦ rest
     ]
   ];
-  pod_may_be_bound = (record { pod = pod; newest = refl; same = refl; unscheduled = refl; on = n1; node_newest = refl; ready = (record { claim = completed (codes "e") c; newest = refl; completed = refl; volume = carrying c e; volume_newest = refl; admitted = refl }, tt) }, tt);
+  pod_may_be_bound = (
+    record {
+      pod = pod;
+      newest = refl;
+      same = refl;
+      unscheduled = refl;
+      on = n1;
+      node_newest = refl;
+      ready =
+          (record { claim = completed (codes "e") c; newest = refl; completed = refl; volume = carrying c e; volume_newest = refl; admitted = refl }, tt);
+    },
+    tt,
+  );
   untold_pod_may_not = λ h. none_some h.0.newest;
   nothing_must_be_told_at_the_end = tt;
   nothing_must_be_told_when_parked = tt;

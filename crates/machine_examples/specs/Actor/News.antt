@@ -1,9 +1,9 @@
 -- When a kind has no news, and what an answer makes of a pass: cases that hold, and cases beside them that must not.
 -- A choice of this project, as the actors are.
 use Rattle.std.specs.Prelude.{◌≡◌, true, false, List, [], ◌∷◌, None}
-use Rattle.kube_types.specs.declared.parts.Kind.{Kind}
-use Rattle.kube_types.specs.declared.parts.Kind.TheVariants as kinds
-use Rattle.kube_types.specs.declared.objects.Object.TheVariants.{Volume}
+use Rattle.kube_parts.specs.declared.parts.Kind.{Kind}
+use Rattle.kube_parts.specs.declared.parts.Kind.TheVariants as kinds
+use Rattle.kube_objects.specs.declared.objects.Object.TheVariants.{Volume}
 use Rattle.call_types.specs.declared.request.Request.TheVariants as requests
 use Rattle.call_types.specs.declared.request.SeatKind.TheVariants as seats
 use Rattle.call_types.specs.declared.reply.Change.TheVariants as changes
@@ -41,6 +41,7 @@ settle_round_calls = record { behind = 1; event = false }
 
 pub record PassExamples : Type 0 where
   pub goes_on : pass_after settle_round_calls true (requests.Watch kinds.PersistentVolumeClaim 3) (replies.Events (record { events = []; upto = 3 })) ≡ record { behind = 2; event = false }
-  pub has_an_event : pass_after settle_round_calls true (requests.Watch kinds.PersistentVolumeClaim 3) (replies.Events (record { events = change ∷ []; upto = 3 })) ≡ record { behind = 2; event = true }
+  pub has_an_event : pass_after settle_round_calls true (requests.Watch kinds.PersistentVolumeClaim 3)
+      (replies.Events (record { events = change ∷ []; upto = 3 })) ≡ record { behind = 2; event = true }
   pub waits_where_it_is_gone : pass_after settle_round_calls true (requests.Watch kinds.PersistentVolumeClaim 3) (replies.Refused (refusals.Gone 9)) ≡ record { behind = 1; event = true }
   pub lists_do_not_count : pass_after settle_round_calls false (requests.List kinds.PersistentVolumeClaim None) (replies.Listed [] 3) ≡ settle_round_calls

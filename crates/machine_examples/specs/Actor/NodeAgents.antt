@@ -2,10 +2,10 @@
 -- and its silence once its epoch is stale. Cases that the definitions give, and cases beside them that they do not. A choice of
 -- this project, as the actors are.
 use Rattle.std.specs.Prelude.{ℕ, ◌≡◌, true, false, List, [], ◌∷◌, Some, None, codes}
-use Rattle.kube_types.specs.declared.key.Key.{Key}
-use Rattle.kube_types.specs.declared.objects.Pod.{Pod as PodData}
-use Rattle.kube_types.specs.declared.objects.Object.{Object}
-use Rattle.kube_types.specs.declared.objects.Object.TheVariants.{Claim, Pod}
+use Rattle.kube_objects.specs.declared.key.Key.{Key}
+use Rattle.kube_objects.specs.declared.objects.Pod.{Pod as PodData}
+use Rattle.kube_objects.specs.declared.objects.Object.{Object}
+use Rattle.kube_objects.specs.declared.objects.Object.TheVariants.{Claim, Pod}
 use Rattle.call_types.specs.declared.request.Request.{Request}
 use Rattle.call_types.specs.declared.request.Request.TheVariants as requests
 use Rattle.call_types.specs.declared.request.SeatKind.TheVariants as seats
@@ -97,10 +97,12 @@ abbrev pub stale : Reply
 stale = replies.Refused (StaleEpoch 2)
 
 pub record AgentMoveExamples : Type 0 where
-  pub ready_claim_has_its_volume_read : under_after (under (about p reads_c) (requests.Get key_c)) (replies.Found (Claim bound_c)) ≡ Some (under (about p (steps.ReadsVolume (codes "c") bound_c)) (requests.Get key_a))
+  pub ready_claim_has_its_volume_read : under_after (under (about p reads_c) (requests.Get key_c)) (replies.Found (Claim bound_c)) ≡ Some
+      (under (about p (steps.ReadsVolume (codes "c") bound_c)) (requests.Get key_a))
   pub stale_epoch_is_the_end : under_after (under (about ending_p steps.Unmounts) (requests.Unmount node_1 1 uid_p)) stale ≡ None
   pub its_key_is_parked : task_parks (about ending_p steps.Unmounts) stale ≡ true
-  pub unmounted_pod_has_the_mounts_read : under_after (under (about ending_p steps.Unmounts) (requests.Unmount node_1 1 uid_p)) (replies.Mounted []) ≡ Some (under (about ending_p steps.ReadsMounts) (requests.Mounts node_1 1))
+  pub unmounted_pod_has_the_mounts_read : under_after (under (about ending_p steps.Unmounts) (requests.Unmount node_1 1 uid_p))
+      (replies.Mounted []) ≡ Some (under (about ending_p steps.ReadsMounts) (requests.Mounts node_1 1))
   pub finished_pod_is_done : task_parks (about ending_p steps.Finishes) (replies.Left (Pod ending_p)) ≡ false
 
 -- its silence

@@ -1,12 +1,12 @@
 -- What the provisioner and reclaimer decides as an actor, what answers make of what it has under way, and which kinds it lists before
 -- it decides: cases that the definitions give, and cases beside them that they do not. A choice of this project, as the actors are.
 use Rattle.std.specs.Prelude.{ℕ, ◌≡◌, true, false, List, [], ◌∷◌, Option, Some, None, codes}
-use Rattle.kube_types.specs.declared.key.Key.{Key}
-use Rattle.kube_types.specs.declared.parts.Kind.{Kind}
-use Rattle.kube_types.specs.declared.parts.Kind.TheVariants as kinds
-use Rattle.kube_types.specs.declared.parts.VolumePhase.TheVariants as phases
-use Rattle.kube_types.specs.declared.objects.Object.{Object}
-use Rattle.kube_types.specs.declared.objects.Object.TheVariants.{Class, Node, Volume, Claim}
+use Rattle.kube_objects.specs.declared.key.Key.{Key}
+use Rattle.kube_parts.specs.declared.parts.Kind.{Kind}
+use Rattle.kube_parts.specs.declared.parts.Kind.TheVariants as kinds
+use Rattle.kube_parts.specs.declared.parts.VolumePhase.TheVariants as phases
+use Rattle.kube_objects.specs.declared.objects.Object.{Object}
+use Rattle.kube_objects.specs.declared.objects.Object.TheVariants.{Class, Node, Volume, Claim}
 use Rattle.call_types.specs.declared.request.NewStatus.TheVariants as statuses
 use Rattle.call_types.specs.declared.request.Request.{Request}
 use Rattle.call_types.specs.declared.request.Request.TheVariants as requests

@@ -2,14 +2,14 @@
 -- the definitions give, each beside others that they give otherwise.
 -- A choice of this project, as the machines are.
 use Rattle.std.specs.Prelude.{◌≡◌, true, List, [], ◌∷◌, Some, None, codes}
-use Rattle.kube_types.specs.declared.parts.ClaimPhase.TheVariants as claims
+use Rattle.kube_parts.specs.declared.parts.ClaimPhase.TheVariants as claims
 use Rattle.kube_types.specs.declared.lookup.Live.TheVariants.{NotAsked, Absent}
-use Rattle.kube_types.specs.declared.objects.Claim.{Claim as ClaimData}
-use Rattle.kube_types.specs.declared.objects.Class.{Class as ClassData}
-use Rattle.kube_types.specs.declared.objects.Volume.{Volume as VolumeData}
-use Rattle.kube_types.specs.declared.objects.Object.{Object}
-use Rattle.kube_types.specs.declared.objects.Object.TheVariants.{Class, Volume, Claim}
-use Rattle.kube_types.specs.Bindings.{beta_class, is_default_class}
+use Rattle.kube_objects.specs.declared.objects.Claim.{Claim as ClaimData}
+use Rattle.kube_objects.specs.declared.objects.Class.{Class as ClassData}
+use Rattle.kube_objects.specs.declared.objects.Volume.{Volume as VolumeData}
+use Rattle.kube_objects.specs.declared.objects.Object.{Object}
+use Rattle.kube_objects.specs.declared.objects.Object.TheVariants.{Class, Volume, Claim}
+use Rattle.kube_objects.specs.Bindings.{beta_class, is_default_class}
 use Rattle.kube_types.specs.Defaults.{IsDefaultOf, StandsIn}
 use Rattle.call_types.specs.declared.request.Request.TheVariants.{Update}
 use Rattle.call_types.specs.declared.reply.Refusal.TheVariants.{Conflict}

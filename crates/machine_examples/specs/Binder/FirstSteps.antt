@@ -1,9 +1,9 @@
 -- What is done about a key on a look-up alone: cases that the definitions give, each beside others that they give otherwise.
 -- A choice of this project, as the machines are.
 use Rattle.std.specs.Prelude.{List, [], ◌∷◌, Some}
-use Rattle.kube_types.specs.declared.parts.VolumePhase.TheVariants as volumes
-use Rattle.kube_types.specs.declared.objects.Object.{Object}
-use Rattle.kube_types.specs.declared.objects.Object.TheVariants.{Volume, Claim}
+use Rattle.kube_parts.specs.declared.parts.VolumePhase.TheVariants as volumes
+use Rattle.kube_objects.specs.declared.objects.Object.{Object}
+use Rattle.kube_objects.specs.declared.objects.Object.TheVariants.{Volume, Claim}
 use Rattle.binder_machines.specs.declared.decide.First.{First}
 use Rattle.binder_machines.specs.declared.decide.First.TheVariants.{Drops, Queues, Begins}
 use Rattle.binder_machines.specs.declared.machine.Machine.TheVariants.{Frees, MarksBound, ReadsClaim, Releases, Unbinds, ReadsVolume, Loses}

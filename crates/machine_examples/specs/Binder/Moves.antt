@@ -1,8 +1,8 @@
 -- What machines ask and what they make of answers: cases that the definitions give, and cases beside them that they do not.
 -- A choice of this project, as the machines are.
 use Rattle.std.specs.Prelude.{◌≡◌, true, false, Some, None}
-use Rattle.kube_types.specs.declared.parts.VolumePhase.TheVariants as volumes
-use Rattle.kube_types.specs.declared.objects.Object.TheVariants.{Volume, Claim}
+use Rattle.kube_parts.specs.declared.parts.VolumePhase.TheVariants as volumes
+use Rattle.kube_objects.specs.declared.objects.Object.TheVariants.{Volume, Claim}
 use Rattle.call_types.specs.declared.request.Request.TheVariants.{Get}
 use Rattle.call_types.specs.declared.reply.Refusal.TheVariants.{NotFound, Conflict}
 use Rattle.call_types.specs.declared.reply.Reply.{Reply}

@@ -1,13 +1,13 @@
 -- Small look-ups for the examples of delayed binding: two zones, their nodes, volumes and claims. A choice of this project.
 use Rattle.std.specs.Prelude.{ℕ, false, List, [], ◌∷◌, Some, codes}
-use Rattle.kube_types.specs.declared.objects.Class.{Class as ClassData}
-use Rattle.kube_types.specs.declared.objects.Claim.{Claim as ClaimData}
-use Rattle.kube_types.specs.declared.objects.Node.{Node as NodeData}
-use Rattle.kube_types.specs.declared.objects.Pod.{Pod as PodData}
-use Rattle.kube_types.specs.declared.objects.Volume.{Volume as VolumeData}
-use Rattle.kube_types.specs.declared.objects.Object.{Object}
-use Rattle.kube_types.specs.declared.objects.Object.TheVariants.{Class, Node}
-use Rattle.kube_types.specs.Bindings.{bind_completed, pv_protection, pvc_protection, selected_node, yes}
+use Rattle.kube_objects.specs.declared.objects.Class.{Class as ClassData}
+use Rattle.kube_objects.specs.declared.objects.Claim.{Claim as ClaimData}
+use Rattle.kube_objects.specs.declared.objects.Node.{Node as NodeData}
+use Rattle.kube_objects.specs.declared.objects.Pod.{Pod as PodData}
+use Rattle.kube_objects.specs.declared.objects.Volume.{Volume as VolumeData}
+use Rattle.kube_objects.specs.declared.objects.Object.{Object}
+use Rattle.kube_objects.specs.declared.objects.Object.TheVariants.{Class, Node}
+use Rattle.kube_objects.specs.Bindings.{bind_completed, pv_protection, pvc_protection, selected_node, yes}
 use Rattle.binder_model.specs.Provisioning.{terms_for}
 use Rattle.model_examples.specs.Samples.{a as free_a, amount, c as plain_c, deleting, idle_class, late as late_class, naming, standing, waiting_p}
 

@@ -1,7 +1,7 @@
 -- What a seat was told that lets a machine of a node agent stand on it, and what does not: the newest exchange stands first.
 -- A choice of this project, as the machines are.
 use Rattle.std.specs.Prelude.{List, [], ◌∷◌, codes}
-use Rattle.kube_types.specs.declared.parts.Kind.TheVariants as kinds
+use Rattle.kube_parts.specs.declared.parts.Kind.TheVariants as kinds
 use Rattle.call_types.specs.declared.request.SeatKind.TheVariants as seats
 use Rattle.node_agent.specs.declared.agent.AgentOp.{AgentOp}
 use Rattle.node_agent.specs.declared.step.AgentStep.TheVariants as steps

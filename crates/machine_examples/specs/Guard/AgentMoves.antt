@@ -1,11 +1,11 @@
 -- What the machines of node agents ask and what they make of answers: cases that the definitions give, and cases beside them that they
 -- do not. A choice of this project, as the machines are.
 use Rattle.std.specs.Prelude.{◌≡◌, true, false, List, [], ◌∷◌, Option, Some, None, codes}
-use Rattle.kube_types.specs.declared.objects.Claim.{Claim as ClaimData}
-use Rattle.kube_types.specs.declared.objects.Pod.{Pod as PodData}
-use Rattle.kube_types.specs.declared.objects.Object.{Object}
-use Rattle.kube_types.specs.declared.objects.Object.TheVariants.{Volume, Claim, Pod}
-use Rattle.kube_types.specs.Uids.{uid_of_serial}
+use Rattle.kube_objects.specs.declared.objects.Claim.{Claim as ClaimData}
+use Rattle.kube_objects.specs.declared.objects.Pod.{Pod as PodData}
+use Rattle.kube_objects.specs.declared.objects.Object.{Object}
+use Rattle.kube_objects.specs.declared.objects.Object.TheVariants.{Volume, Claim, Pod}
+use Rattle.kube_parts.specs.Uids.{uid_of_serial}
 use Rattle.call_types.specs.declared.request.Request.TheVariants as requests
 use Rattle.call_types.specs.declared.reply.MountRow.{MountRow}
 use Rattle.call_types.specs.declared.reply.Refusal.TheVariants.{NotFound, StaleEpoch}
@@ -16,7 +16,27 @@ use Rattle.node_agent.specs.declared.step.AgentStep.{AgentStep}
 use Rattle.node_agent.specs.declared.step.AgentStep.TheVariants as steps
 use Rattle.node_agent.specs.declared.step.ReadyClaim.{ReadyClaim}
 use Rattle.node_agent.specs.Agents.{agent_begins, agent_call, agent_moved, agent_parks}
-use Rattle.model_examples.specs.Samples.{a, bound_a, bound_c, bound_for_other, ending_p, key_a, key_c, key_d, key_p, lost_c, naming, node_1, node_2, p, uid_c, uid_p, uncompleted_c, unguarded_c, waiting_p}
+use Rattle.model_examples.specs.Samples.{
+  a,
+  bound_a,
+  bound_c,
+  bound_for_other,
+  ending_p,
+  key_a,
+  key_c,
+  key_d,
+  key_p,
+  lost_c,
+  naming,
+  node_1,
+  node_2,
+  p,
+  uid_c,
+  uid_p,
+  uncompleted_c,
+  unguarded_c,
+  waiting_p,
+}
 use Rattle.model_examples.specs.AgentRows.{row_of}
 use Rattle.model_examples.specs.Mounting.{deleting_c, pending_c, pod_of_two}
 
@@ -68,9 +88,11 @@ pub record ReadExamples : Type 0 where
   pub absent_volume_parks : agent_moved (on_p (steps.ReadsVolume (codes "c") bound_c)) (Refused NotFound) ≡ on_p steps.Parked
 
 pub record SecondClaimExamples : Type 0 where
-  pub second_claim_is_read_after_the_first : agent_moved (about pod_of_two [] (steps.ReadsVolume (codes "c") bound_c)) (Found (Volume bound_a)) ≡ about pod_of_two (ready_c ∷ []) (steps.ReadsClaim (codes "d"))
+  pub second_claim_is_read_after_the_first : agent_moved (about pod_of_two [] (steps.ReadsVolume (codes "c") bound_c))
+      (Found (Volume bound_a)) ≡ about pod_of_two (ready_c ∷ []) (steps.ReadsClaim (codes "d"))
   pub it_is_read_by_its_name : agent_call (about pod_of_two (ready_c ∷ []) (steps.ReadsClaim (codes "d"))) ≡ Some (requests.Get key_d)
-  pub other_volume_is_read : agent_moved (about pod_of_two (ready_c ∷ []) (steps.ReadsClaim (codes "d"))) (Found (Claim other_volume_d)) ≡ about pod_of_two (ready_c ∷ []) (steps.ReadsVolume (codes "d") other_volume_d)
+  pub other_volume_is_read : agent_moved (about pod_of_two (ready_c ∷ []) (steps.ReadsClaim (codes "d")))
+      (Found (Claim other_volume_d)) ≡ about pod_of_two (ready_c ∷ []) (steps.ReadsVolume (codes "d") other_volume_d)
   pub volume_is_not_read_twice : agent_moved (about pod_of_two (ready_c ∷ []) (steps.ReadsClaim (codes "d"))) (Found (Claim same_volume_d)) ≡ about pod_of_two (ready_c ∷ []) steps.Parked
   pub claim_is_not_read_twice : agent_moved (about twice_p [] (steps.ReadsVolume (codes "c") bound_c)) (Found (Volume bound_a)) ≡ about twice_p (ready_c ∷ []) steps.Parked
 

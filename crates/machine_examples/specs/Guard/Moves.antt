@@ -1,10 +1,10 @@
 -- What the machines of protection ask and what they make of answers: cases that the definitions give, and cases beside them that they
 -- do not. A choice of this project, as the machines are.
 use Rattle.std.specs.Prelude.{◌≡◌, true, false, [], ◌∷◌, Some, None, codes}
-use Rattle.kube_types.specs.declared.parts.Kind.TheVariants as kinds
-use Rattle.kube_types.specs.declared.objects.Claim.{Claim as ClaimData}
-use Rattle.kube_types.specs.declared.objects.Object.TheVariants.{Volume, Claim, Pod}
-use Rattle.kube_types.specs.declared.objects.Volume.{Volume as VolumeData}
+use Rattle.kube_parts.specs.declared.parts.Kind.TheVariants as kinds
+use Rattle.kube_objects.specs.declared.objects.Claim.{Claim as ClaimData}
+use Rattle.kube_objects.specs.declared.objects.Object.TheVariants.{Volume, Claim, Pod}
+use Rattle.kube_objects.specs.declared.objects.Volume.{Volume as VolumeData}
 use Rattle.call_types.specs.declared.request.Request.TheVariants.{List as ListOf}
 use Rattle.call_types.specs.declared.reply.Refusal.TheVariants.{NotFound, Conflict}
 use Rattle.call_types.specs.declared.reply.Reply.{Reply}

@@ -1,8 +1,8 @@
 -- Which keys are due for claim protection and for volume protection, and when a life of theirs is diligent: cases that hold,
 -- and cases beside them that must not. A choice of this project, as the actors are. The newest call stands first.
 use Rattle.std.specs.Prelude.{List, [], ◌∷◌, Some}
-use Rattle.kube_types.specs.declared.key.Key.{Key}
-use Rattle.kube_types.specs.declared.objects.Volume.{Volume as VolumeData}
+use Rattle.kube_objects.specs.declared.key.Key.{Key}
+use Rattle.kube_objects.specs.declared.objects.Volume.{Volume as VolumeData}
 use Rattle.call_types.specs.declared.entry.Entry.{Entry}
 use Rattle.call_types.specs.declared.request.SeatKind.TheVariants as seats
 use Rattle.model_examples.specs.ProtectionRows.{bare_a, bare_c, leaving_a, leaving_c, other_p}

@@ -1,15 +1,36 @@
 -- Which keys are due for ops, and when a life of ops is diligent and when it is played: cases that hold, and cases beside them
 -- that must not. A choice of this project, as the actors are. The newest call stands first.
 use Rattle.std.specs.Prelude.{true, List, [], ◌∷◌, Some, map}
-use Rattle.kube_types.specs.declared.key.Key.{Key}
-use Rattle.kube_types.specs.declared.parts.Kind.{Kind}
-use Rattle.kube_types.specs.declared.parts.Kind.TheVariants as kinds
-use Rattle.kube_types.specs.declared.objects.Volume.{Volume as VolumeData}
+use Rattle.kube_objects.specs.declared.key.Key.{Key}
+use Rattle.kube_parts.specs.declared.parts.Kind.{Kind}
+use Rattle.kube_parts.specs.declared.parts.Kind.TheVariants as kinds
+use Rattle.kube_objects.specs.declared.objects.Volume.{Volume as VolumeData}
 use Rattle.call_types.specs.declared.request.Request.TheVariants as requests
 use Rattle.call_types.specs.declared.request.SeatKind.TheVariants as seats
 use Rattle.call_types.specs.declared.reply.Reply.TheVariants as replies
 use Rattle.model_examples.specs.OpsRows.{deleting_c}
-use Rattle.model_examples.specs.Samples.{Exchange, a, c, chosen_c, deleting_a, ended_a, entry_of, fast, finds_none, heard, id_a, key_a, key_c, late, released_a, seat_of, still_bound_a, tells_claim, tells_class, tells_volume}
+use Rattle.model_examples.specs.Samples.{
+  Exchange,
+  a,
+  c,
+  chosen_c,
+  deleting_a,
+  ended_a,
+  entry_of,
+  fast,
+  finds_none,
+  heard,
+  id_a,
+  key_a,
+  key_c,
+  late,
+  released_a,
+  seat_of,
+  still_bound_a,
+  tells_claim,
+  tells_class,
+  tells_volume,
+}
 use Rattle.worker_core.specs.declared.role.Role.{Role}
 use Rattle.worker_core.specs.States.{ActorState}
 use Rattle.worker_core.specs.Stands.{IsNew}

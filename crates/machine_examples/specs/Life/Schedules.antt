@@ -1,12 +1,12 @@
 -- Which pods are due for a scheduler, and when a life of one is diligent and when it is played: cases that hold, and cases beside
 -- them that must not. A choice of this project, as the actors are. The newest call stands first.
 use Rattle.std.specs.Prelude.{List, [], ◌∷◌, Some, map, codes}
-use Rattle.kube_types.specs.declared.key.Key.{Key}
-use Rattle.kube_types.specs.declared.parts.Kind.TheVariants as kinds
-use Rattle.kube_types.specs.declared.objects.Claim.{Claim as ClaimData}
-use Rattle.kube_types.specs.declared.objects.Node.{Node as NodeData}
-use Rattle.kube_types.specs.declared.objects.Object.TheVariants.{Node, Claim}
-use Rattle.kube_types.specs.declared.objects.Pod.{Pod as PodData}
+use Rattle.kube_objects.specs.declared.key.Key.{Key}
+use Rattle.kube_parts.specs.declared.parts.Kind.TheVariants as kinds
+use Rattle.kube_objects.specs.declared.objects.Claim.{Claim as ClaimData}
+use Rattle.kube_objects.specs.declared.objects.Node.{Node as NodeData}
+use Rattle.kube_objects.specs.declared.objects.Object.TheVariants.{Node, Claim}
+use Rattle.kube_objects.specs.declared.objects.Pod.{Pod as PodData}
 use Rattle.call_types.specs.declared.request.Request.{Request}
 use Rattle.call_types.specs.declared.request.Request.TheVariants as requests
 use Rattle.call_types.specs.declared.request.SeatKind.TheVariants as seats

@@ -1,10 +1,10 @@
 -- What the provisioner and reclaimer begins on a look-up alone: cases that the definitions give, each beside others that they give otherwise.
 -- A choice of this project, as the machines are.
 use Rattle.std.specs.Prelude.{◌≡◌, List, [], ◌∷◌, Option, Some, None}
-use Rattle.kube_types.specs.declared.objects.Claim.{Claim as ClaimData}
-use Rattle.kube_types.specs.declared.objects.Volume.{Volume as VolumeData}
-use Rattle.kube_types.specs.declared.objects.Object.{Object}
-use Rattle.kube_types.specs.declared.objects.Object.TheVariants.{Class, Node, Volume, Claim}
+use Rattle.kube_objects.specs.declared.objects.Claim.{Claim as ClaimData}
+use Rattle.kube_objects.specs.declared.objects.Volume.{Volume as VolumeData}
+use Rattle.kube_objects.specs.declared.objects.Object.{Object}
+use Rattle.kube_objects.specs.declared.objects.Object.TheVariants.{Class, Node, Volume, Claim}
 use Rattle.reclaim_ops.specs.declared.provision.ProvisionOp.{ProvisionOp}
 use Rattle.reclaim_ops.specs.declared.provision.ProvisionStep.TheVariants as provision_steps
 use Rattle.reclaim_ops.specs.declared.erase.EraseOp.{EraseOp}
@@ -12,7 +12,28 @@ use Rattle.reclaim_ops.specs.declared.erase.EraseStep.TheVariants as erase_steps
 use Rattle.reclaim_ops.specs.Decisions.{claim_begins, volume_begins}
 use Rattle.model_examples.specs.DueActions.{big_c, pvc_volume}
 use Rattle.model_examples.specs.OpsRows.{deleting_c, undone_c}
-use Rattle.model_examples.specs.Samples.{a, c, chosen_c, deleting_a, ended_a, failed_a, fast, here_c, idle_class, late, n1, never_bound_a, no_uid_c, prebound_a, released_a, selecting_c, still_bound_a, taken_a, uid_c, zone}
+use Rattle.model_examples.specs.Samples.{
+  a,
+  c,
+  chosen_c,
+  deleting_a,
+  ended_a,
+  failed_a,
+  fast,
+  here_c,
+  idle_class,
+  late,
+  n1,
+  never_bound_a,
+  no_uid_c,
+  prebound_a,
+  released_a,
+  selecting_c,
+  still_bound_a,
+  taken_a,
+  uid_c,
+  zone,
+}
 use Rattle.machine_examples.specs.Reclaim.EraseMoves.{with_volume}
 use Rattle.machine_examples.specs.Reclaim.ProvisionMoves.{at_once, on_node}
 

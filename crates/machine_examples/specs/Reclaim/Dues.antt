@@ -1,9 +1,9 @@
 -- What is due of what begins on a claim, by worlds whose devices can give the data and such whose devices cannot; and which requests read a kind.
 -- A choice of this project, as the law is that ties what begins to what is due.
 use Rattle.std.specs.Prelude.{◌≡◌, true, false, [], Option, Some, None}
-use Rattle.kube_types.specs.declared.names.Due.{Due}
-use Rattle.kube_types.specs.declared.names.Due.TheVariants as dues
-use Rattle.kube_types.specs.declared.parts.Kind.TheVariants as kinds
+use Rattle.kube_parts.specs.declared.names.Due.{Due}
+use Rattle.kube_parts.specs.declared.names.Due.TheVariants as dues
+use Rattle.kube_parts.specs.declared.parts.Kind.TheVariants as kinds
 use Rattle.call_types.specs.declared.request.Request.TheVariants as requests
 use Rattle.call_types.specs.declared.setup.Setup.{Setup}
 use Rattle.reclaim_ops.specs.declared.provision.ProvisionOp.{ProvisionOp}

@@ -1,10 +1,10 @@
 -- What the reclaimer asks and what it makes of answers: cases that the definitions give, and cases beside them that they give otherwise.
 -- A choice of this project, as the machines are.
 use Rattle.std.specs.Prelude.{◌≡◌, true, false, Some, None, codes}
-use Rattle.kube_types.specs.declared.parts.SourceKind.TheVariants as sources
-use Rattle.kube_types.specs.declared.parts.VolumePhase.TheVariants as phases
-use Rattle.kube_types.specs.declared.objects.Volume.{Volume as VolumeData}
-use Rattle.kube_types.specs.declared.objects.Object.TheVariants.{Volume, Claim}
+use Rattle.kube_parts.specs.declared.parts.SourceKind.TheVariants as sources
+use Rattle.kube_parts.specs.declared.parts.VolumePhase.TheVariants as phases
+use Rattle.kube_objects.specs.declared.objects.Volume.{Volume as VolumeData}
+use Rattle.kube_objects.specs.declared.objects.Object.TheVariants.{Volume, Claim}
 use Rattle.call_types.specs.declared.request.NewStatus.TheVariants as statuses
 use Rattle.call_types.specs.declared.request.Request.TheVariants as requests
 use Rattle.call_types.specs.declared.reply.Refusal.TheVariants as refusals

@@ -1,8 +1,8 @@
 -- What a seat was told that lets a machine of the provisioner and reclaimer stand on it, and what does not: the newest exchange stands first.
 -- A choice of this project, as the machines are.
 use Rattle.std.specs.Prelude.{true, List, [], ◌∷◌, Some, None}
-use Rattle.kube_types.specs.declared.parts.Kind.TheVariants as kinds
-use Rattle.kube_types.specs.declared.objects.Object.TheVariants.{Node, Volume}
+use Rattle.kube_parts.specs.declared.parts.Kind.TheVariants as kinds
+use Rattle.kube_objects.specs.declared.objects.Object.TheVariants.{Node, Volume}
 use Rattle.call_types.specs.declared.request.SeatKind.TheVariants as seats
 use Rattle.call_types.specs.declared.reply.Change.TheVariants as changes
 use Rattle.call_types.specs.declared.reply.Reply.TheVariants.{Erased}
@@ -14,7 +14,32 @@ use Rattle.reclaim_ops.specs.Decisions.{at_step}
 use Rattle.reclaim_ops.specs.Evidence.{EraseKeeps, MayDecide, ProvisionKeeps}
 use Rattle.model_examples.specs.OpsRows.{deleting_c, gives, id_1, id_2, moved_class, pool_pair}
 use Rattle.model_examples.specs.Reclaiming.{done, erases, exhausted, faults, uid_a}
-use Rattle.model_examples.specs.Samples.{Exchange, c, chosen_c, ended_a, fast, finds, idle_class, id_a, key_a, late, lists, n1, seat_of, still_bound_a, tells_claim, tells_class, tells_node, tells_three, tells_volume, uid_c, unheard, volume_at, watches, zone}
+use Rattle.model_examples.specs.Samples.{
+  Exchange,
+  c,
+  chosen_c,
+  ended_a,
+  fast,
+  finds,
+  idle_class,
+  id_a,
+  key_a,
+  late,
+  lists,
+  n1,
+  seat_of,
+  still_bound_a,
+  tells_claim,
+  tells_class,
+  tells_node,
+  tells_three,
+  tells_volume,
+  uid_c,
+  unheard,
+  volume_at,
+  watches,
+  zone,
+}
 use Rattle.machine_examples.specs.Reclaim.EraseMoves.{on_a}
 use Rattle.machine_examples.specs.Reclaim.ProvisionMoves.{at_once, on_node}
 

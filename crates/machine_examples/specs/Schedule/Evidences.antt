@@ -1,9 +1,9 @@
 -- What a seat must have been told so that its machine may write, and what is due where a call is the first: cases that hold, and cases that
 -- must not. A choice of this project.
 use Rattle.std.specs.Prelude.{◌≡◌, List, [], ◌∷◌, Option, Some, None, codes}
-use Rattle.kube_types.specs.declared.names.Due.{Due}
-use Rattle.kube_types.specs.declared.names.Due.TheVariants as dues
-use Rattle.kube_types.specs.declared.objects.Object.TheVariants.{Claim}
+use Rattle.kube_parts.specs.declared.names.Due.{Due}
+use Rattle.kube_parts.specs.declared.names.Due.TheVariants as dues
+use Rattle.kube_objects.specs.declared.objects.Object.TheVariants.{Claim}
 use Rattle.call_types.specs.declared.request.Request.{Request}
 use Rattle.call_types.specs.declared.request.SeatKind.TheVariants.{Scheduler}
 use Rattle.model_examples.specs.DueActions.{pool_setup, with_rows}

@@ -1,10 +1,10 @@
 -- Which nodes stand selected and which were refused, by the entries of a seat, the newest first: cases that hold, each beside others that
 -- must not. A choice of this project.
 use Rattle.std.specs.Prelude.{ℕ, ◌≡◌, true, false, List, [], ◌∷◌, Some, codes}
-use Rattle.kube_types.specs.declared.parts.Kind.TheVariants as kinds
-use Rattle.kube_types.specs.declared.objects.Claim.{Claim as ClaimData}
-use Rattle.kube_types.specs.declared.objects.Object.TheVariants.{Claim}
-use Rattle.kube_types.specs.Uids.{uid_of_serial}
+use Rattle.kube_parts.specs.declared.parts.Kind.TheVariants as kinds
+use Rattle.kube_objects.specs.declared.objects.Claim.{Claim as ClaimData}
+use Rattle.kube_objects.specs.declared.objects.Object.TheVariants.{Claim}
+use Rattle.kube_parts.specs.Uids.{uid_of_serial}
 use Rattle.call_types.specs.declared.request.Request.TheVariants as requests
 use Rattle.call_types.specs.declared.request.SeatKind.TheVariants.{Scheduler}
 use Rattle.call_types.specs.declared.reply.Change.TheVariants as changes
@@ -40,10 +40,12 @@ refused_write = heard (requests.Update (Claim (chosen_on (codes "n1") c)) (Some 
 
 -- a watch tells the claim
 abbrev pub watches : ClaimData → Exchange
-watches x = heard (requests.Watch kinds.PersistentVolumeClaim 7) (replies.Events (record { events = record { change = changes.Modified; object = Claim x; version = x.meta.version } ∷ []; upto = x.meta.version }))
+watches x = heard (requests.Watch kinds.PersistentVolumeClaim 7)
+    (replies.Events (record { events = record { change = changes.Modified; object = Claim x; version = x.meta.version } ∷ []; upto = x.meta.version }))
 
 abbrev pub watches_leaving : ClaimData → Exchange
-watches_leaving x = heard (requests.Watch kinds.PersistentVolumeClaim 7) (replies.Events (record { events = record { change = changes.Deleted; object = Claim x; version = x.meta.version } ∷ []; upto = x.meta.version }))
+watches_leaving x = heard (requests.Watch kinds.PersistentVolumeClaim 7)
+    (replies.Events (record { events = record { change = changes.Deleted; object = Claim x; version = x.meta.version } ∷ []; upto = x.meta.version }))
 
 abbrev pub Stand : List Exchange → Tries → Type 0
 Stand xs m = tries_of (seat_of Scheduler xs) ≡ m
@@ -71,7 +73,8 @@ pub record RefusalExamples : Type 0 where
   pub claim_that_left_refuses_nothing : Stand (watches_leaving (at_version 11 c) ∷ selects (codes "n1") 10 ∷ []) selected_first
   pub write_of_another_node_refuses_the_first : Stand (selects (codes "n2") 12 ∷ selects (codes "n1") 10 ∷ []) (record { selected = second_choice ∷ []; refused = first_choice ∷ [] })
   pub write_of_the_same_node_refuses_nothing : Stand (selects (codes "n1") 12 ∷ selects (codes "n1") 10 ∷ []) (record { selected = same_choice ∷ []; refused = [] })
-  pub last_refused_comes_first : Stand (watches (at_version 13 c) ∷ selects (codes "n2") 12 ∷ watches (at_version 11 c) ∷ selects (codes "n1") 10 ∷ []) (record { selected = []; refused = second_choice ∷ [] })
+  pub last_refused_comes_first : Stand (watches (at_version 13 c) ∷ selects (codes "n2") 12 ∷ watches (at_version 11 c) ∷ selects (codes "n1") 10 ∷
+      []) (record { selected = []; refused = second_choice ∷ [] })
 
 pub record SeenExamples : Type 0 where
   pub claim_without_the_node_refuses : is_refusal first_choice (at_version 11 c) ≡ true

@@ -2,7 +2,7 @@
 use Rattle.std.proofs.Common.{◌≡◌, ◌∙◌, ℕ, ◌+◌, zero, suc, List, [], ◌∷◌, ◌++◌, cond, Bool, true, false, true≢false, Option, Some, inl, inr, refl, sym, ap, subst}
 use Rattle.std.specs.Prelude.{All, slice_get}
 use Rattle.std.proofs.lemmas.List.Elements.{All-cons, All-head, All-nil, All-tail}
-use Rattle.kube_types.specs.declared.objects.Object.TheVariants.{Node}
+use Rattle.kube_objects.specs.declared.objects.Object.TheVariants.{Node}
 use Rattle.call_types.specs.declared.entry.Entry.{Entry}
 use Rattle.call_types.specs.declared.request.Request.{Request}
 use Rattle.call_types.specs.declared.request.Request.TheVariants as requests
@@ -141,7 +141,8 @@ pub users_create : (setup : Setup) (node : List ℕ) (past : List Entry) → Run
 users_create setup node [] run some = absurd some
 users_create setup node (e ∷ past) run some = by (is_user e.kind) refl some (users_create setup node past run.0)
   where
-    by : (b : Bool) → is_user e.kind ≡ b → SomeOf (λ x. CreatesNode node x.request) (e ∷ past) → (SomeOf (λ x. CreatesNode node x.request) past → SomeOf (UserCreates node) (users_of past)) → SomeOf (UserCreates node) (cond b (e ∷ users_of past) (users_of past))
+    by : (b : Bool) → is_user e.kind ≡ b → SomeOf (λ x. CreatesNode node x.request) (e ∷ past)
+        → (SomeOf (λ x. CreatesNode node x.request) past → SomeOf (UserCreates node) (users_of past)) → SomeOf (UserCreates node) (cond b (e ∷ users_of past) (users_of past))
     by true is (inl creates) later = inl (is, creates)
     by true is (inr more) later = inr (later more)
     by false is (inl creates) later = absurd (none_licensed e.kind _ e.request node is creates run.2)

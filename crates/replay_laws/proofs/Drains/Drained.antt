@@ -22,7 +22,8 @@ use Rattle.replay_laws.proofs.Drains.Silent.{OnlyOvertakenSeats, as_drainers, as
 abbrev pub AreSilentIfOvertaken : Script → ℕ → List Entry → Type 0
 AreSilentIfOvertaken script first past = OnlyOvertakenSeats script.setup (seats_for first script.node_names) (drain_roles script) past
 
-module _ (script : Script) (first : ℕ) (option : Option ℕ) (before after : Progress) (d : IsDrainAt all_pass script first option before after) (run : IsRunOf script.setup after.past) (only : AreSilentIfOvertaken script first before.past) where
+module _ (script : Script) (first : ℕ) (option : Option ℕ) (before after : Progress) (d : IsDrainAt all_pass script first option before after)
+    (run : IsRunOf script.setup after.past) (only : AreSilentIfOvertaken script first before.past) where
   past_is : after.past ≡ d.past
   past_is = ap (λ (p : Progress). p.past) d.is
 
@@ -58,7 +59,8 @@ module _ (script : Script) (first : ℕ) (option : Option ℕ) (before after : P
     where
       kept : Remember d.ran d.past × OnlyOvertakenAreSilent script.setup d.ran d.past
       kept =
-          drains_keep script.setup (seats_for first script.node_names) (seats_apart first script.node_names) (seats_differ first script.node_names) d.ran d.past (d.budget - (before.drained + d.made)) run_there
+          drains_keep script.setup (seats_for first script.node_names) (seats_apart first script.node_names)
+          (seats_differ first script.node_names) d.ran d.past (d.budget - (before.drained + d.made)) run_there
           d.drainers before.past (d.budget - before.drained) d.seats d.rounds remember silent_ones
 
       seats_are : seats_of d.ran ≡ seats_for first script.node_names

@@ -62,13 +62,15 @@ moves_grow script option end lines now (MoreMoves line rest next are move more) 
 
 -- ---- the calls of other seats
 
-call_others : (held : Bool) (fate : Fate) (mine : ℕ) (kind : SeatKind) (past new : List Entry) → IsCallBy all_pass held fate mine kind past new → (seat : ℕ) → seat ≢ mine → own seat new ≡ own seat past
+call_others : (held : Bool) (fate : Fate) (mine : ℕ) (kind : SeatKind) (past new : List Entry) → IsCallBy all_pass held fate mine kind past new
+    → (seat : ℕ) → seat ≢ mine → own seat new ≡ own seat past
 call_others true fate mine kind past new call seat other = ap (own seat) call.is
 call_others false Told mine kind past new call seat other = ap (own seat) call.is ∙ own_other _ past seat other
 call_others false LostAfter mine kind past new call seat other = ap (own seat) call.is ∙ own_other _ past seat other
 call_others false LostBefore mine kind past new call seat other = ap (own seat) call
 
-calls_others : (part : Part) (new : List Entry) (seat : ℕ) → part.named ≡ true → (IsLife part seat → ⊥) → (n count : ℕ) (past : List Entry) → AreCalls all_pass [] part new n count past → own seat new ≡ own seat past
+calls_others : (part : Part) (new : List Entry) (seat : ℕ) → part.named ≡ true → (IsLife part seat → ⊥) → (n count : ℕ) (past : List Entry)
+    → AreCalls all_pass [] part new n count past → own seat new ≡ own seat past
 calls_others part new seat named other n count past (NoCalls none same) = ap (own seat) same
 calls_others part new seat named other n count past (MoreCalls rest middle some call more) =
     calls_others part new seat named other (n + 1) rest middle more ∙ call_others (is_held [] n) (fate_of part.losses n) (seat_at part n) part.kind past middle call seat not_mine
@@ -91,27 +93,37 @@ module _ (script : Script) (option : Option ℕ) (readable : IsReadable script) 
 
   -- the seat is none of a user's
   pub no_user : (user : ℕ) → user < 5 → (seat : ℕ) → IsOneOf (drain_seats script) seat → seat ≢ user
-  no_user user few seat among is = let high = after_users (all_lives (all_actors script) script.lines) seat (after_first (drain_seat script) script.node_names seat among) in absurd (omega (arith, few, is, high))
+  no_user user few seat among is = let high =
+      after_users (all_lives (all_actors script) script.lines) seat (after_first (drain_seat script) script.node_names seat among) in absurd (omega (arith, few, is, high))
 
   -- and none of a life
   no_life : (actor : Actor) → IsKnown script.node_names actor → (seat : ℕ) → IsOneOf (drain_seats script) seat → IsLife (part_of script actor) seat → ⊥
   no_life actor known seat among life =
-      let low = (life_between 5 (all_parts script) (seat_of_drains script) (place_of script.node_names actor) (part_of script actor) seat (in_order script) (part_of_actor script actor readable.order known) life).1 in
+      let low = (life_between 5 (all_parts script) (seat_of_drains script) (place_of script.node_names actor) (part_of script actor) seat
+      (in_order script) (part_of_actor script actor readable.order known) life).1 in
       let high = after_first (drain_seat script) script.node_names seat among in
       let last = drains_after script in
       absurd (omega (arith, low, high, last))
 
-  pub turn_others : (actor : Actor) (calls : ℕ) (now next : Progress) → is_named (actor_word actor) script.lines ≡ true → IsKnown script.node_names actor → IsTurnLine all_pass [] (role_of actor) (part_of script actor) calls now next
+  pub turn_others : (actor : Actor) (calls : ℕ) (now next : Progress) → is_named (actor_word actor) script.lines ≡ true
+      → IsKnown script.node_names actor → IsTurnLine all_pass [] (role_of actor) (part_of script actor) calls now next
       → (seat : ℕ) → IsOneOf (drain_seats script) seat → own seat next.past ≡ own seat now.past
-  turn_others actor calls now next named known (inl all) seat among = subst (λ (p : Progress). own seat p.past ≡ own seat now.past) (sym all.is) (calls_others (part_of script actor) all.past seat named (no_life actor known seat among) _ _ now.past all.made)
-  turn_others actor calls now next named known (inr few) seat among = subst (λ (p : Progress). own seat p.past ≡ own seat now.past) (sym few.is) (calls_others (part_of script actor) few.past seat named (no_life actor known seat among) _ _ now.past few.made)
+  turn_others actor calls now next named known (inl all) seat among =
+      subst (λ (p : Progress). own seat p.past ≡ own seat now.past) (sym all.is) (calls_others (part_of script actor) all.past seat named (no_life actor known seat among) _ _ now.past all.made)
+  turn_others actor calls now next named known (inr few) seat among =
+      subst (λ (p : Progress). own seat p.past ≡ own seat now.past) (sym few.is) (calls_others (part_of script actor) few.past seat named (no_life actor known seat among) _ _ now.past few.made)
 
   others_keep : (now next : Progress) → IsGrown now.past next.past → ((seat : ℕ) → IsOneOf (drain_seats script) seat → own seat next.past ≡ own seat now.past) → Silent now → Silent next
   others_keep now next grown same silent = on_others script.setup (drain_seats script) (drain_roles script) grown.newer now.past next.past grown.are same silent
 
-  one_move : (line : Line) (now next : Progress) (move : IsMove script option line now next) → IsThere line → IsRunOf script.setup next.past → Silent now → MoveLasts script option line now next move × Silent next
-  one_move (Call user request) now next move there run silent =
-      (tt, others_keep now next (move_grows script option (Call user request) now next move) (λ seat among. ap (λ (p : Progress). own seat p.past) move.is ∙ own_other _ now.past seat (no_user user (within_at script.lines there.0 (Call user request) readable.lines there.1).1 seat among)) silent)
+  one_move : (line : Line) (now next : Progress) (move : IsMove script option line now next) → IsThere line → IsRunOf script.setup next.past
+      → Silent now → MoveLasts script option line now next move × Silent next
+  one_move (Call user request) now next move there run silent = (
+    tt,
+    others_keep now next (move_grows script option (Call user request) now next move)
+        (λ seat among. ap (λ (p : Progress). own seat p.past) move.is
+        ∙ own_other _ now.past seat (no_user user (within_at script.lines there.0 (Call user request) readable.lines there.1).1 seat among)) silent,
+  )
   one_move (Lose actor call lost) now next move there run silent = (tt, subst Silent (sym move) silent)
   one_move (Restart actor calls) now next move there run silent = (tt, subst Silent (sym move) silent)
   one_move (Turn actor calls) now next move there run silent = (
@@ -121,7 +133,8 @@ module _ (script : Script) (option : Option ℕ) (readable : IsReadable script) 
   )
   one_move Drain now next move there run silent = (drain_lasts script (drain_seat script) option now next move run silent, drain_keeps script (drain_seat script) option now next move run silent)
 
-  all_moves : (end : Progress) → IsRunOf script.setup end.past → (lines : List Line) (now : Progress) → ((place : ℕ) (line : Line) → slice_get lines place ≡ Some line → IsThere line) → (moves : AreMoves script option end lines now) → Silent now
+  all_moves : (end : Progress) → IsRunOf script.setup end.past → (lines : List Line) (now : Progress)
+      → ((place : ℕ) (line : Line) → slice_get lines place ≡ Some line → IsThere line) → (moves : AreMoves script option end lines now) → Silent now
       → MovesLast script option end lines now moves × Silent end
   all_moves end run lines now among (NoMoves none same) silent = (tt, subst Silent (sym same) silent)
   all_moves end run lines now among (MoreMoves line rest next are move more) silent =
@@ -135,7 +148,8 @@ module _ (script : Script) (option : Option ℕ) (readable : IsReadable script) 
 none_yet : (script : Script) (first : ℕ) → AreSilentIfOvertaken script first []
 none_yet script first place seat node at_seat at_role silent = absurd (true≢false (sym silent))
 
-module _ (script : Script) (option : Option ℕ) (past : List Entry) (ending : Drained) (readable : IsReadable script) (run : IsRunOf script.setup past) (replay : IsReplay script option past ending) where
+module _ (script : Script) (option : Option ℕ) (past : List Entry) (ending : Drained) (readable : IsReadable script)
+    (run : IsRunOf script.setup past) (replay : IsReplay script option past ending) where
   run_at_end : IsRunOf script.setup replay.end.past
   run_at_end = subst (IsRunOf script.setup) replay.history run
 

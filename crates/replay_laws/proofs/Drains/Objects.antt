@@ -67,7 +67,8 @@ of_users : (past : List Entry) → creations past ≡ count_by asks_create (user
 of_users [] = refl
 of_users (e ∷ past) = count_cons asks_create e past ∙ by (is_user e.kind) refl (of_users past)
   where
-    by : (b : Bool) → is_user e.kind ≡ b → creations past ≡ count_by asks_create (users_of past) → one_if (asks_create e) + creations past ≡ count_by asks_create (cond b (e ∷ users_of past) (users_of past))
+    by : (b : Bool) → is_user e.kind ≡ b → creations past ≡ count_by asks_create (users_of past)
+        → one_if (asks_create e) + creations past ≡ count_by asks_create (cond b (e ∷ users_of past) (users_of past))
     by true is rest = ap (λ n. one_if (asks_create e) + n) rest ∙ sym (count_cons asks_create e (users_of past))
     by false is rest = let none = ap (λ u. one_if (u && is_create e.request)) is in omega (arith, none, rest)
 
@@ -95,7 +96,8 @@ module _ (script : Script) (option : Option ℕ) where
       omega (arith, all, one, same)
   move_created (Lose actor call lost) now next move = let all = ap (λ (p : Progress). creations p.past) move in omega (arith, all)
   move_created (Restart actor calls) now next move = let all = ap (λ (p : Progress). creations p.past) move in omega (arith, all)
-  move_created (Turn actor calls) now next move = let all = same_users now.past next.past (turn_users (part_of script actor) calls now next (actor_built actor) (role_of actor) move) in omega (arith, all)
+  move_created (Turn actor calls) now next move = let all =
+      same_users now.past next.past (turn_users (part_of script actor) calls now next (actor_built actor) (role_of actor) move) in omega (arith, all)
   move_created Drain now next move = let all = same_users now.past next.past (drains_come_to all_pass script option now next move).users in omega (arith, all)
 
   moves_created : (end : Progress) (lines : List Line) (now : Progress) → AreMoves script option end lines now → creations end.past ≤ creations now.past + creates lines

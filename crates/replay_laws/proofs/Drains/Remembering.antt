@@ -61,7 +61,8 @@ module _ (lets : Lets) (seat : ℕ) (after : ActorState) (past : List Entry) (le
           ∙ ap (λ r. memory_of r (own seat h)) (sym (still_role s given next (Call request) request Lost turn absorbs)))))
 
 module _ (lets : Lets) (past : List Entry) (left : ℕ) where
-  pub round_remembers : (ds : List Drainer) (h : List Entry) (b : ℕ) (after : List Drainer) (whole : Bool) → IsRound lets past left ds h b after whole → Apart (seats_of ds) → Remember ds h → Remember after past
+  pub round_remembers : (ds : List Drainer) (h : List Entry) (b : ℕ) (after : List Drainer) (whole : Bool)
+      → IsRound lets past left ds h b after whole → Apart (seats_of ds) → Remember ds h → Remember after past
   round_remembers _ h b _ _ (Ends entries rest) apart same place x there = none_some there
   round_remembers _ h b _ _ (Turns {ds = ds} {after = after} {whole = whole} d ran middle rest idle seat run more) apart same zero x there =
       subst (λ (y : Drainer). Remembers y.actor (own y.seat past)) (one ran x there) (subst (λ n. Remembers ran.actor (own n past)) (sym seat) at_end)
@@ -70,7 +71,8 @@ module _ (lets : Lets) (past : List Entry) (left : ℕ) where
       grown = let g = round_grows lets past left ds middle rest after whole more in record { made = g.made; longer = g.longer }
 
       at_end : Remembers ran.actor (own d.seat past)
-      at_end = subst (Remembers ran.actor) (sym (grown_others (seats_of ds) middle past grown d.seat apart.0)) (run_remembers lets d.seat ran.actor middle rest idle (woken d.actor) h b run (same 0 d refl))
+      at_end = subst (Remembers ran.actor) (sym (grown_others (seats_of ds) middle past grown d.seat apart.0))
+          (run_remembers lets d.seat ran.actor middle rest idle (woken d.actor) h b run (same 0 d refl))
   round_remembers _ h b _ _ (Turns {ds = ds} {after = after} {whole = whole} d ran middle rest idle seat run more) apart same (suc place) x there =
       round_remembers ds middle rest after whole more apart.1 others place x there
     where

@@ -26,7 +26,8 @@ use Rattle.replay_laws.proofs.Drains.Remembering.{Remember, round_remembers}
 
 -- by what was told at these seats, whose actors have these roles
 abbrev pub OnlyOvertakenSeats : Setup → List ℕ → List Role → List Entry → Type 0
-OnlyOvertakenSeats setup seats roles past = (place seat : ℕ) (node : List ℕ) → slice_get seats place ≡ Some seat → slice_get roles place ≡ Some (agent_of node) → (memory_of (agent_of node) (own seat past)).stale ≡ true → WasOvertaken setup past node seat
+OnlyOvertakenSeats setup seats roles past = (place seat : ℕ) (node : List ℕ) → slice_get seats place ≡ Some seat
+    → slice_get roles place ≡ Some (agent_of node) → (memory_of (agent_of node) (own seat past)).stale ≡ true → WasOvertaken setup past node seat
 
 pub seat_there : (ds : List Drainer) (place : ℕ) (d : Drainer) → slice_get ds place ≡ Some d → slice_get (seats_of ds) place ≡ Some d.seat
 seat_there ds place d there = get_mapped (λ (x : Drainer). x.seat) ds place ∙ ap (option_map (λ (x : Drainer). x.seat)) there
@@ -67,7 +68,8 @@ overtaken_on setup newer h node seat same was = record { epoch = was.epoch; told
     later (e ∷ es) = let lt = later es in let up = epoch_rises setup e (es ++ h) node in omega (arith, lt, up)
 
 -- and so all of these
-pub on_others : (setup : Setup) (seats : List ℕ) (roles : List Role) (newer h past : List Entry) → past ≡ newer ++ h → ((seat : ℕ) → IsOneOf seats seat → own seat past ≡ own seat h) → OnlyOvertakenSeats setup seats roles h → OnlyOvertakenSeats setup seats roles past
+pub on_others : (setup : Setup) (seats : List ℕ) (roles : List Role) (newer h past : List Entry) → past ≡ newer ++ h
+    → ((seat : ℕ) → IsOneOf seats seat → own seat past ≡ own seat h) → OnlyOvertakenSeats setup seats roles h → OnlyOvertakenSeats setup seats roles past
 on_others setup seats roles newer h past are same only place seat node at_seat at_role silent =
     subst (λ es. WasOvertaken setup es node seat) (sym are)
     (overtaken_on setup newer h node seat (ap (own seat) (sym are) ∙ others) (only place seat node at_seat at_role (ap (λ es. (memory_of (agent_of node) es).stale) (sym others) ∙ silent)))
@@ -80,7 +82,8 @@ module _ (setup : Setup) (seats : List ℕ) (apart : Apart seats) (differ : AreS
   ended : (ds : List Drainer) (h : List Entry) → after ≡ ds → past ≡ h → Remember ds h → OnlyOvertakenAreSilent setup ds h → Remember after past × OnlyOvertakenAreSilent setup after past
   ended ds h is at told only = subst (λ xs. Remember xs past × OnlyOvertakenAreSilent setup xs past) (sym is) (subst (λ es. Remember ds es × OnlyOvertakenAreSilent setup ds es) (sym at) (told, only))
 
-  pub drains_keep : (ds : List Drainer) (h : List Entry) (b : ℕ) → seats_of ds ≡ seats → Drains all_pass setup after past left ds h b → Remember ds h → OnlyOvertakenAreSilent setup ds h → Remember after past × OnlyOvertakenAreSilent setup after past
+  pub drains_keep : (ds : List Drainer) (h : List Entry) (b : ℕ) → seats_of ds ≡ seats → Drains all_pass setup after past left ds h b → Remember ds h
+      → OnlyOvertakenAreSilent setup ds h → Remember after past × OnlyOvertakenAreSilent setup after past
   drains_keep ds h b are (NothingDue settled same entries rest) told only = ended ds h same entries told only
   drains_keep ds h b are (IsSpent first due none same entries rest) told only = ended ds h same entries told only
   drains_keep ds h b are (Goes first due some between middle rest whole round more) told only =

@@ -81,7 +81,8 @@ lines_create : (user : ℕ) (node : List ℕ) (lines : List Line) → SomeOf (Cr
 lines_create user node [] none = absurd none
 lines_create user node (line ∷ lines) some = by (some_or (CreatesNode node) (asked_in user line) (asked_by user lines) some) (lines_create user node lines)
   where
-    by : SomeOf (CreatesNode node) (asked_in user line) ⊎ SomeOf (CreatesNode node) (asked_by user lines) → (SomeOf (CreatesNode node) (asked_by user lines) → SomeOf (λ x. created_node x ≡ Some node) lines) → SomeOf (λ x. created_node x ≡ Some node) (line ∷ lines)
+    by : SomeOf (CreatesNode node) (asked_in user line) ⊎ SomeOf (CreatesNode node) (asked_by user lines)
+        → (SomeOf (CreatesNode node) (asked_by user lines) → SomeOf (λ x. created_node x ≡ Some node) lines) → SomeOf (λ x. created_node x ≡ Some node) (line ∷ lines)
     by (inl here) later = inl (line_creates user node line here)
     by (inr more) later = inr (later more)
 
@@ -89,7 +90,8 @@ lines_create user node (line ∷ lines) some = by (some_or (CreatesNode node) (a
 abbrev Creates : List ℕ → ℕ × SeatKind × Request × Bool → Type 0
 Creates node call = CreatesNode node call.2
 
-user_creates : (user : ℕ) (node : List ℕ) (lines : List Line) (mine : List Entry) → AreOfLines user lines mine → SomeOf (λ e. CreatesNode node e.request) mine → SomeOf (λ line. created_node line ≡ Some node) lines
+user_creates : (user : ℕ) (node : List ℕ) (lines : List Line) (mine : List Entry) → AreOfLines user lines mine
+    → SomeOf (λ e. CreatesNode node e.request) mine → SomeOf (λ line. created_node line ≡ Some node) lines
 user_creates user node lines mine are some =
     lines_create user node lines
     (some_unmapped (Creates node) (user_call user) (asked_by user lines)
@@ -117,7 +119,8 @@ none_of_users past none some = subst (SomeOf IsUsers) none (among past some)
         by false is (inl here) rest = absurd (true≢false (sym here ∙ is))
         by false is (inr more) rest = rest more
 
-actors_are_no_users : (lines : List Line) (calls : ℕ) (past : List Entry) (actors : List Actor) (first seat : ℕ) → EachStarted (HasMadeCalls calls past) lines first actors → first ≤ seat → seat < seat_after lines first actors → SomeOf IsUsers (own seat past) → ⊥
+actors_are_no_users : (lines : List Line) (calls : ℕ) (past : List Entry) (actors : List Actor) (first seat : ℕ)
+    → EachStarted (HasMadeCalls calls past) lines first actors → first ≤ seat → seat < seat_after lines first actors → SomeOf IsUsers (own seat past) → ⊥
 actors_are_no_users lines calls past [] first seat each from below some = absurd (omega (arith, from, below))
 actors_are_no_users lines calls past (actor ∷ actors) first seat each from below some =
     by (λ later. actors_are_no_users lines calls past actors (after_lives (started_part lines actor first)) seat each.1 later below some) (cases_lt seat (after_lives (started_part lines actor first)))
@@ -151,7 +154,8 @@ module _ (script : Script) (workers calls : ℕ) (worked : List Entry) (work : I
       user_creates at.seat node script.lines (own at.seat worked) (work.done.users at.seat sits.0 sits.1) (some_map (λ e is. is.1) (own at.seat worked) at.some)
 
 pub run_creates : (script : Script) (workers calls : ℕ) (option : Option ℕ) (past : List Entry) (ending : Drained) → IsRun script workers calls option past ending → UsersCreateLines script.lines past
-run_creates script workers calls option past ending r node some = work_named script workers calls r.worked r.work node (some_filter (UserCreates node) (λ e. is_user e.kind) r.worked (subst (SomeOf (UserCreates node)) same some))
+run_creates script workers calls option past ending r node some =
+    work_named script workers calls r.worked r.work node (some_filter (UserCreates node) (λ e. is_user e.kind) r.worked (subst (SomeOf (UserCreates node)) same some))
   where
     same : users_of past ≡ users_of r.worked
     same = ap users_of r.history ∙ (drains_at_come_to all_pass script (drain_seat workers script) option (progress_after r.worked option) r.end r.last).users

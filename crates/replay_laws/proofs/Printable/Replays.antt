@@ -73,12 +73,14 @@ call_fine Told seat kind past new is other call h = more_fine seat kind true pas
 call_fine LostAfter seat kind past new is other call h = more_fine seat kind false past new is other call h
 call_fine LostBefore seat kind past new is other call h = subst AreFine (sym call) h
 
-pub calls_fine : (part : Part) (new : List Entry) → ((n : ℕ) → IsNumber (seat_at part n)) → is_user part.kind ≡ false → (n count : ℕ) (past : List Entry) → AreCalls all_pass [] part new n count past → AreFine past → AreFine new
+pub calls_fine : (part : Part) (new : List Entry) → ((n : ℕ) → IsNumber (seat_at part n)) → is_user part.kind ≡ false
+    → (n count : ℕ) (past : List Entry) → AreCalls all_pass [] part new n count past → AreFine past → AreFine new
 calls_fine part new is other n count past (NoCalls none same) h = subst AreFine (sym same) h
 calls_fine part new is other n count past (MoreCalls rest middle some call more) h =
     calls_fine part new is other _ rest middle more (call_fine (fate_of part.losses n) (seat_at part n) part.kind past middle (is n) other call h)
 
-turn_fine : (actor : Actor) (part : Part) (calls : ℕ) (before after : Progress) → ((n : ℕ) → IsNumber (seat_at part n)) → is_user part.kind ≡ false → IsTurnLine all_pass [] (role_of actor) part calls before after → AreFine before.past → AreFine after.past
+turn_fine : (actor : Actor) (part : Part) (calls : ℕ) (before after : Progress) → ((n : ℕ) → IsNumber (seat_at part n)) → is_user part.kind ≡ false
+    → IsTurnLine all_pass [] (role_of actor) part calls before after → AreFine before.past → AreFine after.past
 turn_fine actor part calls before after is other (inl all) h = subst (λ (p : Progress). AreFine p.past) (sym all.is) (calls_fine part all.past is other _ _ before.past all.made h)
 turn_fine actor part calls before after is other (inr few) h = subst (λ (p : Progress). AreFine p.past) (sym few.is) (calls_fine part few.past is other _ _ before.past few.made h)
 
@@ -121,7 +123,8 @@ line_fine script option agents earlier (Call user request) before after is given
     subst (λ (p : Progress). AreFine p.past) (sym move.is) (fine_asked _ before.past (user_seat user (count_most 4 user given.0)) (users_ask request given.1) h)
 line_fine script option agents earlier (Lose actor call lost) before after is given move h = subst (λ (p : Progress). AreFine p.past) (sym move) h
 line_fine script option agents earlier (Restart actor calls) before after is given move h = subst (λ (p : Progress). AreFine p.past) (sym move) h
-line_fine script option agents earlier (Turn actor calls) before after is given move h = turn_fine actor (part_of script actor) calls before after (life_seat script is actor) (no_actor_is_user actor) move h
+line_fine script option agents earlier (Turn actor calls) before after is given move h =
+    turn_fine actor (part_of script actor) calls before after (life_seat script is actor) (no_actor_is_user actor) move h
 line_fine script option agents earlier Drain before after is given move h = drain_fine script (drain_seat script) option before after is (drain_high script is) move h
 
 -- ---- the lines

@@ -7,7 +7,7 @@ use Rattle.std.specs.Ordering.{match_ordering}
 use Rattle.std.proofs.lemmas.List.{length-append, length-map}
 use Rattle.plain_data.specs.Pairs.{Pair, pair_key, text_cmp}
 use Rattle.plain_data.specs.Rows.{put}
-use Rattle.kube_types.specs.declared.objects.Object.{Object}
+use Rattle.kube_objects.specs.declared.objects.Object.{Object}
 use Rattle.script_lines.specs.declared.actors.Worker.{Worker as WorkerData}
 use Rattle.script_lines.specs.declared.actors.Actor.{Actor}
 use Rattle.script_lines.specs.declared.actors.Actor.TheVariants.{Worker, Agent}

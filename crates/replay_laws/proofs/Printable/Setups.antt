@@ -9,8 +9,8 @@ use Rattle.std.proofs.lemmas.Bool.{and_parts}
 use Rattle.plain_data.specs.Rows.{IsAfter, IsRising}
 use Rattle.quantity_text.specs.Quantity.{amount_of}
 use Rattle.quantity_text.proofs.Accepted.{amounts_are_of_the_grammar}
-use Rattle.kube_types.specs.declared.objects.Object.{Object}
-use Rattle.kube_types.specs.Keys.{meta_of}
+use Rattle.kube_objects.specs.declared.objects.Object.{Object}
+use Rattle.kube_objects.specs.Keys.{meta_of}
 use Rattle.call_types.specs.declared.setup.Pool.{Pool}
 use Rattle.call_types.specs.declared.request.Request.{Request}
 use Rattle.call_types.specs.declared.request.Request.TheVariants as requests

@@ -5,7 +5,7 @@ use Rattle.std.proofs.lemmas.List.{length-append, length-map, reverse-append}
 use Rattle.std.proofs.lemmas.List.Elements.{All-nil, All-cons, All-head, All-tail, All-map, All-pop}
 use Rattle.std.specs.Prelude.{◌≡◌, ℕ, ◌≤◌, ◌<◌, ◌⊎◌, ◌+◌, ◌*◌, zero, suc, ◌==◌, nat_lt, Bool, true, false, List, [], ◌∷◌, ◌++◌, Option, Some, All, length, map, reverse, take, if◌then◌else◌}
 use Rattle.plain_data.specs.Pairs.{Pair}
-use Rattle.kube_types.specs.declared.objects.Object.{Object}
+use Rattle.kube_objects.specs.declared.objects.Object.{Object}
 use Rattle.call_types.specs.declared.entry.Entry.{Entry}
 use Rattle.call_types.specs.declared.request.SeatKind.{SeatKind}
 use Rattle.call_types.specs.declared.request.Request.{Request}
@@ -252,7 +252,8 @@ module _ (script : Script) (is : IsScript script) (workers : ℕ) where
       (drain_fine script (drain_seat workers script) budget (progress_after run.worked budget) run.end is high run.last
       (fine_of run.worked (work_given calls run.worked run.work)))
 
-pub made_by_threads : (script : Script) (workers calls : ℕ) (budget : Option ℕ) (past : List Entry) (ending : Drained) → IsMadeByThreads script workers calls budget past ending → IsGivenRun script.setup past
+pub made_by_threads : (script : Script) (workers calls : ℕ) (budget : Option ℕ) (past : List Entry) (ending : Drained)
+    → IsMadeByThreads script workers calls budget past ending → IsGivenRun script.setup past
 made_by_threads script workers calls budget past ending h =
     let fine = threads_fine script h.script_given workers calls budget past ending h.calls_are in
     record { setup_given = script_setups_give script h.script_given; short = h.short; asked = asked past fine.seats fine.users; run = h.run }

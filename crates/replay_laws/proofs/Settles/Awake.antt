@@ -53,12 +53,14 @@ use Rattle.replay_laws.proofs.Settles.Names.{nodes_apart}
 
 -- agents whose seats have no entries were told no epoch
 pub unused_are_awake : (script : Script) (first : ℕ) (past : List Entry) → ((seat : ℕ) → IsOneOf (seats_for first script.node_names) seat → own seat past ≡ []) → NoAgentIsStale script first past
-unused_are_awake script first past none place seat node at_seat at_role epoch told = none_some (sym (ap (last_epoch node) (none seat (one_at (seats_for first script.node_names) place seat at_seat))) ∙ told)
+unused_are_awake script first past none place seat node at_seat at_role epoch told =
+    none_some (sym (ap (last_epoch node) (none seat (one_at (seats_for first script.node_names) place seat at_seat))) ∙ told)
 
 -- ---- one entry
 
 -- a worker takes no node
-worker_takes_none : (kind : SeatKind) (mine : List Entry) (request : Request) (node : List ℕ) → IsBuiltKind kind → is_agent kind ≡ false → is_take_of node request ≡ true → Licensed kind mine request → ⊥
+worker_takes_none : (kind : SeatKind) (mine : List Entry) (request : Request) (node : List ℕ) → IsBuiltKind kind → is_agent kind ≡ false
+    → is_take_of node request ≡ true → Licensed kind mine request → ⊥
 worker_takes_none seats.User mine (requests.TakeNode n) node built other takes licensed = absurd built
 worker_takes_none seats.Binder mine (requests.TakeNode n) node built other takes licensed = licensed.1
 worker_takes_none seats.Ops mine (requests.TakeNode n) node built other takes licensed = licensed.1
@@ -70,20 +72,27 @@ worker_takes_none kind mine request node built other takes licensed = absurd (tr
 
 module _ (setup : Setup) (seat : ℕ) (node : List ℕ) where
   -- nor does a user
-  user_leaves : (user : ℕ) (request : Request) (reply : Reply) (past : List Entry) → seat ≢ user → IsCurrent setup past node seat → IsCurrent setup ((record { seat = user; kind = seats.User; request = request; reply = reply; told = true }) ∷ past) node seat
+  user_leaves : (user : ℕ) (request : Request) (reply : Reply) (past : List Entry) → seat ≢ user → IsCurrent setup past node seat
+      → IsCurrent setup ((record { seat = user; kind = seats.User; request = request; reply = reply; told = true }) ∷ past) node seat
   user_leaves user request reply past other current epoch told =
       current epoch (ap (last_epoch node) (sym (own_other _ past seat other)) ∙ told) ∙ sym (ap (λ d. epoch_of node d.epochs) (keeps_devices setup (world setup past) seats.User request refl).keeps)
 
   worker_leaves : (e : Entry) (past : List Entry) → IsRunOf setup (e ∷ past) → IsBuiltKind e.kind → is_agent e.kind ≡ false → IsCurrent setup past node seat → IsCurrent setup (e ∷ past) node seat
-  worker_leaves e past run built other current = epochs_stay setup (e ∷ []) past seat node (runs_are_histories setup (e ∷ past) run.run) ((λ takes. absurd (worker_takes_none e.kind (own e.seat past) e.request node built other takes run.run.2)), tt) current
+  worker_leaves e past run built other current =
+      epochs_stay setup (e ∷ []) past seat node (runs_are_histories setup (e ∷ past) run.run)
+      ((λ takes. absurd (worker_takes_none e.kind (own e.seat past) e.request node built other takes run.run.2)), tt) current
 
-  call_leaves : (held : Bool) (fate : Fate) (mine : ℕ) (kind : SeatKind) (past new : List Entry) → IsBuiltKind kind → is_agent kind ≡ false → IsRunOf setup new → IsCallBy all_pass held fate mine kind past new → IsCurrent setup past node seat → IsCurrent setup new node seat
+  call_leaves : (held : Bool) (fate : Fate) (mine : ℕ) (kind : SeatKind) (past new : List Entry) → IsBuiltKind kind → is_agent kind ≡ false
+      → IsRunOf setup new → IsCallBy all_pass held fate mine kind past new → IsCurrent setup past node seat → IsCurrent setup new node seat
   call_leaves true fate mine kind past new built other run call current = subst (λ h. IsCurrent setup h node seat) (sym call.is) current
-  call_leaves false Told mine kind past new built other run call current = subst (λ h. IsCurrent setup h node seat) (sym call.is) (worker_leaves _ past (subst (IsRunOf setup) call.is run) built other current)
-  call_leaves false LostAfter mine kind past new built other run call current = subst (λ h. IsCurrent setup h node seat) (sym call.is) (worker_leaves _ past (subst (IsRunOf setup) call.is run) built other current)
+  call_leaves false Told mine kind past new built other run call current =
+      subst (λ h. IsCurrent setup h node seat) (sym call.is) (worker_leaves _ past (subst (IsRunOf setup) call.is run) built other current)
+  call_leaves false LostAfter mine kind past new built other run call current =
+      subst (λ h. IsCurrent setup h node seat) (sym call.is) (worker_leaves _ past (subst (IsRunOf setup) call.is run) built other current)
   call_leaves false LostBefore mine kind past new built other run call current = subst (λ h. IsCurrent setup h node seat) (sym call) current
 
-  calls_leave : (part : Part) (new : List Entry) → IsBuiltKind part.kind → is_agent part.kind ≡ false → IsRunOf setup new → (n count : ℕ) (past : List Entry) → AreCalls all_pass [] part new n count past → IsCurrent setup past node seat → IsCurrent setup new node seat
+  calls_leave : (part : Part) (new : List Entry) → IsBuiltKind part.kind → is_agent part.kind ≡ false → IsRunOf setup new
+      → (n count : ℕ) (past : List Entry) → AreCalls all_pass [] part new n count past → IsCurrent setup past node seat → IsCurrent setup new node seat
   calls_leave part new built other run n count past (NoCalls none same) current = subst (λ h. IsCurrent setup h node seat) (sym same) current
   calls_leave part new built other run n count past (MoreCalls rest middle some call more) current =
       let grown = calls_grow all_pass [] part new (n + 1) rest middle more in
@@ -107,10 +116,12 @@ module _ (script : Script) (option : Option ℕ) (readable : IsReadable script) 
   user_awake : (user : ℕ) (request : Request) (now next : Progress) → user < 5 → IsUserCall user request now next → Awake now.past → Awake next.past
   user_awake user request now next few move awake place seat node at_seat at_role =
       subst (λ (p : Progress). IsCurrent script.setup p.past node seat) (sym move.is)
-      (user_leaves script.setup seat node user request move.reply now.past (no_user script option readable user few seat (one_at (drain_seats script) place seat at_seat)) (awake place seat node at_seat at_role))
+      (user_leaves script.setup seat node user request move.reply now.past
+      (no_user script option readable user few seat (one_at (drain_seats script) place seat at_seat)) (awake place seat node at_seat at_role))
 
   -- a turn of a worker
-  turn_awake : (part : Part) (calls : ℕ) (now next : Progress) → IsBuiltKind part.kind → is_agent part.kind ≡ false → (role : _) → IsRunOf script.setup next.past → IsTurnLine all_pass [] role part calls now next → Awake now.past → Awake next.past
+  turn_awake : (part : Part) (calls : ℕ) (now next : Progress) → IsBuiltKind part.kind → is_agent part.kind ≡ false → (role : _)
+      → IsRunOf script.setup next.past → IsTurnLine all_pass [] role part calls now next → Awake now.past → Awake next.past
   turn_awake part calls now next built other role run (inl all) awake place seat node at_seat at_role =
       let same = ap (λ (p : Progress). p.past) all.is in
       subst (λ h. IsCurrent script.setup h node seat) (sym same)
@@ -121,13 +132,16 @@ module _ (script : Script) (option : Option ℕ) (readable : IsReadable script) 
       (calls_leave script.setup seat node part few.past built other (subst (IsRunOf script.setup) same run) _ _ now.past few.made (awake place seat node at_seat at_role))
 
   -- a drain: its agents take no nodes but their own
-  module _ (place seat : ℕ) (node : List ℕ) (at_seat : slice_get (drain_seats script) place ≡ Some seat) (at_role : slice_get (drain_roles script) place ≡ Some (agent_of node)) (after : List Drainer) (past : List Entry) (left : ℕ) (run : IsRunOf script.setup past) where
-    own_node : (ds : List Drainer) → seats_of ds ≡ drain_seats script → roles_of ds ≡ drain_roles script → (i : ℕ) (d : Drainer) → slice_get ds i ≡ Some d → d.actor.role ≡ agent_of node → d.seat ≡ seat
+  module _ (place seat : ℕ) (node : List ℕ) (at_seat : slice_get (drain_seats script) place ≡ Some seat)
+      (at_role : slice_get (drain_roles script) place ≡ Some (agent_of node)) (after : List Drainer) (past : List Entry) (left : ℕ) (run : IsRunOf script.setup past) where
+    own_node : (ds : List Drainer) → seats_of ds ≡ drain_seats script → roles_of ds ≡ drain_roles script → (i : ℕ) (d : Drainer)
+        → slice_get ds i ≡ Some d → d.actor.role ≡ agent_of node → d.seat ≡ seat
     own_node ds seats_are roles_are i d there role =
         let same : i ≡ place = nodes_apart script.node_names readable.order i place node (ap (λ rs. slice_get rs i) (sym roles_are) ∙ (role_there ds i d there ∙ ap Some role)) at_role in
         one d.seat seat (sym (seat_there ds i d there) ∙ (ap (λ ss. slice_get ss i) seats_are ∙ (ap (slice_get (drain_seats script)) same ∙ at_seat)))
 
-    drains_leave : (ds : List Drainer) (h : List Entry) (b : ℕ) → seats_of ds ≡ drain_seats script → roles_of ds ≡ drain_roles script → Drains all_pass script.setup after past left ds h b → IsCurrent script.setup h node seat → IsCurrent script.setup past node seat
+    drains_leave : (ds : List Drainer) (h : List Entry) (b : ℕ) → seats_of ds ≡ drain_seats script → roles_of ds ≡ drain_roles script
+        → Drains all_pass script.setup after past left ds h b → IsCurrent script.setup h node seat → IsCurrent script.setup past node seat
     drains_leave ds h b seats_are roles_are (NothingDue settled same entries rest) current = subst (λ es. IsCurrent script.setup es node seat) (sym entries) current
     drains_leave ds h b seats_are roles_are (IsSpent first due none same entries rest) current = subst (λ es. IsCurrent script.setup es node seat) (sym entries) current
     drains_leave ds h b seats_are roles_are (Goes first due some between middle rest whole round more) current =
@@ -135,7 +149,8 @@ module _ (script : Script) (option : Option ℕ) (readable : IsReadable script) 
         let here = run_of_older script.setup g.longer.added middle past g.longer.are run in
         let roles : AreRoles (roles_of ds) = record { nodes = script.node_names; are = roles_are } in
         drains_leave between middle rest (round_seats all_pass middle rest ds h b between whole round ∙ seats_are) (round_roles all_pass middle rest ds h b between whole round ∙ roles_are) more
-        (rounds_keep_epochs script.setup all_pass ds between h middle b rest whole seat node (runs_are_histories script.setup middle here.run) roles round (λ i d there role. inl (own_node ds seats_are roles_are i d there role)) current)
+        (rounds_keep_epochs script.setup all_pass ds between h middle b rest whole seat node
+        (runs_are_histories script.setup middle here.run) roles round (λ i d there role. inl (own_node ds seats_are roles_are i d there role)) current)
 
   drain_awake : (now next : Progress) → IsRunOf script.setup next.past → IsDrain all_pass script option now next → Awake now.past → Awake next.past
   drain_awake now next run d awake place seat node at_seat at_role =
@@ -151,7 +166,8 @@ module _ (script : Script) (option : Option ℕ) (readable : IsReadable script) 
   one_awake (Call user request) now next there none run move awake = user_awake user request now next (within_at script.lines there.0 (Call user request) readable.lines there.1).1 move awake
   one_awake (Lose actor call lost) now next there none run move awake = subst (λ (p : Progress). Awake p.past) (sym move) awake
   one_awake (Restart actor calls) now next there none run move awake = subst (λ (p : Progress). Awake p.past) (sym move) awake
-  one_awake (Turn (Worker w) calls) now next there none run move awake = turn_awake (part_of script (Worker w)) calls now next (actor_built (Worker w)) (no_agent w.kind) (role_of (Worker w)) run move awake
+  one_awake (Turn (Worker w) calls) now next there none run move awake =
+      turn_awake (part_of script (Worker w)) calls now next (actor_built (Worker w)) (no_agent w.kind) (role_of (Worker w)) run move awake
   one_awake (Turn (Agent node) calls) now next there none run move awake = absurd (true≢false none)
   one_awake Drain now next there none run move awake = drain_awake now next run move awake
 
@@ -159,7 +175,8 @@ module _ (script : Script) (option : Option ℕ) (readable : IsReadable script) 
     run_at : (lines : List Line) (next : Progress) → AreMoves script option end lines next → IsRunOf script.setup next.past
     run_at lines next more = let grown = moves_grow script option end lines next more in run_of_older script.setup grown.newer next.past end.past grown.are run
 
-    all_awake : (lines : List Line) (now : Progress) → ((place : ℕ) (line : Line) → slice_get lines place ≡ Some line → IsThere line) → TurnNoAgent lines → AreMoves script option end lines now → Awake now.past → Awake end.past
+    all_awake : (lines : List Line) (now : Progress) → ((place : ℕ) (line : Line) → slice_get lines place ≡ Some line → IsThere line)
+        → TurnNoAgent lines → AreMoves script option end lines now → Awake now.past → Awake end.past
     all_awake lines now among none (NoMoves empty same) awake = subst (λ (p : Progress). Awake p.past) (sym same) awake
     all_awake lines now among none (MoreMoves line rest next are move more) awake =
         let these = subst TurnNoAgent are none in
@@ -171,22 +188,27 @@ module _ (script : Script) (option : Option ℕ) (readable : IsReadable script) 
     AreUnused p = (seat : ℕ) → IsOneOf (drain_seats script) seat → own seat p.past ≡ []
 
     -- what the first line leaves, and what the later ones leave of it
-    first_awake : (line : Line) (rest : List Line) (now next : Progress) → IsThere line → ((place : ℕ) (x : Line) → slice_get rest place ≡ Some x → IsThere x) → LeaveAgents (line ∷ rest) → IsMove script option line now next → AreMoves script option end rest next → AreUnused now
+    first_awake : (line : Line) (rest : List Line) (now next : Progress) → IsThere line
+        → ((place : ℕ) (x : Line) → slice_get rest place ≡ Some x → IsThere x) → LeaveAgents (line ∷ rest) → IsMove script option line now next → AreMoves script option end rest next → AreUnused now
         → (LeaveAgents rest → AreUnused next → Awake end.past) → Awake end.past
     first_awake (Call user request) rest now next there among leave move more unused later =
-        later leave (λ seat one_. ap (λ (p : Progress). own seat p.past) move.is ∙ (own_other _ now.past seat (no_user script option readable user (within_at script.lines there.0 (Call user request) readable.lines there.1).1 seat one_) ∙ unused seat one_))
+        later leave (λ seat one_. ap (λ (p : Progress). own seat p.past) move.is
+        ∙ (own_other _ now.past seat (no_user script option readable user (within_at script.lines there.0 (Call user request) readable.lines there.1).1 seat one_) ∙ unused seat one_))
     first_awake (Lose actor call lost) rest now next there among leave move more unused later = later leave (λ seat one_. ap (λ (p : Progress). own seat p.past) move ∙ unused seat one_)
     first_awake (Restart actor calls) rest now next there among leave move more unused later = later leave (λ seat one_. ap (λ (p : Progress). own seat p.past) move ∙ unused seat one_)
     first_awake (Turn actor calls) rest now next there among leave move more unused later =
-        later leave (λ seat one_. turn_others script option readable actor calls now next (named_at script.lines there.0 actor calls there.1) (known_at script.node_names script.lines there.0 (Turn actor calls) readable.known there.1) move seat one_ ∙ unused seat one_)
+        later leave (λ seat one_. turn_others script option readable actor calls now next (named_at script.lines there.0 actor calls there.1)
+        (known_at script.node_names script.lines there.0 (Turn actor calls) readable.known there.1) move seat one_ ∙ unused seat one_)
     first_awake Drain rest now next there among leave move more unused later =
         all_awake rest next among leave more (drain_awake now next (run_at rest next more) move (unused_are_awake script (drain_seat script) now.past unused))
 
-    left_awake : (lines : List Line) (now : Progress) → ((place : ℕ) (line : Line) → slice_get lines place ≡ Some line → IsThere line) → LeaveAgents lines → AreMoves script option end lines now → AreUnused now → Awake end.past
+    left_awake : (lines : List Line) (now : Progress) → ((place : ℕ) (line : Line) → slice_get lines place ≡ Some line → IsThere line)
+        → LeaveAgents lines → AreMoves script option end lines now → AreUnused now → Awake end.past
     left_awake lines now among leave (NoMoves empty same) unused = subst (λ (p : Progress). Awake p.past) (sym same) (unused_are_awake script (drain_seat script) now.past unused)
     left_awake lines now among leave (MoreMoves line rest next are move more) unused =
         let behind : (place : ℕ) (x : Line) → slice_get rest place ≡ Some x → IsThere x = λ place x at. among (suc place) x (ap (λ ls. slice_get ls (suc place)) are ∙ at) in
-        first_awake line rest now next (among 0 line (ap (λ ls. slice_get ls 0) are)) behind (subst LeaveAgents are leave) move more unused (λ leave_rest unused_next. left_awake rest next behind leave_rest more unused_next)
+        first_awake line rest now next (among 0 line (ap (λ ls. slice_get ls 0) are)) behind (subst LeaveAgents are leave) move more unused
+        (λ leave_rest unused_next. left_awake rest next behind leave_rest more unused_next)
 
 pub left_agents_are_awake : LeftAgentsAreAwake
 left_agents_are_awake script option past ending readable run leave replay =

@@ -61,7 +61,8 @@ placed (n ∷ nodes) node (inr more) = let p = placed nodes node more in (suc p.
 
 -- ---- the drain
 
-module _ (script : Script) (first : ℕ) (option : Option ℕ) (before after : Progress) (d : IsDrainAt all_pass script first option before after) (readable : IsReadable script) (given : IsGivenRun script.setup after.past) where
+module _ (script : Script) (first : ℕ) (option : Option ℕ) (before after : Progress) (d : IsDrainAt all_pass script first option before after)
+    (readable : IsReadable script) (given : IsGivenRun script.setup after.past) where
   past_is : after.past ≡ d.past
   past_is = ap (λ (p : Progress). p.past) d.is
 
@@ -90,7 +91,8 @@ module _ (script : Script) (first : ℕ) (option : Option ℕ) (before after : P
       let most = readable.nodes in
       omega (arith, roles, all, agents, most)
 
-  module _ (only : AreSilentIfOvertaken script first before.past) (awake : NoAgentIsStale script first before.past) (named : (node : List ℕ) → WasGiven script.setup before.past node → SomeOf (λ n. n ≡ node) script.node_names) where
+  module _ (only : AreSilentIfOvertaken script first before.past) (awake : NoAgentIsStale script first before.past)
+      (named : (node : List ℕ) → WasGiven script.setup before.past node → SomeOf (λ n. n ≡ node) script.node_names) where
     served : (node : List ℕ) → WasGiven script.setup before.past node → HasCurrent script.setup d.drainers before.past node
     served node was = record {
       place = at.place;

@@ -59,7 +59,8 @@ imports_allow setup past given = record { uids = given_imports_fit setup given.s
 -- ---- a drain
 
 module _ (setup : Setup) (lets : Lets) (after : List Drainer) (past : List Entry) (left : ℕ) (always : AlwaysHasShortRounds setup past) where
-  rounds_make_few : (ds : List Drainer) (h : List Entry) (b : ℕ) (drained : Drains lets setup after past left ds h b) → EachRoundIsShort lets setup after past left ds h b drained → EachRoundMakesFew lets setup after past left ds h b drained
+  rounds_make_few : (ds : List Drainer) (h : List Entry) (b : ℕ) (drained : Drains lets setup after past left ds h b)
+      → EachRoundIsShort lets setup after past left ds h b drained → EachRoundMakesFew lets setup after past left ds h b drained
   rounds_make_few ds h b (NothingDue settled same entries rest) short = tt
   rounds_make_few ds h b (IsSpent first due none same entries rest) short = tt
   rounds_make_few ds h b (Goes first due some between middle rest whole round more) short =
@@ -68,7 +69,9 @@ module _ (setup : Setup) (lets : Lets) (after : List Drainer) (past : List Entry
 
 -- ---- a drain of a script
 
-module _ (script : Script) (first : ℕ) (option : Option ℕ) (before after : Progress) (d : IsDrainAt all_pass script first option before after) (readable : IsReadable script) (allow : ImportsAllow script.setup) (run : IsRunOf script.setup after.past) (order : AreAlwaysInOrder script.setup after.past) (always : AlwaysHasShortRounds script.setup after.past) where
+module _ (script : Script) (first : ℕ) (option : Option ℕ) (before after : Progress) (d : IsDrainAt all_pass script first option before after)
+    (readable : IsReadable script) (allow : ImportsAllow script.setup) (run : IsRunOf script.setup after.past)
+    (order : AreAlwaysInOrder script.setup after.past) (always : AlwaysHasShortRounds script.setup after.past) where
   past_is : after.past ≡ d.past
   past_is = ap (λ (p : Progress). p.past) d.is
 
@@ -99,19 +102,22 @@ module _ (script : Script) (first : ℕ) (option : Option ℕ) (before after : P
   drain_is_short : DrainIsShort script first option before after d
   drain_is_short =
       rounds_make_few script.setup all_pass d.ran d.past (d.budget - (before.drained + d.made)) always_there d.drainers before.past (d.budget - before.drained) d.rounds
-      (every_drained_round_is_short script.setup all_pass d.drainers d.ran before.past d.past (d.budget - before.drained) (d.budget - (before.drained + d.made)) allow may_begin run_there all_holds order_there few d.rounds)
+      (every_drained_round_is_short script.setup all_pass d.drainers d.ran before.past d.past (d.budget - before.drained)
+      (d.budget - (before.drained + d.made)) allow may_begin run_there all_holds order_there few d.rounds)
 
 -- ---- the lines
 
 module _ (script : Script) (option : Option ℕ) (readable : IsReadable script) (allow : ImportsAllow script.setup) where
-  move_is_short : (line : Line) (now next : Progress) (move : IsMove script option line now next) → IsRunOf script.setup next.past → AreAlwaysInOrder script.setup next.past → AlwaysHasShortRounds script.setup next.past → MoveIsShort script option line now next move
+  move_is_short : (line : Line) (now next : Progress) (move : IsMove script option line now next) → IsRunOf script.setup next.past
+      → AreAlwaysInOrder script.setup next.past → AlwaysHasShortRounds script.setup next.past → MoveIsShort script option line now next move
   move_is_short (Call user request) now next move run order always = tt
   move_is_short (Lose actor call lost) now next move run order always = tt
   move_is_short (Restart actor calls) now next move run order always = tt
   move_is_short (Turn actor calls) now next move run order always = tt
   move_is_short Drain now next move run order always = drain_is_short script (drain_seat script) option now next move readable allow run order always
 
-  moves_are_short : (end : Progress) (lines : List Line) (now : Progress) → IsRunOf script.setup end.past → AreAlwaysInOrder script.setup end.past → AlwaysHasShortRounds script.setup end.past → (moves : AreMoves script option end lines now) → MovesAreShort script option end lines now moves
+  moves_are_short : (end : Progress) (lines : List Line) (now : Progress) → IsRunOf script.setup end.past → AreAlwaysInOrder script.setup end.past
+      → AlwaysHasShortRounds script.setup end.past → (moves : AreMoves script option end lines now) → MovesAreShort script option end lines now moves
   moves_are_short end lines now run order always (NoMoves none same) = tt
   moves_are_short end lines now run order always (MoreMoves line rest next are move more) =
       let grown = moves_grow script option end rest next more in (
@@ -124,8 +130,10 @@ module _ (script : Script) (option : Option ℕ) (readable : IsReadable script) 
 
 pub replayed_drains_are_short : ReplayedDrainsAreShort
 replayed_drains_are_short script option past ending readable given replay = record {
-  of_lines = moves_are_short script option readable allow replay.lines_done script.lines (first_progress option) (run_of_older script.setup grown.newer replay.lines_done.past replay.end.past grown.are run)
-      (older_order script.setup grown.newer replay.lines_done.past replay.end.past grown.are order) (older_short script.setup grown.newer replay.lines_done.past replay.end.past grown.are always) replay.moves;
+  of_lines = moves_are_short script option readable allow replay.lines_done script.lines (first_progress option)
+      (run_of_older script.setup grown.newer replay.lines_done.past replay.end.past grown.are run)
+      (older_order script.setup grown.newer replay.lines_done.past replay.end.past grown.are order)
+      (older_short script.setup grown.newer replay.lines_done.past replay.end.past grown.are always) replay.moves;
   of_last = drain_is_short script (drain_seat script) option replay.lines_done replay.end replay.last readable allow run order always;
 }
   where
@@ -146,6 +154,7 @@ replayed_drains_are_short script option past ending readable given replay = reco
 
 pub threaded_drains_are_short : ThreadedDrainsAreShort
 threaded_drains_are_short script workers calls option past ending readable given r =
-    drain_is_short script (threads_drain_seat workers script) option (progress_after r.worked option) r.end r.last readable (imports_allow script.setup past given) (subst (IsRunOf script.setup) r.history (run_of_given script.setup past given))
+    drain_is_short script (threads_drain_seat workers script) option (progress_after r.worked option) r.end r.last readable
+    (imports_allow script.setup past given) (subst (IsRunOf script.setup) r.history (run_of_given script.setup past given))
     (subst (AreAlwaysInOrder script.setup) r.history (given_runs_stay_in_order script.setup past given))
     (subst (AlwaysHasShortRounds script.setup) r.history (always_short script past readable (threaded_objects_are_few script workers calls option past ending given.run r)))

@@ -25,7 +25,8 @@ use Rattle.replay_laws.proofs.Settles.Awake.{unused_are_awake}
 use Rattle.replay_laws.proofs.Settles.Drain.{drain_settles}
 
 -- where nothing is due at the end, the ending says so
-says : (script : Script) (end : Progress) (past : List Entry) (ending : Drained) → past ≡ end.past → EndsAs script.setup end ending → IsSettled script.setup (world script.setup end.past) → EndsSettled script past ending
+says : (script : Script) (end : Progress) (past : List Entry) (ending : Drained) → past ≡ end.past → EndsAs script.setup end ending
+    → IsSettled script.setup (world script.setup end.past) → EndsSettled script past ending
 says script end past (Settled made) is ends settled = record { settled = subst (λ h. IsSettled script.setup (world script.setup h)) (sym is) settled; made = made; is = refl }
 says script end past (Spent made key due) is ends settled = absurd (not_settled script.setup (world script.setup end.past) (key, due) ends.2 settled)
 

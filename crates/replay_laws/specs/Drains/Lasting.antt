@@ -39,7 +39,8 @@ pub record DrainsLast (script : Script) (option : Option ℕ) (past : List Entry
 
 -- in each replay that is a run
 abbrev pub ReplayedDrainsLast : Type 0
-ReplayedDrainsLast = (script : Script) (option : Option ℕ) (past : List Entry) (ending : Drained) → IsReadable script → IsRunOf script.setup past → (replay : IsReplay script option past ending) → DrainsLast script option past ending replay
+ReplayedDrainsLast = (script : Script) (option : Option ℕ) (past : List Entry) (ending : Drained) → IsReadable script → IsRunOf script.setup past
+    → (replay : IsReplay script option past ending) → DrainsLast script option past ending replay
 
 -- so of the drain with which a run on threads ends
 abbrev pub ThreadedDrainLasts : (script : Script) (workers calls : ℕ) (option : Option ℕ) (past : List Entry) (ending : Drained) → IsRun script workers calls option past ending → Type 0
@@ -48,4 +49,5 @@ ThreadedDrainLasts script workers calls option past ending r = DrainLasts script
 -- in each run on threads that is a run
 abbrev pub ThreadedDrainsLast : Type 0
 ThreadedDrainsLast =
-    (script : Script) (workers calls : ℕ) (option : Option ℕ) (past : List Entry) (ending : Drained) → IsRunOf script.setup past → (r : IsRun script workers calls option past ending) → ThreadedDrainLasts script workers calls option past ending r
+    (script : Script) (workers calls : ℕ) (option : Option ℕ) (past : List Entry) (ending : Drained) → IsRunOf script.setup past
+    → (r : IsRun script workers calls option past ending) → ThreadedDrainLasts script workers calls option past ending r

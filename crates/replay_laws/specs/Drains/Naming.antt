@@ -1,11 +1,11 @@
 -- On which nodes the pods of a script's histories are: those that the script names, so that its drains have an agent of each.
 -- A choice of this project.
 use Rattle.std.specs.Prelude.{ℕ, ◌≡◌, ◌++◌, List, Option, Some, true}
-use Rattle.kube_types.specs.declared.key.Key.{Key}
-use Rattle.kube_types.specs.declared.objects.Pod.{Pod as PodData}
-use Rattle.kube_types.specs.declared.objects.Object.TheVariants.{Pod}
-use Rattle.kube_types.specs.Bindings.{is_scheduled}
-use Rattle.kube_types.specs.Keys.{row_at}
+use Rattle.kube_objects.specs.declared.key.Key.{Key}
+use Rattle.kube_objects.specs.declared.objects.Pod.{Pod as PodData}
+use Rattle.kube_objects.specs.declared.objects.Object.TheVariants.{Pod}
+use Rattle.kube_objects.specs.Bindings.{is_scheduled}
+use Rattle.kube_objects.specs.Keys.{row_at}
 use Rattle.call_types.specs.declared.entry.Entry.{Entry}
 use Rattle.binder_model.specs.Run.{Run}
 use Rattle.binder_model.specs.Told.{SomeOf}
@@ -30,9 +30,11 @@ ArePodsOnNamedThroughout script past = (newer h : List Entry) → past ≡ newer
 
 -- so it is in each replay that is a run
 abbrev pub ReplayedPodsAreOnNamed : Type 0
-ReplayedPodsAreOnNamed = (script : Script) (option : Option ℕ) (past : List Entry) (ending : Drained) → NamesItsNodes script → Run script.setup past → IsReplay script option past ending → ArePodsOnNamedThroughout script past
+ReplayedPodsAreOnNamed = (script : Script) (option : Option ℕ) (past : List Entry) (ending : Drained) → NamesItsNodes script → Run script.setup past
+    → IsReplay script option past ending → ArePodsOnNamedThroughout script past
 
 -- and in each run on threads that is a run
 abbrev pub ThreadedPodsAreOnNamed : Type 0
 ThreadedPodsAreOnNamed =
-    (script : Script) (workers calls : ℕ) (option : Option ℕ) (past : List Entry) (ending : Drained) → NamesItsNodes script → Run script.setup past → IsRun script workers calls option past ending → ArePodsOnNamedThroughout script past
+    (script : Script) (workers calls : ℕ) (option : Option ℕ) (past : List Entry) (ending : Drained) → NamesItsNodes script → Run script.setup past
+    → IsRun script workers calls option past ending → ArePodsOnNamedThroughout script past

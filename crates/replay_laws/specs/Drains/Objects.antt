@@ -24,4 +24,5 @@ ReplayedObjectsAreFew = (script : Script) (option : Option ℕ) (past : List Ent
 -- and in each run on threads that is a run
 abbrev pub ThreadedObjectsAreFew : Type 0
 ThreadedObjectsAreFew =
-    (script : Script) (workers calls : ℕ) (option : Option ℕ) (past : List Entry) (ending : Drained) → Run script.setup past → IsRun script workers calls option past ending → HasFewObjectsThroughout script past
+    (script : Script) (workers calls : ℕ) (option : Option ℕ) (past : List Entry) (ending : Drained) → Run script.setup past
+    → IsRun script workers calls option past ending → HasFewObjectsThroughout script past

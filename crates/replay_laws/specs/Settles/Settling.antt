@@ -38,7 +38,8 @@ pub record AllowsSettling (setup : Setup) (before past : List Entry) (calls : �
 -- no agent of the drains, whose first seat is this one, is stale here: it was told no epoch of its node, or the one that the node has
 abbrev pub NoAgentIsStale : Script → ℕ → List Entry → Type 0
 NoAgentIsStale script first past =
-    (place seat : ℕ) (node : List ℕ) → slice_get (seats_for first script.node_names) place ≡ Some seat → slice_get (drain_roles script) place ≡ Some (agent_of node) → IsCurrent script.setup past node seat
+    (place seat : ℕ) (node : List ℕ) → slice_get (seats_for first script.node_names) place ≡ Some seat
+    → slice_get (drain_roles script) place ≡ Some (agent_of node) → IsCurrent script.setup past node seat
 
 -- the last drain of the replay begins so, with what earlier drains have left of the budget
 pub record LastDrainMaySettle (script : Script) (option : Option ℕ) (past : List Entry) (ending : Drained) (replay : IsReplay script option past ending) : Type 0 where
@@ -60,7 +61,8 @@ pub record EndsSettled (script : Script) (past : List Entry) (ending : Drained) 
   pub is : ending ≡ Settled made
 
 abbrev pub LastDrainsSettle : Type 0
-LastDrainsSettle = (script : Script) (option : Option ℕ) (past : List Entry) (ending : Drained) → IsGivenScript script past → (replay : IsReplay script option past ending) → LastDrainMaySettle script option past ending replay → EndsSettled script past ending
+LastDrainsSettle = (script : Script) (option : Option ℕ) (past : List Entry) (ending : Drained) → IsGivenScript script past
+    → (replay : IsReplay script option past ending) → LastDrainMaySettle script option past ending replay → EndsSettled script past ending
 
 -- the line makes calls of an agent
 abbrev pub turns_agent : Line → Bool
@@ -81,10 +83,12 @@ LeaveAgents (line ∷ lines) = LeaveAgents lines
 -- then no agent of the drains is stale as the last one begins
 abbrev pub LeftAgentsAreAwake : Type 0
 LeftAgentsAreAwake =
-    (script : Script) (option : Option ℕ) (past : List Entry) (ending : Drained) → IsReadable script → IsRunOf script.setup past → LeaveAgents script.lines → (replay : IsReplay script option past ending)
+    (script : Script) (option : Option ℕ) (past : List Entry) (ending : Drained) → IsReadable script → IsRunOf script.setup past
+    → LeaveAgents script.lines → (replay : IsReplay script option past ending)
     → NoAgentIsStale script (drain_seat script) replay.lines_done.past
 
 -- nor is one of the drain with which a run on threads ends
 abbrev pub ThreadedDrainsSettle : Type 0
 ThreadedDrainsSettle =
-    (script : Script) (workers calls : ℕ) (option : Option ℕ) (past : List Entry) (ending : Drained) → IsGivenScript script past → (r : IsRun script workers calls option past ending) → AllowsSettling script.setup r.worked past r.last.budget → EndsSettled script past ending
+    (script : Script) (workers calls : ℕ) (option : Option ℕ) (past : List Entry) (ending : Drained) → IsGivenScript script past
+    → (r : IsRun script workers calls option past ending) → AllowsSettling script.setup r.worked past r.last.budget → EndsSettled script past ending

@@ -19,7 +19,8 @@ use Rattle.script_threads.specs.Runs.{IsRun, progress_after}
 use Rattle.script_threads.specs.Started.{drain_seat as threads_drain_seat}
 
 -- each round of the drain makes no more than the stated number of calls
-abbrev pub EachRoundMakesFew : (lets : Lets) (setup : Setup) (after : List Drainer) (past : List Entry) (left : ℕ) (ds : List Drainer) (h : List Entry) (b : ℕ) → Drains lets setup after past left ds h b → Type 0
+abbrev pub EachRoundMakesFew : (lets : Lets) (setup : Setup) (after : List Drainer) (past : List Entry) (left : ℕ) (ds : List Drainer)
+    (h : List Entry) (b : ℕ) → Drains lets setup after past left ds h b → Type 0
 EachRoundMakesFew lets setup after past left ds h b (NothingDue settled same entries rest) = ⊤
 EachRoundMakesFew lets setup after past left ds h b (IsSpent first due none same entries rest) = ⊤
 EachRoundMakesFew lets setup after past left ds h b (Goes first due some between middle rest whole round more) =
@@ -27,7 +28,8 @@ EachRoundMakesFew lets setup after past left ds h b (Goes first due some between
 
 -- so does each of this drain, whatever its actors have under way as it begins
 abbrev pub DrainIsShort : (script : Script) (first : ℕ) (option : Option ℕ) (before after : Progress) → IsDrainAt all_pass script first option before after → Type 0
-DrainIsShort script first option before after d = EachRoundMakesFew all_pass script.setup d.ran d.past (d.budget - (before.drained + d.made)) d.drainers before.past (d.budget - before.drained) d.rounds
+DrainIsShort script first option before after d =
+    EachRoundMakesFew all_pass script.setup d.ran d.past (d.budget - (before.drained + d.made)) d.drainers before.past (d.budget - before.drained) d.rounds
 
 -- so of what a line does, which only a drain line says anything of
 abbrev pub MoveIsShort : (script : Script) (option : Option ℕ) (line : Line) (before after : Progress) → IsMove script option line before after → Type 0
@@ -50,7 +52,8 @@ pub record DrainsAreShort (script : Script) (option : Option ℕ) (past : List E
 -- in each replay that a text can give
 abbrev pub ReplayedDrainsAreShort : Type 0
 ReplayedDrainsAreShort =
-    (script : Script) (option : Option ℕ) (past : List Entry) (ending : Drained) → IsReadable script → IsGivenRun script.setup past → (replay : IsReplay script option past ending) → DrainsAreShort script option past ending replay
+    (script : Script) (option : Option ℕ) (past : List Entry) (ending : Drained) → IsReadable script → IsGivenRun script.setup past
+    → (replay : IsReplay script option past ending) → DrainsAreShort script option past ending replay
 
 -- so of the drain with which a run on threads ends
 abbrev pub ThreadedDrainIsShort : (script : Script) (workers calls : ℕ) (option : Option ℕ) (past : List Entry) (ending : Drained) → IsRun script workers calls option past ending → Type 0
@@ -59,5 +62,6 @@ ThreadedDrainIsShort script workers calls option past ending r = DrainIsShort sc
 -- in each run on threads that a text can give
 abbrev pub ThreadedDrainsAreShort : Type 0
 ThreadedDrainsAreShort =
-    (script : Script) (workers calls : ℕ) (option : Option ℕ) (past : List Entry) (ending : Drained) → IsReadable script → IsGivenRun script.setup past → (r : IsRun script workers calls option past ending)
+    (script : Script) (workers calls : ℕ) (option : Option ℕ) (past : List Entry) (ending : Drained) → IsReadable script
+    → IsGivenRun script.setup past → (r : IsRun script workers calls option past ending)
     → ThreadedDrainIsShort script workers calls option past ending r

@@ -4,13 +4,13 @@ use Rattle.std.specs.Prelude.{codes, slice_get}
 use Rattle.std.specs.declared.cmp.Ordering.{Ordering}
 use Rattle.std.specs.declared.cmp.Ordering.TheVariants.{Less}
 use mathlib.Core.Bool.{xor}
-use Rattle.kube_types.specs.declared.key.Key.{Key}
-use Rattle.kube_types.specs.declared.names.Due.TheVariants as dues
-use Rattle.kube_types.specs.declared.objects.Object.{Object}
-use Rattle.kube_types.specs.declared.objects.Object.TheVariants.{Volume}
-use Rattle.kube_types.specs.declared.parts.Kind.TheVariants as kinds
-use Rattle.kube_types.specs.Keys.{key_of, key_cmp, row_at}
-use Rattle.kube_types.proofs.KeyOrder.{row_at_key}
+use Rattle.kube_objects.specs.declared.key.Key.{Key}
+use Rattle.kube_parts.specs.declared.names.Due.TheVariants as dues
+use Rattle.kube_objects.specs.declared.objects.Object.{Object}
+use Rattle.kube_objects.specs.declared.objects.Object.TheVariants.{Volume}
+use Rattle.kube_parts.specs.declared.parts.Kind.TheVariants as kinds
+use Rattle.kube_objects.specs.Keys.{key_of, key_cmp, row_at}
+use Rattle.kube_objects.proofs.KeyOrder.{row_at_key}
 use Rattle.call_types.specs.declared.entry.Entry.{Entry}
 use Rattle.call_types.specs.declared.reply.Reply.{Reply}
 use Rattle.call_types.specs.declared.reply.Reply.TheVariants as replies
@@ -82,7 +82,8 @@ pub record UserAsked (done now : Progress) (user : ℕ) (request : Request) : Ty
   pub reply : Reply
   pub is : done ≡ record now { past = (record { seat = user; kind = seats.User; request = request; reply = reply; told = true }) ∷ now.past }
 
-one_line : (script : Script) (option : Option ℕ) (done now : Progress) (ls : List Line) (user : ℕ) (request : Request) → ls ≡ lines.Call user request ∷ [] → AreMoves script option done ls now → UserAsked done now user request
+one_line : (script : Script) (option : Option ℕ) (done now : Progress) (ls : List Line) (user : ℕ) (request : Request)
+    → ls ≡ lines.Call user request ∷ [] → AreMoves script option done ls now → UserAsked done now user request
 one_line script option done now ls user request are (NoMoves none is) = absurd (cc)
 one_line script option done now ls user request are (MoreMoves line rest next is move more) =
     let same : line ≡ lines.Call user request = cc in
@@ -106,7 +107,8 @@ module _ (n : ℕ) (past : List Entry) (ending : Drained) (r : IsReplay made_scr
   one_before = ap length before_is
 
   more : r.end.past ≢ r.lines_done.past
-  more same = let all : length past ≡ length r.end.past = ap length r.history in let one_ : length r.end.past ≡ length r.lines_done.past = ap length same in let b = one_before in absurd (omega (arith, long, all, one_, b))
+  more same = let all : length past ≡ length r.end.past = ap length r.history in let one_ : length r.end.past ≡ length r.lines_done.past =
+      ap length same in let b = one_before in absurd (omega (arith, long, all, one_, b))
 
   nothing_yet : own 7 r.lines_done.past ≡ []
   nothing_yet = ap (own 7) before_is
@@ -140,11 +142,13 @@ abbrev rows : List Object
 rows = Volume made_a ∷ []
 
 rows_made : (world made_script.setup made).store.rows ≡ rows
-unfolding effect on_devices device_answer outcome create refuse refuse_field refuse_rule guard_on guard breaks create_fault kind_fault volume_fault claim_fault faulty lacks_node admitted_object without_status created_object at_version leaves with_meta world_after after log_after xor
+unfolding effect on_devices device_answer outcome create refuse refuse_field refuse_rule guard_on guard breaks create_fault kind_fault volume_fault
+    claim_fault faulty lacks_node admitted_object without_status created_object at_version leaves with_meta world_after after log_after xor
 rows_made = refl
 
 rows_listed : (world made_script.setup (lists_made 7 seats.Scheduler ∷ made)).store.rows ≡ rows
-unfolding effect on_devices device_answer outcome create list refuse refuse_field refuse_rule guard_on guard breaks create_fault kind_fault volume_fault claim_fault faulty lacks_node admitted_object without_status created_object at_version leaves with_meta world_after after log_after xor
+unfolding effect on_devices device_answer outcome create list refuse refuse_field refuse_rule guard_on guard breaks create_fault kind_fault
+    volume_fault claim_fault faulty lacks_node admitted_object without_status created_object at_version leaves with_meta world_after after log_after xor
 rows_listed = refl
 
 abbrev key : Key
@@ -164,20 +168,25 @@ due_first past are = record {
   object = Volume made_a;
   there = ap (row_at key) are;
   due = refl;
-  first = λ earlier o e less. let there : row_at earlier rows ≡ Some o = sym (ap (row_at earlier) are) ∙ e in absurd (none_before earlier o (row_at_key earlier o rows there) less (found_in earlier o rows there));
+  first = λ earlier o e less. let there : row_at earlier rows ≡ Some o = sym (ap (row_at earlier) are) ∙ e in
+      absurd (none_before earlier o (row_at_key earlier o rows there) less (found_in earlier o rows there));
 }
 
 pub round_cases : RoundExamples
 round_cases = record {
   only_watches = λ r. let e : 5 ≡ 7 = first_seat 4 (only_watched 5 seats.Binder) (Spent 4 key dues.Available) r five 3 (lists_made 5 seats.Binder) refl refl in absurd (omega (arith, e));
-  nor_does_the_scheduler = λ r. absurd (true≢false (sym (second_asks 4 (only_watched 7 seats.Scheduler) (Spent 4 key dues.Available) r five 2 (watches_made 7 seats.Scheduler) (omega arith) refl refl)));
-  wrong_kinds = λ r. let e : 5 ≡ 7 = first_seat 1 (lists_made 5 seats.VolumeProtect ∷ made) (Spent 1 key dues.Available) r two 0 (lists_made 5 seats.VolumeProtect) refl refl in absurd (omega (arith, e));
-  nor_at_the_seat_of_the_scheduler = λ r. absurd (true≢false (sym (ap is_scheduler (first_kind 1 (lists_made 7 seats.VolumeProtect ∷ made) (Spent 1 key dues.Available) r two 0 (lists_made 7 seats.VolumeProtect) refl refl))));
+  nor_does_the_scheduler = λ r. absurd (true≢false
+      (sym (second_asks 4 (only_watched 7 seats.Scheduler) (Spent 4 key dues.Available) r five 2 (watches_made 7 seats.Scheduler) (omega arith) refl refl)));
+  wrong_kinds = λ r. let e : 5 ≡ 7 = first_seat 1 (lists_made 5 seats.VolumeProtect ∷ made) (Spent 1 key dues.Available) r two 0 (lists_made 5
+      seats.VolumeProtect) refl refl in absurd (omega (arith, e));
+  nor_at_the_seat_of_the_scheduler = λ r. absurd (true≢false
+      (sym (ap is_scheduler (first_kind 1 (lists_made 7 seats.VolumeProtect ∷ made) (Spent 1 key dues.Available) r two 0 (lists_made 7 seats.VolumeProtect) refl refl))));
   but_the_scheduler_lists_them = record {
     lines_done = record (first_progress (Some 1)) { past = made };
     end = record (first_progress (Some 1)) { past = lists_made 7 seats.Scheduler ∷ made; drained = 1 };
     moves = MoreMoves (lines.Call 1 (requests.Create (Volume (volume (codes "a") 5)))) [] _ refl (record { reply = replies.Done (Volume made_a); is = refl }) (NoMoves refl refl);
-    last = one_call_drain made_script made (lists_made 7 seats.Scheduler).reply (refl, (refl, (refl, (refl, (refl, tt))))) (key, dues.Available) (key, dues.Available) (due_first made rows_made) (due_first (lists_made 7 seats.Scheduler ∷ made) rows_listed);
+    last = one_call_drain made_script made (lists_made 7 seats.Scheduler).reply (refl, (refl, (refl, (refl, (refl, tt))))) (key, dues.Available)
+        (key, dues.Available) (due_first made rows_made) (due_first (lists_made 7 seats.Scheduler ∷ made) rows_listed);
     history = refl;
     ends = (refl, refl, due_first (lists_made 7 seats.Scheduler ∷ made) rows_listed);
   };

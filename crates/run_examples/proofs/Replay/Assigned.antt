@@ -3,14 +3,14 @@ use Rattle.std.proofs.Common.{◌≡◌, [], ◌∷◌, length, Bool, true, fals
 use Rattle.std.specs.Prelude.{slice_get}
 use Rattle.std.specs.declared.cmp.Ordering.{Ordering}
 use Rattle.std.specs.declared.cmp.Ordering.TheVariants.{Less}
-use Rattle.kube_types.specs.declared.key.Key.{Key}
-use Rattle.kube_types.specs.declared.names.Due.{Due}
-use Rattle.kube_types.specs.declared.names.Due.TheVariants as dues
-use Rattle.kube_types.specs.declared.objects.Object.{Object}
-use Rattle.kube_types.specs.declared.objects.Object.TheVariants.{Node, Pod}
-use Rattle.kube_types.specs.declared.parts.Kind.TheVariants as kinds
-use Rattle.kube_types.specs.Keys.{key_of, key_cmp, row_at}
-use Rattle.kube_types.proofs.KeyOrder.{row_at_key}
+use Rattle.kube_objects.specs.declared.key.Key.{Key}
+use Rattle.kube_parts.specs.declared.names.Due.{Due}
+use Rattle.kube_parts.specs.declared.names.Due.TheVariants as dues
+use Rattle.kube_objects.specs.declared.objects.Object.{Object}
+use Rattle.kube_objects.specs.declared.objects.Object.TheVariants.{Node, Pod}
+use Rattle.kube_parts.specs.declared.parts.Kind.TheVariants as kinds
+use Rattle.kube_objects.specs.Keys.{key_of, key_cmp, row_at}
+use Rattle.kube_objects.proofs.KeyOrder.{row_at_key}
 use Rattle.call_types.specs.declared.entry.Entry.{Entry}
 use Rattle.call_types.specs.declared.request.Request.TheVariants as requests
 use Rattle.call_types.specs.declared.setup.Setup.{Setup}
@@ -61,7 +61,8 @@ is_assign (Some dues.Assign) = true
 is_assign action = false
 
 -- before the pod stands the node alone, of which nothing is due
-none_before : (w : World) (o : Object) → key_of o ≡ key_p → w.store.rows ≡ Node n1 ∷ o ∷ [] → (earlier : Key) (other : Object) → row_at earlier w.store.rows ≡ Some other → key_cmp earlier key_p ≡ Less → IsDue setup w other None
+none_before : (w : World) (o : Object) → key_of o ≡ key_p → w.store.rows ≡ Node n1 ∷ o ∷ [] → (earlier : Key) (other : Object)
+    → row_at earlier w.store.rows ≡ Some other → key_cmp earlier key_p ≡ Less → IsDue setup w other None
 none_before w o own rows earlier other e less = by (found_in earlier other (Node n1 ∷ o ∷ []) there)
   where
     there : row_at earlier (Node n1 ∷ o ∷ []) ≡ Some other
@@ -75,7 +76,8 @@ none_before w o own rows earlier other e less = by (found_in earlier other (Node
     by (inr (inl is)) = absurd (differ is_less (sym (subst (λ k. key_cmp k key_p ≡ Less) (sym its ∙ sym (ap key_of is) ∙ own) less)) refl refl)
     by (inr (inr h)) = absurd h
 
-only_due : (w : World) (o : Object) (action : Due) → w.store.rows ≡ Node n1 ∷ o ∷ [] → key_of o ≡ key_p → row_at key_p (Node n1 ∷ o ∷ []) ≡ Some o → IsDue setup w o (Some action) → IsFirstDue setup w (Some (key_p, action))
+only_due : (w : World) (o : Object) (action : Due) → w.store.rows ≡ Node n1 ∷ o ∷ [] → key_of o ≡ key_p → row_at key_p (Node n1 ∷ o ∷ []) ≡ Some o
+    → IsDue setup w o (Some action) → IsFirstDue setup w (Some (key_p, action))
 only_due w o action rows own at due = record { object = o; there = ap (row_at key_p) rows ∙ at; due = due; first = none_before w o own rows }
 
 assign_due : IsFirstDue setup first (Some (key_p, dues.Assign))
@@ -113,7 +115,15 @@ lists_before r =
 pub assign_cases : AssignExamples
 assign_cases = record {
   due_until_it_has_a_node =
-      record { lines_done = first_progress (Some 0); end = first_progress (Some 0); moves = NoMoves refl refl; last = spent_drain pod_script (key_p, dues.Assign) assign_due; history = refl; ends = (refl, refl, assign_due) };
+      record {
+        lines_done = first_progress (Some 0);
+        end = first_progress (Some 0);
+        moves = NoMoves refl refl;
+        last =
+            spent_drain pod_script (key_p, dues.Assign) assign_due;
+        history = refl;
+        ends = (refl, refl, assign_due);
+      };
   then_it_is_to_be_mounted = (refl, refl, mount_due);
   not_before_anything_was_listed = lists_before;
   not_assigned_twice = λ r. no_assign_due (subst (λ h. IsFirstDue setup (world setup h) (Some (key_p, dues.Assign))) (sym r.history) r.ends.2);

@@ -1,8 +1,8 @@
 -- Lives that have been told nothing, or only what was called for.
 use Rattle.std.proofs.Common.{◌≡◌, ℕ, ◌<◌, ◌≤◌, ◌+◌, List, [], ◌∷◌, ◌++◌, true≢false, Some, None, refl, sym, ◌∙◌, ap, subst, append-nil, append_assoc, arith}
 use Rattle.std.specs.Bool.{⊤}
-use Rattle.kube_types.specs.declared.key.Key.{Key}
-use Rattle.kube_types.specs.declared.parts.Kind.{Kind}
+use Rattle.kube_objects.specs.declared.key.Key.{Key}
+use Rattle.kube_parts.specs.declared.parts.Kind.{Kind}
 use Rattle.call_types.specs.declared.entry.Entry.{Entry}
 use Rattle.call_types.specs.declared.request.SeatKind.TheVariants as seats
 use Rattle.worker_core.specs.declared.role.Role.{Role}
@@ -29,13 +29,16 @@ silent_binder (call ∷ calls) = (silent_binder calls, no_binder_is_stale (entri
 abbrev pub AreBrought : Role → List Call → List Call → List Call → Type 0
 AreBrought role before newer [] = ⊤
 AreBrought role before newer (None ∷ calls) = AreBrought role before (newer ++ None ∷ []) calls
-AreBrought role before newer (Some e ∷ calls) = ((key : Key) → Brings key e → IsDueThroughout role key (Some e ∷ (calls ++ before)) newer → WasCalledSince role key (Some e ∷ (calls ++ before)) newer) × AreBrought role before (newer ++ Some e ∷ []) calls
+AreBrought role before newer (Some e ∷ calls) =
+    ((key : Key) → Brings key e → IsDueThroughout role key (Some e ∷ (calls ++ before)) newer
+    → WasCalledSince role key (Some e ∷ (calls ++ before)) newer) × AreBrought role before (newer ++ Some e ∷ []) calls
 
 never_empty : (later earlier : List Call) (e : Entry) → [] ≡ later ++ (Some e ∷ earlier) → ⊥
 never_empty [] earlier e is = absurd (cc)
 never_empty (c ∷ later) earlier e is = absurd (cc)
 
-pub brought_at : (role : Role) (before newer calls : List Call) → AreBrought role before newer calls → (key : Key) (e : Entry) (later earlier : List Call) → calls ≡ later ++ (Some e ∷ earlier) → Brings key e
+pub brought_at : (role : Role) (before newer calls : List Call) → AreBrought role before newer calls
+    → (key : Key) (e : Entry) (later earlier : List Call) → calls ≡ later ++ (Some e ∷ earlier) → Brings key e
     → IsDueThroughout role key (Some e ∷ (earlier ++ before)) (newer ++ later) → WasCalledSince role key (Some e ∷ (earlier ++ before)) (newer ++ later)
 brought_at role before newer [] all key e later earlier at brings due = absurd (never_empty later earlier e at)
 brought_at role before newer (None ∷ calls) all key e [] earlier at brings due = none_some (same_head _ _ _ _ at)
@@ -49,7 +52,8 @@ brought_at role before newer (Some x ∷ calls) all key e [] earlier at brings d
     let start : Some x ∷ (calls ++ before) ≡ Some e ∷ (earlier ++ before) = ap (λ y. Some y ∷ (calls ++ before)) same ∙ ap (λ c. Some e ∷ (c ++ before)) rest in
     subst (λ c. WasCalledSince role key (Some e ∷ (earlier ++ before)) c) (sym (append-nil newer))
     (subst (λ c. WasCalledSince role key c newer) start
-    (all.0 key (subst (Brings key) (sym same) brings) (subst (λ c. IsDueThroughout role key c newer) (sym start) (subst (λ c. IsDueThroughout role key (Some e ∷ (earlier ++ before)) c) (append-nil newer) due))))
+    (all.0 key (subst (Brings key) (sym same) brings)
+    (subst (λ c. IsDueThroughout role key c newer) (sym start) (subst (λ c. IsDueThroughout role key (Some e ∷ (earlier ++ before)) c) (append-nil newer) due))))
 brought_at role before newer (Some x ∷ calls) all key e (c ∷ later) earlier at brings due =
     let joined : (newer ++ Some x ∷ []) ++ later ≡ newer ++ (c ∷ later) = append_assoc newer (Some x ∷ []) later ∙ ap (λ d. newer ++ (d ∷ later)) (same_head _ _ _ _ at) in
     subst (WasCalledSince role key (Some e ∷ (earlier ++ before))) joined

@@ -1,7 +1,7 @@
 -- The examples of calls compute.
 use Rattle.std.proofs.Common.{◌≡◌, ℕ, ◌+◌, List, [], ◌∷◌, ◌++◌, length, length-append, Bool, true, false, true≢false, inl, inr, refl, sym, ◌∙◌, ap, subst, append-nil, None, arith}
-use Rattle.kube_types.specs.declared.parts.Kind.{Kind}
-use Rattle.kube_types.specs.declared.parts.Kind.TheVariants as kinds
+use Rattle.kube_parts.specs.declared.parts.Kind.{Kind}
+use Rattle.kube_parts.specs.declared.parts.Kind.TheVariants as kinds
 use Rattle.call_types.specs.declared.entry.Entry.{Entry}
 use Rattle.call_types.specs.declared.reply.Refusal.TheVariants.{NotFound}
 use Rattle.call_types.specs.declared.reply.Reply.TheVariants.{Refused}
@@ -58,7 +58,8 @@ pub none_left : (p : Part) (new : List Entry) (n count : ℕ) (past : List Entry
 none_left p new n count past none (NoCalls is are) = are
 none_left p new n count past none (MoreCalls rest middle is call more) = absurd (omega (arith, is, none))
 
-pub one_call : (p : Part) (new : List Entry) (n count : ℕ) (past : List Entry) → fate_of p.losses 1 ≡ Told → n ≡ 1 → count ≡ 1 → past ≡ [] → AreCalls all_pass [] p new n count past → LeavesOne (seat_at p 1) new
+pub one_call : (p : Part) (new : List Entry) (n count : ℕ) (past : List Entry) → fate_of p.losses 1 ≡ Told → n ≡ 1 → count ≡ 1 → past ≡ []
+    → AreCalls all_pass [] p new n count past → LeavesOne (seat_at p 1) new
 one_call p new n count past fate at one none (NoCalls is are) = absurd (omega (arith, is, one))
 one_call p new n count past fate at one none (MoreCalls rest middle is call more) =
     let first : IsCall all_pass [] p 1 [] middle = subst (λ m. IsCall all_pass [] p m [] middle) at (subst (λ h. IsCall all_pass [] p n h middle) none call) in
@@ -77,13 +78,15 @@ call_cases = record {
   four_calls =
       MoreCalls {n = 1} {past = []} 3 (reads 5 true ∷ []) refl (record { request = Get some_key; reply = Refused NotFound; passes = refl; is = refl })
       (MoreCalls {n = 2} {past = reads 5 true ∷ []} 2 (reads 6 false ∷ reads 5 true ∷ []) refl (record { request = Get some_key; reply = Refused NotFound; passes = refl; is = refl })
-      (MoreCalls {n = 3} {past = reads 6 false ∷ reads 5 true ∷ []} 1 (reads 6 true ∷ reads 6 false ∷ reads 5 true ∷ []) refl (record { request = Get some_key; reply = Refused NotFound; passes = refl; is = refl })
+      (MoreCalls {n = 3} {past = reads 6 false ∷ reads 5 true ∷ []} 1 (reads 6 true ∷ reads 6 false ∷ reads 5 true ∷ []) refl
+      (record { request = Get some_key; reply = Refused NotFound; passes = refl; is = refl })
       (MoreCalls {n = 4} {past = reads 6 true ∷ reads 6 false ∷ reads 5 true ∷ []} 0 (reads 6 true ∷ reads 6 false ∷ reads 5 true ∷ []) refl refl (NoCalls refl refl))));
   no_call_without_its_entry = λ h. let are = (one_call part [] 1 1 [] refl refl refl refl h).are in absurd (cc);
   held_back = record { request = requests.List kinds.PersistentVolume None; licensed = (tt, (refl, tt)); held = refl; is = refl };
   which_leaves_no_entry = λ h. let e : lists kinds.PersistentVolume ∷ [] ≡ [] = h.is in absurd (cc);
   not_what_passes = λ h. absurd (true≢false h.held);
-  nor_let_through_what_does_not = λ h. let asked : h.request ≡ requests.List kinds.PersistentVolume None = sym (ap first_request h.is) in absurd (true≢false (sym h.passes ∙ ap (λ r. holds_lists [] r) asked));
+  nor_let_through_what_does_not = λ h. let asked : h.request ≡ requests.List kinds.PersistentVolume None = sym (ap first_request h.is) in
+      absurd (true≢false (sym h.passes ∙ ap (λ r. holds_lists [] r) asked));
   not_another_call = λ h. let e : [] ≡ entry_of h.request h.reply ∷ [] = h.is in absurd (cc);
 }
 

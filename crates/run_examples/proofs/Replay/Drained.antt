@@ -3,14 +3,14 @@ use Rattle.std.proofs.Common.{◌≡◌, ◌≢◌, ℕ, ◌+◌, List, [], ◌�
 use Rattle.std.specs.Prelude.{is_none}
 use Rattle.std.specs.declared.cmp.Ordering.{Ordering}
 use Rattle.std.specs.declared.cmp.Ordering.TheVariants.{Less}
-use Rattle.kube_types.specs.declared.key.Key.{Key}
-use Rattle.kube_types.specs.declared.names.Due.{Due}
-use Rattle.kube_types.specs.declared.names.Due.TheVariants as dues
-use Rattle.kube_types.specs.declared.objects.Object.{Object}
-use Rattle.kube_types.specs.declared.objects.Object.TheVariants.{Volume}
-use Rattle.kube_types.specs.declared.parts.Kind.TheVariants as kinds
-use Rattle.kube_types.specs.Keys.{key_of, key_cmp, row_at}
-use Rattle.kube_types.proofs.KeyOrder.{row_at_key}
+use Rattle.kube_objects.specs.declared.key.Key.{Key}
+use Rattle.kube_parts.specs.declared.names.Due.{Due}
+use Rattle.kube_parts.specs.declared.names.Due.TheVariants as dues
+use Rattle.kube_objects.specs.declared.objects.Object.{Object}
+use Rattle.kube_objects.specs.declared.objects.Object.TheVariants.{Volume}
+use Rattle.kube_parts.specs.declared.parts.Kind.TheVariants as kinds
+use Rattle.kube_objects.specs.Keys.{key_of, key_cmp, row_at}
+use Rattle.kube_objects.proofs.KeyOrder.{row_at_key}
 use Rattle.call_types.specs.declared.entry.Entry.{Entry}
 use Rattle.call_types.specs.declared.request.Request.{Request}
 use Rattle.call_types.specs.declared.request.Request.TheVariants as requests
@@ -69,7 +69,8 @@ due_first past are = record {
   object = Volume pending_a;
   there = ap (row_at key_a) are;
   due = refl;
-  first = λ earlier o e less. let there : row_at earlier rows ≡ Some o = sym (ap (row_at earlier) are) ∙ e in absurd (none_before earlier o (row_at_key earlier o rows there) less (found_in earlier o rows there));
+  first = λ earlier o e less. let there : row_at earlier rows ≡ Some o = sym (ap (row_at earlier) are) ∙ e in
+      absurd (none_before earlier o (row_at_key earlier o rows there) less (found_in earlier o rows there));
 }
 
 rows_first : (world volume_script.setup []).store.rows ≡ rows
@@ -116,7 +117,8 @@ module _ (script : Script) (five : drain_seat script ≡ 5) (e : Entry) (d : Dra
 not_at : (script : Script) (seat : ℕ) (told : Bool) → drain_seat script ≡ 5 → seat ≢ 7 → Drains script 1 1 (reads seat told ∷ []) → ⊥
 not_at script seat told five other d = other (its_seat script five (reads seat told) d)
 
-what_came : (script : Script) (budget made : ℕ) (past : List Entry) → Drains script budget made past → DrainComesTo script (first_progress (Some budget)) (record (first_progress (Some budget)) { past = past; drained = made })
+what_came : (script : Script) (budget made : ℕ) (past : List Entry) → Drains script budget made past
+    → DrainComesTo script (first_progress (Some budget)) (record (first_progress (Some budget)) { past = past; drained = made })
 what_came script budget made past d = drains_come_to all_pass script (Some budget) (first_progress (Some budget)) (record (first_progress (Some budget)) { past = past; drained = made }) d
 
 -- tests that tell requests apart
@@ -162,8 +164,12 @@ no_need = record {
 
 pub drain_cases : DrainExamples
 drain_cases = record {
-  the_scheduler_begins = one_call_drain volume_script [] (begins_with 7).reply (refl, (refl, (refl, (refl, (refl, tt))))) (key_a, dues.Available) (key_a, dues.Available) first_due (due_first (begins_with 7 ∷ []) rows_listed);
-  also_where_there_is_an_agent = one_call_drain node_script [] (begins_with 7).reply (refl, (refl, (refl, (refl, (refl, (refl, tt)))))) (key_a, dues.Available) (key_a, dues.Available) first_due (due_first (begins_with 7 ∷ []) rows_listed);
+  the_scheduler_begins = one_call_drain volume_script [] (begins_with 7).reply (refl, (refl, (refl, (refl, (refl, tt))))) (key_a, dues.Available)
+      (key_a, dues.Available) first_due (due_first (begins_with 7 ∷ []) rows_listed);
+  also_where_there_is_an_agent = one_call_drain node_script [] (begins_with 7).reply (refl, (refl, (refl, (refl, (refl, (refl, tt)))))) (
+    key_a,
+    dues.Available,
+  ) (key_a, dues.Available) first_due (due_first (begins_with 7 ∷ []) rows_listed);
   not_the_binder = not_at volume_script 5 true refl (λ (e : 5 ≡ 7). absurd (omega (arith, e)));
   not_volume_protection = not_at volume_script 9 true refl (λ (e : 9 ≡ 7). absurd (omega (arith, e)));
   not_the_agent_of_a_node = not_at node_script 10 true refl (λ (e : 10 ≡ 7). absurd (omega (arith, e)));
@@ -183,7 +189,8 @@ drain_cases = record {
 -- ---- how it ends
 
 -- with no budget no call is made
-pub spent_drain : (script : Script) (first : Key × Due) → IsFirstDue script.setup (world script.setup []) (Some first) → IsDrain all_pass script (Some 0) (first_progress (Some 0)) (first_progress (Some 0))
+pub spent_drain : (script : Script) (first : Key × Due) → IsFirstDue script.setup (world script.setup []) (Some first)
+    → IsDrain all_pass script (Some 0) (first_progress (Some 0)) (first_progress (Some 0))
 spent_drain script first due = record {
   past = [];
   made = 0;
@@ -206,7 +213,15 @@ spent_drain script first due = record {
 
 pub spent_cases : SpentExamples
 spent_cases = record {
-  the_first_that_is_due = record { lines_done = first_progress (Some 0); end = first_progress (Some 0); moves = NoMoves refl refl; last = spent_drain volume_script (key_a, dues.Available) first_due; history = refl; ends = (refl, refl, first_due) };
+  the_first_that_is_due = record {
+    lines_done = first_progress (Some 0);
+    end = first_progress (Some 0);
+    moves = NoMoves refl refl;
+    last = spent_drain
+        volume_script (key_a, dues.Available) first_due;
+    history = refl;
+    ends = (refl, refl, first_due);
+  };
   not_another_action = λ r. not_bound (subst (λ h. IsFirstDue volume_script.setup (world volume_script.setup h) (Some (key_a, dues.Bound))) (sym r.history) r.ends.2);
   not_settled = λ r. unsettled (subst (λ h. IsSettled volume_script.setup (world volume_script.setup h)) (sym r.history) r.ends.1);
 }

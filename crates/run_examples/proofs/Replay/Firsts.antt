@@ -1,8 +1,38 @@
 -- The first two calls of a drain: they are its scheduler's, at its seat, and list kinds, the volumes first.
-use Rattle.std.proofs.Common.{◌≡◌, ◌≢◌, ◌<◌, ℕ, ◌+◌, ◌-◌, zero, suc, List, [], ◌∷◌, ◌++◌, length, length-append, Bool, true, false, true≢false, Option, Some, None, refl, sym, ◌∙◌, ap, subst, append_assoc, arith, if◌then◌else◌}
+use Rattle.std.proofs.Common.{
+  ◌≡◌,
+  ◌≢◌,
+  ◌<◌,
+  ℕ,
+  ◌+◌,
+  ◌-◌,
+  zero,
+  suc,
+  List,
+  [],
+  ◌∷◌,
+  ◌++◌,
+  length,
+  length-append,
+  Bool,
+  true,
+  false,
+  true≢false,
+  Option,
+  Some,
+  None,
+  refl,
+  sym,
+  ◌∙◌,
+  ap,
+  subst,
+  append_assoc,
+  arith,
+  if◌then◌else◌,
+}
 use Rattle.std.specs.Prelude.{is_some, slice_get}
-use Rattle.kube_types.specs.declared.parts.Kind.{Kind}
-use Rattle.kube_types.specs.declared.parts.Kind.TheVariants as kinds
+use Rattle.kube_parts.specs.declared.parts.Kind.{Kind}
+use Rattle.kube_parts.specs.declared.parts.Kind.TheVariants as kinds
 use Rattle.call_types.specs.declared.entry.Entry.{Entry}
 use Rattle.call_types.specs.declared.request.Request.{Request}
 use Rattle.call_types.specs.declared.request.Request.TheVariants as requests
@@ -83,7 +113,8 @@ IsFirstKind kind = ⊥
 
 -- the caches lack some kind
 some_lacks : (kind : Kind) (c : AllKnown) → IsFirstKind kind → is_listed c kind ≡ false → first_unlisted c (kinds_of seats.Scheduler) ≢ None
-some_lacks kinds.PersistentVolume c first not all = none_some (sym all ∙ ap (λ b. if b then first_unlisted c (kinds.PersistentVolumeClaim ∷ kinds.StorageClass ∷ kinds.Node ∷ kinds.Pod ∷ []) else Some kinds.PersistentVolume) not)
+some_lacks kinds.PersistentVolume c first not all =
+    none_some (sym all ∙ ap (λ b. if b then first_unlisted c (kinds.PersistentVolumeClaim ∷ kinds.StorageClass ∷ kinds.Node ∷ kinds.Pod ∷ []) else Some kinds.PersistentVolume) not)
 some_lacks kinds.PersistentVolumeClaim c first not all = by (is_listed c kinds.PersistentVolume) all
   where
     by : (b : Bool) → (if b then first_unlisted c (kinds.PersistentVolumeClaim ∷ kinds.StorageClass ∷ kinds.Node ∷ kinds.Pod ∷ []) else Some kinds.PersistentVolume) ≡ None → ⊥
@@ -128,7 +159,8 @@ pub record ListsNext (s : ActorState) (answer : Next) : Type 0 where
   pub lacks : unlisted s ≡ Some kind
   pub call : answer ≡ nexts.Call (requests.List kind None)
 
-lists_next : (s given : ActorState) (answer : Next) (mine : List Entry) (kind : Kind) → s.role ≡ of_kind seats.Scheduler → StandsFor s mine → IsFirstKind kind → NeverListed kind mine → IsTurn s given answer → ListsNext s answer
+lists_next : (s given : ActorState) (answer : Next) (mine : List Entry) (kind : Kind) → s.role ≡ of_kind seats.Scheduler → StandsFor s mine
+    → IsFirstKind kind → NeverListed kind mine → IsTurn s given answer → ListsNext s answer
 lists_next s given answer mine kind is stands first never turn = by s.memory.stale s.under (start_call s.role s.memory) (unlisted s) (passing s) refl refl refl refl turn
   where
     kind_is : s.role.kind ≡ seats.Scheduler
@@ -137,13 +169,16 @@ lists_next s given answer mine kind is stands first never turn = by s.memory.sta
     fresh : s.memory.stale ≡ false
     fresh = built_fresh s mine (subst IsBuiltKind (sym kind_is) tt) (λ agent. let two : seats.Scheduler ≡ seats.Agent = sym kind_is ∙ agent in absurd (cc)) stands
 
-    by : (stale : Bool) (u : Option Under) (start : Option Request) (l p : Option Kind) → s.memory.stale ≡ stale → s.under ≡ u → start_call s.role s.memory ≡ start → unlisted s ≡ l → TurnBy s given answer stale u start l p → ListsNext s answer
+    by : (stale : Bool) (u : Option Under) (start : Option Request) (l p : Option Kind) → s.memory.stale ≡ stale → s.under ≡ u
+        → start_call s.role s.memory ≡ start → unlisted s ≡ l → TurnBy s given answer stale u start l p → ListsNext s answer
     by true u start l p es eu et el t = absurd (true≢false (sym es ∙ fresh))
     by false (Some u) start l p es eu et el t = absurd (no_way s.role kind u mine is first never (subst (λ (o : Option Under). AnyIsUnderWay s.role o mine) eu stands.settle_round_calls))
     by false None (Some request) l p es eu et el t = none_some (ap (λ (r : Role). start_call r s.memory) (sym is) ∙ et)
-    by false None None (Some k) p es eu et el t = record { kind = k; lacks = el; call = t.call ∙ ap (λ (r : Request). nexts.Call r) (asked_list s.caches k (lacking_from s.caches (kinds_of s.role.kind) k el)) }
+    by false None None (Some k) p es eu et el t =
+        record { kind = k; lacks = el; call = t.call ∙ ap (λ (r : Request). nexts.Call r) (asked_list s.caches k (lacking_from s.caches (kinds_of s.role.kind) k el)) }
     by false None None None p es eu et el t =
-        absurd (some_lacks kind s.caches first (not_listed kind s.caches mine stands.caches (never_now kind mine never)) (ap (λ (k : SeatKind). first_unlisted s.caches (kinds_of k)) (sym kind_is) ∙ el))
+        absurd (some_lacks kind s.caches first (not_listed kind s.caches mine stands.caches (never_now kind mine never))
+        (ap (λ (k : SeatKind). first_unlisted s.caches (kinds_of k)) (sym kind_is) ∙ el))
 
 -- ---- how its run begins
 
@@ -161,7 +196,8 @@ pub record RunBegins (seat : ℕ) (after : ActorState) (past : List Entry) (left
   pub role : next.role ≡ s.role
   pub goes : Runs all_pass seat after past left idle next (entry ∷ h) (b - 1)
 
-run_begins : (seat : ℕ) (after : ActorState) (past : List Entry) (left : ℕ) (idle : Bool) (s : ActorState) (h : List Entry) (b : ℕ) (kind : Kind) → s.role ≡ of_kind seats.Scheduler → IsFirstKind kind → NeverListed kind (own seat h) → 0 < b
+run_begins : (seat : ℕ) (after : ActorState) (past : List Entry) (left : ℕ) (idle : Bool) (s : ActorState) (h : List Entry) (b : ℕ) (kind : Kind)
+    → s.role ≡ of_kind seats.Scheduler → IsFirstKind kind → NeverListed kind (own seat h) → 0 < b
     → Runs all_pass seat after past left idle s h b → RunBegins seat after past left idle s h b kind
 run_begins seat after past left idle s h b kind is first never some (IsSpent none state entries rest busy) = absurd (omega (arith, none, some))
 run_begins seat after past left idle s h b kind is first never some (IsIdle more ready turn entries rest calm) =
@@ -187,7 +223,8 @@ run_begins seat after past left idle s h b kind is first never some (IsHeld give
 claims_unlisted : (e : Entry) → e.request ≡ requests.List kinds.PersistentVolume None → following_of (e ∷ []) kinds.PersistentVolumeClaim ≡ Unlisted
 claims_unlisted e asks = by e.told e.request e.reply asks
   where
-    by : (told : Bool) (request : Request) (reply : Reply) → request ≡ requests.List kinds.PersistentVolume None → (if told then follow_on request reply kinds.PersistentVolumeClaim Unlisted else Unlisted) ≡ Unlisted
+    by : (told : Bool) (request : Request) (reply : Reply) → request ≡ requests.List kinds.PersistentVolume None
+        → (if told then follow_on request reply kinds.PersistentVolumeClaim Unlisted else Unlisted) ≡ Unlisted
     by false request reply is = refl
     by true request reply is = subst (λ r. follow_on r reply kinds.PersistentVolumeClaim Unlisted ≡ Unlisted) (sym is) (listed reply)
       where
@@ -207,7 +244,8 @@ pub record DrainBegins (d : Drainer) (h past : List Entry) (b : ℕ) : Type 0 wh
   pub later : List Entry
   pub are : past ≡ later ++ middle
 
-round_begins : (past : List Entry) (left : ℕ) (ds : List Drainer) (h : List Entry) (b : ℕ) (after : List Drainer) (whole : Bool) (d : Drainer) → slice_get ds 0 ≡ Some d → IsRound all_pass past left ds h b after whole → DrainBegins d h past b
+round_begins : (past : List Entry) (left : ℕ) (ds : List Drainer) (h : List Entry) (b : ℕ) (after : List Drainer) (whole : Bool) (d : Drainer)
+    → slice_get ds 0 ≡ Some d → IsRound all_pass past left ds h b after whole → DrainBegins d h past b
 round_begins past left ds h b after whole d there (Ends entries same) = none_some there
 round_begins past left ds h b after whole d there (Turns x ran middle rest idle seat runs others) =
     let l = round_longer _ _ _ _ _ _ _ others in
@@ -221,7 +259,8 @@ round_begins past left ds h b after whole d there (Turns x ran middle rest idle 
       are = l.are;
     }
 
-drain_begins : (setup : Setup) (after : List Drainer) (past : List Entry) (left : ℕ) (ds : List Drainer) (h : List Entry) (b : ℕ) (d : Drainer) → past ≢ h → slice_get ds 0 ≡ Some d → Drains all_pass setup after past left ds h b → DrainBegins d h past b × (0 < b)
+drain_begins : (setup : Setup) (after : List Drainer) (past : List Entry) (left : ℕ) (ds : List Drainer) (h : List Entry) (b : ℕ) (d : Drainer)
+    → past ≢ h → slice_get ds 0 ≡ Some d → Drains all_pass setup after past left ds h b → DrainBegins d h past b × (0 < b)
 drain_begins setup after past left ds h b d more at (NothingDue settled same entries rest) = absurd (more entries)
 drain_begins setup after past left ds h b d more at (IsSpent first due none same entries rest) = absurd (more entries)
 drain_begins setup after past left ds h b d more at (Goes first due some between middle rest whole round goes) =
@@ -241,9 +280,11 @@ drain_begins setup after past left ds h b d more at (Goes first due some between
 
 -- the actors of a drain begin with the scheduler
 
-first_is : (ds : List Drainer) (seat : ℕ) (role : Role) (other_seats : List ℕ) (other_roles : List Role) → seats_of ds ≡ seat ∷ other_seats → roles_of ds ≡ role ∷ other_roles → (d : Drainer) × (slice_get ds 0 ≡ Some d) × (d.seat ≡ seat) × (d.actor.role ≡ role)
+first_is : (ds : List Drainer) (seat : ℕ) (role : Role) (other_seats : List ℕ) (other_roles : List Role) → seats_of ds ≡ seat ∷ other_seats
+    → roles_of ds ≡ role ∷ other_roles → (d : Drainer) × (slice_get ds 0 ≡ Some d) × (d.seat ≡ seat) × (d.actor.role ≡ role)
 first_is [] seat role ss rs at_seats at_roles = none_some (ap (λ (xs : List ℕ). slice_get xs 0) at_seats)
-first_is (d ∷ ds) seat role ss rs at_seats at_roles = (d, refl, one d.seat seat (ap (λ (xs : List ℕ). slice_get xs 0) at_seats), one d.actor.role role (ap (λ (xs : List Role). slice_get xs 0) at_roles))
+first_is (d ∷ ds) seat role ss rs at_seats at_roles =
+    (d, refl, one d.seat seat (ap (λ (xs : List ℕ). slice_get xs 0) at_seats), one d.actor.role role (ap (λ (xs : List Role). slice_get xs 0) at_roles))
 
 -- the first call of a drain that makes one
 pub record FirstCall (seat : ℕ) (h past : List Entry) : Type 0 where
@@ -264,7 +305,8 @@ pub record SecondCall (h past : List Entry) : Type 0 where
   pub kind : Kind
   pub asks : entry.request ≡ requests.List kind None
 
-module _ (script : Script) (option : Option ℕ) (before after : Progress) (drain : IsDrain all_pass script option before after) (more : after.past ≢ before.past) (none : own (drain_seat script + 2) before.past ≡ []) where
+module _ (script : Script) (option : Option ℕ) (before after : Progress) (drain : IsDrain all_pass script option before after)
+    (more : after.past ≢ before.past) (none : own (drain_seat script + 2) before.past ≡ []) where
   past_is : after.past ≡ drain.past
   past_is = ap (λ (p : Progress). p.past) drain.is
 
@@ -302,7 +344,8 @@ module _ (script : Script) (option : Option ℕ) (before after : Progress) (drai
       volumes : run.kind ≡ kinds.PersistentVolume
       volumes =
           one run.kind kinds.PersistentVolume
-          (sym lacking ∙ ap (λ b. if b then first_unlisted head.0.actor.caches (kinds.PersistentVolumeClaim ∷ kinds.StorageClass ∷ kinds.Node ∷ kinds.Pod ∷ []) else Some kinds.PersistentVolume) run.without)
+          (sym lacking ∙ ap (λ b. if b then first_unlisted head.0.actor.caches
+          (kinds.PersistentVolumeClaim ∷ kinds.StorageClass ∷ kinds.Node ∷ kinds.Pod ∷ []) else Some kinds.PersistentVolume) run.without)
 
   pub second_call : 1 < drain.budget - before.drained → SecondCall before.past after.past
   unfolding run first_call

@@ -25,17 +25,21 @@ one_diligent role call kind first fourth earlier between later is four key due =
     let longer = length-append between (Some first ∷ earlier) in
     absurd (omega (arith, all, long, longer))
 
-its_life : (end : Progress) → end.made (part_of turn_script binder_1).name ≡ 1 → end.past ≡ reads 5 true ∷ [] → (seat : ℕ) → seat ≡ 5 → IsDiligentLife [] (role_of binder_1) (part_of turn_script binder_1) seat (end.made (part_of turn_script binder_1).name) end.past
+its_life : (end : Progress) → end.made (part_of turn_script binder_1).name ≡ 1 → end.past ≡ reads 5 true ∷ [] → (seat : ℕ) → seat ≡ 5
+    → IsDiligentLife [] (role_of binder_1) (part_of turn_script binder_1) seat (end.made (part_of turn_script binder_1).name) end.past
 its_life end made past seat is =
     subst (λ s. IsDiligentLife [] (role_of binder_1) (part_of turn_script binder_1) s (end.made (part_of turn_script binder_1).name) end.past) (sym is)
     (subst (λ n. IsDiligentLife [] (role_of binder_1) (part_of turn_script binder_1) 5 n end.past) (sym made)
-    (subst (IsDiligentLife [] (role_of binder_1) (part_of turn_script binder_1) 5 1) (sym past) (record { calls = told 5 ∷ []; are = record { of_seat = refl; left = refl }; diligent = one_diligent (role_of binder_1) (told 5) })))
+    (subst (IsDiligentLife [] (role_of binder_1) (part_of turn_script binder_1) 5 1) (sym past)
+    (record { calls = told 5 ∷ []; are = record { of_seat = refl; left = refl }; diligent = one_diligent (role_of binder_1) (told 5) })))
 
 turned_actor : (actor : Actor) (calls : ℕ) → lines.Turn binder_1 1 ≡ lines.Turn actor calls → binder_1 ≡ actor
 turned_actor actor calls is = cc
 
-lives : (end : Progress) → end.made (part_of turn_script binder_1).name ≡ 1 → end.past ≡ reads 5 true ∷ [] → (place : ℕ) (actor : Actor) (calls : ℕ) → slice_get turn_script.lines place ≡ Some (lines.Turn actor calls) → (seat : ℕ)
-    → (part_of turn_script actor).first ≤ seat → seat < (part_of turn_script actor).first + lives_of (part_of turn_script actor) → IsDiligentLife [] (role_of actor) (part_of turn_script actor) seat (end.made (part_of turn_script actor).name) end.past
+lives : (end : Progress) → end.made (part_of turn_script binder_1).name ≡ 1 → end.past ≡ reads 5 true ∷ [] → (place : ℕ) (actor : Actor) (calls : ℕ)
+    → slice_get turn_script.lines place ≡ Some (lines.Turn actor calls) → (seat : ℕ)
+    → (part_of turn_script actor).first ≤ seat → seat < (part_of turn_script actor).first + lives_of (part_of turn_script actor)
+    → IsDiligentLife [] (role_of actor) (part_of turn_script actor) seat (end.made (part_of turn_script actor).name) end.past
 lives end made past (suc place) actor calls at seat low high = none_some at
 lives end made past zero actor calls at seat low high =
     let is = turned_actor actor calls (one (lines.Turn binder_1 1) (lines.Turn actor calls) at) in

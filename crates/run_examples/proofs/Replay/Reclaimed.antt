@@ -3,13 +3,13 @@ use Rattle.std.proofs.Common.{◌≡◌, [], ◌∷◌, length, Bool, true, fals
 use Rattle.std.specs.Prelude.{slice_get}
 use Rattle.std.specs.declared.cmp.Ordering.{Ordering}
 use Rattle.std.specs.declared.cmp.Ordering.TheVariants.{Less}
-use Rattle.kube_types.specs.declared.key.Key.{Key}
-use Rattle.kube_types.specs.declared.names.Due.{Due}
-use Rattle.kube_types.specs.declared.names.Due.TheVariants as dues
-use Rattle.kube_types.specs.declared.objects.Object.{Object}
-use Rattle.kube_types.specs.declared.objects.Object.TheVariants.{Volume}
-use Rattle.kube_types.specs.Keys.{key_of, key_cmp, row_at}
-use Rattle.kube_types.proofs.KeyOrder.{row_at_key}
+use Rattle.kube_objects.specs.declared.key.Key.{Key}
+use Rattle.kube_parts.specs.declared.names.Due.{Due}
+use Rattle.kube_parts.specs.declared.names.Due.TheVariants as dues
+use Rattle.kube_objects.specs.declared.objects.Object.{Object}
+use Rattle.kube_objects.specs.declared.objects.Object.TheVariants.{Volume}
+use Rattle.kube_objects.specs.Keys.{key_of, key_cmp, row_at}
+use Rattle.kube_objects.proofs.KeyOrder.{row_at_key}
 use Rattle.call_types.specs.declared.entry.Entry.{Entry}
 use Rattle.call_types.specs.declared.reply.Reply.TheVariants as replies
 use Rattle.call_types.specs.declared.request.Request.TheVariants as requests
@@ -70,7 +70,8 @@ alone : (o : Object) → key_of o ≡ key_a → (earlier : Key) (other : Object)
 alone o own earlier other k less (inl e) = differ is_less (sym (subst (λ k. key_cmp k key_a ≡ Less) (sym k ∙ sym (ap key_of e) ∙ own) less)) refl refl
 alone o own earlier other k less (inr h) = h
 
-only_due : (w : World) (o : Object) (action : Due) → w.store.rows ≡ o ∷ [] → key_of o ≡ key_a → row_at key_a (o ∷ []) ≡ Some o → IsDue setup w o (Some action) → IsFirstDue setup w (Some (key_a, action))
+only_due : (w : World) (o : Object) (action : Due) → w.store.rows ≡ o ∷ [] → key_of o ≡ key_a → row_at key_a (o ∷ []) ≡ Some o
+    → IsDue setup w o (Some action) → IsFirstDue setup w (Some (key_a, action))
 only_due w o action rows own at due = record {
   object = o;
   there = ap (row_at key_a) rows ∙ at;

@@ -1,6 +1,6 @@
 -- The examples of replays compute.
 use Rattle.std.proofs.Common.{◌≡◌, ℕ, ◌+◌, List, [], ◌∷◌, ◌++◌, length, true, false, true≢false, None, inl, inr, refl, sym, ◌∙◌, ap, subst, arith}
-use Rattle.kube_types.specs.declared.names.Due.TheVariants as dues
+use Rattle.kube_parts.specs.declared.names.Due.TheVariants as dues
 use Rattle.call_types.specs.declared.entry.Entry.{Entry}
 use Rattle.call_types.specs.declared.reply.Refusal.TheVariants.{NotFound}
 use Rattle.call_types.specs.declared.reply.Reply.TheVariants.{Refused}
@@ -34,7 +34,9 @@ use Rattle.run_examples.proofs.Replay.Counted.{LeavesOne, end_cases, none_left, 
 
 -- ---- a replay whose last drain has nothing to do
 
-abbrev pub settled_replay : (script : Script) (past : List Entry) (made : List ℕ → ℕ) → AreMoves script None (record (first_progress None) { past = past; made = made }) script.lines (first_progress None) → 2048 ≡ raised None script.setup past 0 → IsSettled script.setup (world script.setup past)
+abbrev pub settled_replay : (script : Script) (past : List Entry) (made : List ℕ → ℕ)
+    → AreMoves script None (record (first_progress None) { past = past; made = made }) script.lines (first_progress None)
+    → 2048 ≡ raised None script.setup past 0 → IsSettled script.setup (world script.setup past)
     → HaveNoEntries (seats_of (drainers_of script)) past → IsReplay script None past (Settled 0)
 settled_replay script past made moves budget settled none = record {
   lines_done = record (first_progress None) { past = past; made = made };
@@ -127,7 +129,8 @@ pub record BeginsWith (seat : ℕ) (past : List Entry) : Type 0 where
   pub of_seat : entry.seat ≡ seat
   pub was_told : entry.told ≡ true
 
-begins_with : (script : Script) (seat : ℕ) (past : List Entry) (ending : Drained) → ((done : Progress) → AreMoves script None done script.lines (first_progress None) → LeavesOne seat done.past) → IsReplay script None past ending → BeginsWith seat past
+begins_with : (script : Script) (seat : ℕ) (past : List Entry) (ending : Drained)
+    → ((done : Progress) → AreMoves script None done script.lines (first_progress None) → LeavesOne seat done.past) → IsReplay script None past ending → BeginsWith seat past
 begins_with script seat past ending leaves r =
     let one = leaves r.lines_done r.moves in
     let drain = calls_leave_entries script None r.lines_done r.end r.last in
@@ -158,7 +161,8 @@ its_answer seat x b = ap (λ (e : Entry). e.told) (alone x b.entry b.later b.are
 
 -- ---- one line
 
-one_move : (script : Script) (seat : ℕ) (line : Line) (done now : Progress) (ls : List Line) → ls ≡ line ∷ [] → now ≡ first_progress None → ((next : Progress) → IsMove script None line (first_progress None) next → LeavesOne seat next.past) → AreMoves script None done ls now → LeavesOne seat done.past
+one_move : (script : Script) (seat : ℕ) (line : Line) (done now : Progress) (ls : List Line) → ls ≡ line ∷ [] → now ≡ first_progress None
+    → ((next : Progress) → IsMove script None line (first_progress None) next → LeavesOne seat next.past) → AreMoves script None done ls now → LeavesOne seat done.past
 one_move script seat line done now ls are start leaves (NoMoves none is) = absurd (cc)
 one_move script seat line done now ls are start leaves (MoreMoves first rest next is move more) =
     let same : first ≡ line = cc in
@@ -172,7 +176,8 @@ user_moved : (next : Progress) → IsUserCall 1 (Get some_key) (first_progress N
 user_moved next move = record { entry = _; are = ap (λ (p : Progress). p.past) move.is; of_seat = refl; was_told = refl }
 
 user_begins : (past : List Entry) (ending : Drained) → IsReplay user_script None past ending → BeginsWith 1 past
-user_begins past ending r = begins_with user_script 1 past ending (λ done moves. one_move user_script 1 (lines.Call 1 (Get some_key)) done (first_progress None) user_script.lines refl refl user_moved moves) r
+user_begins past ending r = begins_with user_script 1 past ending (λ done moves. one_move user_script 1 (lines.Call 1 (Get some_key)) done
+    (first_progress None) user_script.lines refl refl user_moved moves) r
 
 nothing_due_after : IsSettled user_script.setup (world user_script.setup (user_reads 1 ∷ []))
 unfolding world_after effect on_devices device_answer after outcome get
@@ -184,7 +189,9 @@ budget_after_user = refl
 
 pub user_cases : UserExamples
 user_cases = record {
-  its_call_is_made = settled_replay user_script (user_reads 1 ∷ []) (λ name. 0) (MoreMoves (lines.Call 1 (Get some_key)) [] _ refl (record { reply = Refused NotFound; is = refl }) (NoMoves refl refl)) budget_after_user nothing_due_after (refl, (refl, (refl, (refl, (refl, tt)))));
+  its_call_is_made = settled_replay user_script (user_reads 1 ∷ []) (λ name. 0)
+      (MoreMoves (lines.Call 1 (Get some_key)) [] _ refl (record { reply = Refused NotFound; is = refl }) (NoMoves refl refl)) budget_after_user
+      nothing_due_after (refl, (refl, (refl, (refl, (refl, tt)))));
   not_by_another_user = λ r. let e : 2 ≡ 1 = its_seat 1 (user_reads 2) (user_begins (user_reads 2 ∷ []) (Settled 0) r) in absurd (omega (arith, e));
   not_left_out = λ r. not_empty 1 (user_begins [] (Settled 0) r);
 }
@@ -202,7 +209,8 @@ turn_moved next (inr fewer) =
     absurd (end_cases.not_at_once (subst (λ h. MayEnd seats.Binder [] (own fewer.seat h)) none fewer.ends))
 
 turn_begins : (past : List Entry) (ending : Drained) → IsReplay turn_script None past ending → BeginsWith 5 past
-turn_begins past ending r = begins_with turn_script 5 past ending (λ done moves. one_move turn_script 5 (lines.Turn binder_1 1) done (first_progress None) turn_script.lines refl refl turn_moved moves) r
+turn_begins past ending r = begins_with turn_script 5 past ending (λ done moves. one_move turn_script 5 (lines.Turn binder_1 1) done
+    (first_progress None) turn_script.lines refl refl turn_moved moves) r
 
 pub nothing_due_in_turn : IsSettled turn_script.setup (world turn_script.setup (reads 5 true ∷ []))
 unfolding world_after effect on_devices device_answer after outcome get
@@ -224,7 +232,13 @@ abbrev pub turn_replay : IsReplay turn_script None (reads 5 true ∷ []) (Settle
 turn_replay =
     settled_replay turn_script (reads 5 true ∷ []) (and_made binder_part.name 1 (λ name. 0))
     (MoreMoves (lines.Turn binder_1 1) [] _ refl
-    (inl (record { past = reads 5 true ∷ []; made = MoreCalls 0 (reads 5 true ∷ []) refl (record { request = Get some_key; reply = Refused NotFound; passes = refl; is = refl }) (NoCalls refl refl); needed = one_needed; is = refl }))
+    (inl (record {
+      past = reads 5 true ∷ [];
+      made =
+          MoreCalls 0 (reads 5 true ∷ []) refl (record { request = Get some_key; reply = Refused NotFound; passes = refl; is = refl }) (NoCalls refl refl);
+      needed = one_needed;
+      is = refl;
+    }))
     (NoMoves refl refl)) budget_after_turn nothing_due_in_turn (refl, (refl, (refl, (refl, (refl, tt)))))
 
 pub turn_cases : TurnExamples

@@ -1,8 +1,8 @@
 -- A drain of one call: its scheduler lists the volumes, and the budget is spent.
 use Rattle.std.proofs.Common.{◌≡◌, ℕ, ◌+◌, List, [], ◌∷◌, Bool, true, false, Some, refl, sym, subst, arith}
 use Rattle.std.specs.Prelude.{map}
-use Rattle.kube_types.specs.declared.key.Key.{Key}
-use Rattle.kube_types.specs.declared.names.Due.{Due}
+use Rattle.kube_objects.specs.declared.key.Key.{Key}
+use Rattle.kube_parts.specs.declared.names.Due.{Due}
 use Rattle.call_types.specs.declared.entry.Entry.{Entry}
 use Rattle.call_types.specs.declared.request.SeatKind.TheVariants as seats
 use Rattle.call_types.specs.declared.reply.Reply.{Reply}
@@ -49,7 +49,8 @@ gives_list = record { call = refl; state = refl }
 pub ready_where : (seat : ℕ) (h : List Entry) → own seat h ≡ [] → IsReady seat woken_scheduler h
 ready_where seat h none = record { rows = tt; stands = subst (StandsWhole woken_scheduler) (sym none) (woken_whole (of_kind seats.Scheduler)) }
 
-module _ (script : Script) (h : List Entry) (reply : Reply) (none : HaveNoEntries (seats_of (drainers_of script)) h) (first second : Key × Due) (due : IsFirstDue script.setup (world script.setup h) (Some first))
+module _ (script : Script) (h : List Entry) (reply : Reply) (none : HaveNoEntries (seats_of (drainers_of script)) h) (first second : Key × Due)
+    (due : IsFirstDue script.setup (world script.setup h) (Some first))
     (still : IsFirstDue script.setup (world script.setup (call_at (drain_seat script + 2) reply ∷ h)) (Some second)) where
   ready : IsReady (drain_seat script + 2) woken_scheduler h
   ready = ready_where (drain_seat script + 2) h none.0
@@ -58,16 +59,19 @@ module _ (script : Script) (h : List Entry) (reply : Reply) (none : HaveNoEntrie
   runs = Asks giving_scheduler (after_it reply) list_volumes reply (omega arith) ready gives_list refl refl (IsSpent refl refl refl refl refl)
 
   abbrev others : List Drainer
-  others = at_seat (of_kind seats.Ops) (drain_seat script + 1) ∷ at_seat (of_kind seats.Binder) (drain_seat script) ∷ at_seat (of_kind seats.ClaimProtect) (drain_seat script + 3) ∷ at_seat (of_kind seats.VolumeProtect) (drain_seat script + 4)
+  others = at_seat (of_kind seats.Ops) (drain_seat script + 1) ∷ at_seat (of_kind seats.Binder) (drain_seat script) ∷ at_seat
+      (of_kind seats.ClaimProtect) (drain_seat script + 3) ∷ at_seat (of_kind seats.VolumeProtect) (drain_seat script + 4)
       ∷ agents_at (drain_seat script + 5) script.node_names
 
   abbrev ran : Drainer
   ran = record { seat = drain_seat script + 2; actor = after_it reply }
 
   round : IsRound all_pass (call_at (drain_seat script + 2) reply ∷ h) 0 (drainers_of script) h 1 (ran ∷ map woke others) false
-  round = Turns (at_seat (of_kind seats.Scheduler) (drain_seat script + 2)) ran (call_at (drain_seat script + 2) reply ∷ h) 0 false refl runs (spent_round (call_at (drain_seat script + 2) reply ∷ h) others)
+  round = Turns (at_seat (of_kind seats.Scheduler) (drain_seat script + 2)) ran (call_at (drain_seat script + 2) reply ∷ h) 0 false refl runs
+      (spent_round (call_at (drain_seat script + 2) reply ∷ h) others)
 
-  pub one_call_drain : IsDrain all_pass script (Some 1) (record (first_progress (Some 1)) { past = h }) (record (first_progress (Some 1)) { past = call_at (drain_seat script + 2) reply ∷ h; drained = 1 })
+  pub one_call_drain : IsDrain all_pass script (Some 1) (record (first_progress (Some 1)) { past = h })
+      (record (first_progress (Some 1)) { past = call_at (drain_seat script + 2) reply ∷ h; drained = 1 })
   one_call_drain = record {
     past = call_at (drain_seat script + 2) reply ∷ h;
     made = 1;

@@ -3,10 +3,10 @@ use Rattle.std.proofs.Common.{◌≡◌, ◌≤◌, ◌<◌, ℕ, ◌+◌, List,
 use Rattle.call_types.specs.declared.entry.Entry.{Entry}
 use Rattle.call_types.specs.declared.request.SeatKind.{SeatKind}
 use Rattle.call_types.specs.declared.request.SeatKind.TheVariants as seats
-use Rattle.kube_types.specs.declared.parts.Kind.{Kind}
+use Rattle.kube_parts.specs.declared.parts.Kind.{Kind}
 use Rattle.call_types.specs.declared.reply.Reply.TheVariants.{Events}
 use Rattle.call_types.specs.declared.request.Request.TheVariants.{Watch}
-use Rattle.kube_types.specs.declared.parts.Kind.TheVariants as kinds
+use Rattle.kube_parts.specs.declared.parts.Kind.TheVariants as kinds
 use Rattle.attention_law.specs.Diligence.{entries}
 use Rattle.attention_law.specs.Resting.{IsDone}
 use Rattle.attention_law.proofs.Dues.{never_due}
@@ -53,8 +53,10 @@ told_grows p new n count past fate some (MoreCalls rest middle is call more) =
 three_calls : AreCalls all_pass [] plain_part whole_pass 1 3 []
 three_calls =
     MoreCalls {n = 1} {past = []} 2 (watches kinds.PersistentVolume ∷ []) refl (watched kinds.PersistentVolume [])
-    (MoreCalls {n = 2} {past = watches kinds.PersistentVolume ∷ []} 1 (watches kinds.PersistentVolumeClaim ∷ watches kinds.PersistentVolume ∷ []) refl (watched kinds.PersistentVolumeClaim (watches kinds.PersistentVolume ∷ []))
-    (MoreCalls {n = 3} {past = watches kinds.PersistentVolumeClaim ∷ watches kinds.PersistentVolume ∷ []} 0 whole_pass refl (watched kinds.StorageClass (watches kinds.PersistentVolumeClaim ∷ watches kinds.PersistentVolume ∷ []))
+    (MoreCalls {n = 2} {past = watches kinds.PersistentVolume ∷ []} 1
+    (watches kinds.PersistentVolumeClaim ∷ watches kinds.PersistentVolume ∷ []) refl (watched kinds.PersistentVolumeClaim (watches kinds.PersistentVolume ∷ []))
+    (MoreCalls {n = 3} {past = watches kinds.PersistentVolumeClaim ∷ watches kinds.PersistentVolume ∷ []} 0 whole_pass refl
+    (watched kinds.StorageClass (watches kinds.PersistentVolumeClaim ∷ watches kinds.PersistentVolume ∷ []))
     (NoCalls refl refl)))
   where
     watched : (kind : Kind) (past : List Entry) → IsCallWith all_pass Told 5 seats.Binder past (watches kind ∷ past)
@@ -87,8 +89,10 @@ three_of_nine = inr (record {
     done_three : IsDone (role_of binder_1) [] (told_calls whole_pass)
     done_three = record {
       passed = record { whole = refl; quiet = refl };
-      brought = λ key e later earlier at brings due. brought_at (role_of binder_1) [] [] (told_calls whole_pass)
-          ((λ key brings due. absurd (watch_brings_none kinds.StorageClass key brings)), ((λ key brings due. absurd (watch_brings_none kinds.PersistentVolumeClaim key brings)), ((λ key brings due. absurd (watch_brings_none kinds.PersistentVolume key brings)), tt)))
+      brought = λ key e later earlier at brings due. brought_at (role_of binder_1) [] [] (told_calls whole_pass) (
+        (λ key brings due. absurd (watch_brings_none kinds.StorageClass key brings)),
+        ((λ key brings due. absurd (watch_brings_none kinds.PersistentVolumeClaim key brings)), ((λ key brings due. absurd (watch_brings_none kinds.PersistentVolume key brings)), tt)),
+      )
           key e later earlier at brings due;
       due = λ key due. absurd (never_due (role_of binder_1) key tt due.1.1.1);
     }
@@ -108,7 +112,8 @@ no_call (inl all) =
 no_call (inr fewer) =
     let past : whole_pass ≡ fewer.past = ap (λ (p : Progress). p.past) fewer.is in
     let seat : fewer.seat ≡ 5 = fewer.life in
-    let ends : MayEnd seats.Binder (entries (after_a_pass.idle fewer.seat)) (own fewer.seat whole_pass) = subst (λ h. MayEnd seats.Binder (entries (after_a_pass.idle fewer.seat)) (own fewer.seat h)) (sym past) fewer.ends in
+    let ends : MayEnd seats.Binder (entries (after_a_pass.idle fewer.seat)) (own fewer.seat whole_pass) =
+    subst (λ h. MayEnd seats.Binder (entries (after_a_pass.idle fewer.seat)) (own fewer.seat h)) (sym past) fewer.ends in
     absurd (end_cases.not_by_the_pass_of_an_earlier_turn (subst (λ s. MayEnd seats.Binder (entries (after_a_pass.idle s)) (own s whole_pass)) seat ends))
 
 pub fewer_cases : FewerExamples

@@ -1,12 +1,12 @@
 -- The examples of what turns may not leave undone compute.
 use Rattle.std.proofs.Common.{◌≡◌, ◌⊎◌, ℕ, ◌<◌, ◌≤◌, ◌+◌, List, [], ◌∷◌, ◌++◌, length, true, true≢false, Option, Some, None, inl, inr, refl, sym, ◌∙◌, ap, subst, append-nil, arith}
-use Rattle.kube_types.specs.declared.key.Key.{Key}
-use Rattle.kube_types.specs.declared.parts.Kind.{Kind}
-use Rattle.kube_types.specs.declared.parts.Kind.TheVariants as kinds
-use Rattle.kube_types.specs.declared.parts.VolumePhase.TheVariants as volumes
-use Rattle.kube_types.specs.declared.objects.Object.{Object}
-use Rattle.kube_types.specs.declared.objects.Object.TheVariants.{Volume}
-use Rattle.kube_types.specs.Keys.{row_at}
+use Rattle.kube_objects.specs.declared.key.Key.{Key}
+use Rattle.kube_parts.specs.declared.parts.Kind.{Kind}
+use Rattle.kube_parts.specs.declared.parts.Kind.TheVariants as kinds
+use Rattle.kube_parts.specs.declared.parts.VolumePhase.TheVariants as volumes
+use Rattle.kube_objects.specs.declared.objects.Object.{Object}
+use Rattle.kube_objects.specs.declared.objects.Object.TheVariants.{Volume}
+use Rattle.kube_objects.specs.Keys.{row_at}
 use Rattle.call_types.specs.declared.entry.Entry.{Entry}
 use Rattle.call_types.specs.declared.request.SeatKind.TheVariants as seats
 use Rattle.binder_model.specs.Reading.{follows}
@@ -49,7 +49,8 @@ told_count p new n count past none (MoreCalls rest middle is call more) =
     omega (arith, is, here, later)
 
 -- its calls are those of its entries
-told_life : (p : Part) (seat made : ℕ) (past expected : List Entry) (since before : List Call) → AreOfLife [] p seat made past (since ++ before) → before ≡ [] → AreOfLife [] p seat made past (told_calls expected) → since ≡ told_calls expected
+told_life : (p : Part) (seat made : ℕ) (past expected : List Entry) (since before : List Call) → AreOfLife [] p seat made past (since ++ before)
+    → before ≡ [] → AreOfLife [] p seat made past (told_calls expected) → since ≡ told_calls expected
 told_life p seat made past expected since before are none life =
     sym (append-nil since) ∙ ap (λ c. since ++ c) (sym none) ∙ same_calls (since ++ before) (told_calls expected) (are.of_seat ∙ sym life.of_seat) (are.left ∙ sym life.left)
 
@@ -65,20 +66,37 @@ its_six : AreOfLife [] plain_part 5 6 six (told_calls six)
 its_six = record { of_seat = refl; left = refl }
 
 needed_six : AreNeeded seats.Binder (told_calls six)
-needed_six = ((((((tt, λ watch through. true≢false (sym watch)), λ watch through. true≢false (sym watch)), λ watch through. true≢false (sym watch)), λ watch through. true≢false (sym through.whole)), λ watch through. true≢false (sym through.whole)), λ watch through. true≢false (sym through.whole))
+needed_six = (
+  (
+    (
+      (((tt, λ watch through. true≢false (sym watch)), λ watch through. true≢false (sym watch)), λ watch through. true≢false (sym watch)),
+      λ watch through. true≢false (sym through.whole),
+    ),
+    λ watch through. true≢false (sym through.whole),
+  ),
+  λ watch through. true≢false (sym through.whole),
+)
 
 needed_lives : AreNeededLives [] (role_of binder_1) plain_part 6 six (first_progress None).idle
 needed_lives seat low high =
-    subst (λ s. IsNeededLife [] (role_of binder_1) plain_part s 6 six []) (only_life seat low high) (record { since = told_calls six; are = its_six; needed = needed_six; silent = silent_binder (told_calls six) })
+    subst (λ s. IsNeededLife [] (role_of binder_1) plain_part s 6 six []) (only_life seat low high)
+    (record { since = told_calls six; are = its_six; needed = needed_six; silent = silent_binder (told_calls six) })
 
 six_calls : AreCalls all_pass [] plain_part six 1 6 []
 six_calls =
     MoreCalls {n = 1} {past = []} 5 (lists kinds.PersistentVolume [] ∷ []) refl (record { request = _; reply = _; passes = refl; is = refl })
-    (MoreCalls {n = 2} {past = lists kinds.PersistentVolume [] ∷ []} 4 (lists kinds.PersistentVolumeClaim [] ∷ lists kinds.PersistentVolume [] ∷ []) refl (record { request = _; reply = _; passes = refl; is = refl })
-    (MoreCalls {n = 3} {past = lists kinds.PersistentVolumeClaim [] ∷ lists kinds.PersistentVolume [] ∷ []} 3 (lists kinds.StorageClass [] ∷ lists kinds.PersistentVolumeClaim [] ∷ lists kinds.PersistentVolume [] ∷ []) refl (record { request = _; reply = _; passes = refl; is = refl })
-    (MoreCalls {n = 4} {past = lists kinds.StorageClass [] ∷ lists kinds.PersistentVolumeClaim [] ∷ lists kinds.PersistentVolume [] ∷ []} 2 (watches kinds.PersistentVolume ∷ lists kinds.StorageClass [] ∷ lists kinds.PersistentVolumeClaim [] ∷ lists kinds.PersistentVolume [] ∷ []) refl (record { request = _; reply = _; passes = refl; is = refl })
-    (MoreCalls {n = 5} {past = watches kinds.PersistentVolume ∷ lists kinds.StorageClass [] ∷ lists kinds.PersistentVolumeClaim [] ∷ lists kinds.PersistentVolume [] ∷ []} 1 (watches kinds.PersistentVolumeClaim ∷ watches kinds.PersistentVolume ∷ lists kinds.StorageClass [] ∷ lists kinds.PersistentVolumeClaim [] ∷ lists kinds.PersistentVolume [] ∷ []) refl (record { request = _; reply = _; passes = refl; is = refl })
-    (MoreCalls {n = 6} {past = watches kinds.PersistentVolumeClaim ∷ watches kinds.PersistentVolume ∷ lists kinds.StorageClass [] ∷ lists kinds.PersistentVolumeClaim [] ∷ lists kinds.PersistentVolume [] ∷ []} 0 six refl (record { request = _; reply = _; passes = refl; is = refl })
+    (MoreCalls {n = 2} {past = lists kinds.PersistentVolume [] ∷ []} 4
+    (lists kinds.PersistentVolumeClaim [] ∷ lists kinds.PersistentVolume [] ∷ []) refl (record { request = _; reply = _; passes = refl; is = refl })
+    (MoreCalls {n = 3} {past = lists kinds.PersistentVolumeClaim [] ∷ lists kinds.PersistentVolume [] ∷ []} 3
+    (lists kinds.StorageClass [] ∷ lists kinds.PersistentVolumeClaim [] ∷ lists kinds.PersistentVolume [] ∷ []) refl (record { request = _; reply = _; passes = refl; is = refl })
+    (MoreCalls {n = 4} {past = lists kinds.StorageClass [] ∷ lists kinds.PersistentVolumeClaim [] ∷ lists kinds.PersistentVolume [] ∷ []} 2
+    (watches kinds.PersistentVolume ∷ lists kinds.StorageClass [] ∷ lists kinds.PersistentVolumeClaim [] ∷ lists kinds.PersistentVolume [] ∷ [])
+    refl (record { request = _; reply = _; passes = refl; is = refl })
+    (MoreCalls {n = 5} {past = watches kinds.PersistentVolume ∷ lists kinds.StorageClass [] ∷ lists kinds.PersistentVolumeClaim [] ∷ lists
+    kinds.PersistentVolume [] ∷ []} 1 (watches kinds.PersistentVolumeClaim ∷ watches kinds.PersistentVolume ∷ lists kinds.StorageClass [] ∷ lists
+    kinds.PersistentVolumeClaim [] ∷ lists kinds.PersistentVolume [] ∷ []) refl (record { request = _; reply = _; passes = refl; is = refl })
+    (MoreCalls {n = 6} {past = watches kinds.PersistentVolumeClaim ∷ watches kinds.PersistentVolume ∷ lists kinds.StorageClass [] ∷ lists
+    kinds.PersistentVolumeClaim [] ∷ lists kinds.PersistentVolume [] ∷ []} 0 six refl (record { request = _; reply = _; passes = refl; is = refl })
     (NoCalls refl refl))))))
 
 one_more : (after : Progress) → after.past ≡ watches kinds.PersistentVolume ∷ six → IsTurnLine all_pass [] (role_of binder_1) plain_part 7 (first_progress None) after → ⊥
@@ -87,7 +105,8 @@ one_more after at (inl all) =
     let low : 5 ≤ 5 = omega arith in
     let high : 5 < 5 + 1 = omega arith in
     let life : IsNeededLife [] (role_of binder_1) plain_part 5 7 all.past [] = all.needed 5 low high in
-    let since = told_life plain_part 5 7 all.past (watches kinds.PersistentVolume ∷ six) life.since [] life.are refl (subst (λ h. AreOfLife [] plain_part 5 7 h (told_calls (watches kinds.PersistentVolume ∷ six))) (sym past) (record { of_seat = refl; left = refl })) in
+    let since = told_life plain_part 5 7 all.past (watches kinds.PersistentVolume ∷ six) life.since [] life.are refl
+    (subst (λ h. AreOfLife [] plain_part 5 7 h (told_calls (watches kinds.PersistentVolume ∷ six))) (sym past) (record { of_seat = refl; left = refl })) in
     (subst (AreNeeded seats.Binder) since life.needed).1 refl (record { whole = refl; quiet = refl })
 one_more after at (inr fewer) =
     let past : length fewer.past ≡ 7 = ap length (sym (ap (λ (p : Progress). p.past) fewer.is) ∙ at) in
@@ -165,7 +184,8 @@ due_six : IsKeyDue binder key_a only_watches
 due_six = pending_due _ (λ key. shown_three key.kind key.namespace key.name)
 
 abbrev newer : List Call
-newer = Some (watches kinds.StorageClass) ∷ Some (watches kinds.PersistentVolumeClaim) ∷ Some (watches kinds.PersistentVolume) ∷ Some (lists kinds.StorageClass []) ∷ Some (lists kinds.PersistentVolumeClaim []) ∷ []
+newer = Some (watches kinds.StorageClass) ∷ Some (watches kinds.PersistentVolumeClaim) ∷ Some (watches kinds.PersistentVolume) ∷ Some
+    (lists kinds.StorageClass []) ∷ Some (lists kinds.PersistentVolumeClaim []) ∷ []
 
 -- it was not called for by a list or a watch, whatever calls came before
 none_called : (start : List Call) → WasCalledSince binder key_a start newer → ⊥
@@ -209,7 +229,8 @@ nothing_due : (key : Key) → IsKeyDue binder key [] → ⊥
 nothing_due key due = never_due binder key tt due
 
 abbrev lossy : List Call
-lossy = Some (watches kinds.StorageClass) ∷ Some (watches kinds.PersistentVolumeClaim) ∷ Some (watches kinds.PersistentVolume) ∷ None ∷ Some (lists kinds.StorageClass []) ∷ Some (lists kinds.PersistentVolumeClaim []) ∷ Some list_a ∷ []
+lossy = Some (watches kinds.StorageClass) ∷ Some (watches kinds.PersistentVolumeClaim) ∷ Some (watches kinds.PersistentVolume) ∷ None ∷ Some
+    (lists kinds.StorageClass []) ∷ Some (lists kinds.PersistentVolumeClaim []) ∷ Some list_a ∷ []
 
 done_six : IsDone binder [] (told_calls six)
 done_six = record {
@@ -220,7 +241,10 @@ done_six = record {
       (λ key brings due. absurd (watch_brings_none kinds.PersistentVolumeClaim key brings)),
       (
         (λ key brings due. absurd (watch_brings_none kinds.PersistentVolume key brings)),
-        ((λ key brings due. absurd (list_brings_none kinds.StorageClass key brings)), ((λ key brings due. absurd (list_brings_none kinds.PersistentVolumeClaim key brings)), ((λ key brings due. absurd (list_brings_none kinds.PersistentVolume key brings)), tt))),
+        (
+          (λ key brings due. absurd (list_brings_none kinds.StorageClass key brings)),
+          ((λ key brings due. absurd (list_brings_none kinds.PersistentVolumeClaim key brings)), ((λ key brings due. absurd (list_brings_none kinds.PersistentVolume key brings)), tt)),
+        ),
       ),
     ),
   )
@@ -237,7 +261,10 @@ done_lossy = record {
       (λ key brings due. absurd (watch_brings_none kinds.PersistentVolumeClaim key brings)),
       (
         (λ key brings due. absurd (watch_brings_none kinds.PersistentVolume key brings)),
-        ((λ key brings due. absurd (list_brings_none kinds.StorageClass key brings)), ((λ key brings due. absurd (list_brings_none kinds.PersistentVolumeClaim key brings)), ((λ key brings due. inr (inr (inr tt))), tt))),
+        (
+          (λ key brings due. absurd (list_brings_none kinds.StorageClass key brings)),
+          ((λ key brings due. absurd (list_brings_none kinds.PersistentVolumeClaim key brings)), ((λ key brings due. inr (inr (inr tt))), tt)),
+        ),
       ),
     ),
   )
@@ -300,7 +327,8 @@ taken_back after at (inl all) =
     let low : 5 ≤ 5 = omega arith in
     let high : 5 < 5 + 1 = omega arith in
     let life : IsNeededLife [] (role_of agent_n) agent_part 5 3 all.past [] = all.needed 5 low high in
-    let since = told_life agent_part 5 3 all.past (takes 5 3 ∷ is_stale ∷ takes 5 1 ∷ []) life.since [] life.are refl (subst (λ h. AreOfLife [] agent_part 5 3 h (told_calls (takes 5 3 ∷ is_stale ∷ takes 5 1 ∷ []))) (sym past) (record { of_seat = refl; left = refl })) in
+    let since = told_life agent_part 5 3 all.past (takes 5 3 ∷ is_stale ∷ takes 5 1 ∷ []) life.since [] life.are refl
+    (subst (λ h. AreOfLife [] agent_part 5 3 h (told_calls (takes 5 3 ∷ is_stale ∷ takes 5 1 ∷ []))) (sym past) (record { of_seat = refl; left = refl })) in
     let silent : IsSilentOnceStale seats.Agent (told_calls (takes 5 3 ∷ is_stale ∷ takes 5 1 ∷ [])) = subst (IsSilentOnceStale seats.Agent) (append-nil life.since ∙ since) life.silent in
     silent.1 (refl, inl (refl, refl))
 taken_back after at (inr fewer) =

@@ -1,7 +1,7 @@
 -- The examples of the calls of one actor compute.
 use Rattle.std.proofs.Common.{◌≡◌, ◌⊎◌, ℕ, ◌+◌, ◌<◌, ◌≤◌, Bool, true, false, true≢false, List, [], ◌∷◌, ◌++◌, length, Some, None, inl, inr, refl, sym, ◌∙◌, ap, subst, arith}
-use Rattle.kube_types.specs.declared.parts.Kind.{Kind}
-use Rattle.kube_types.specs.declared.parts.Kind.TheVariants.{Node, PersistentVolume, Pod}
+use Rattle.kube_parts.specs.declared.parts.Kind.{Kind}
+use Rattle.kube_parts.specs.declared.parts.Kind.TheVariants.{Node, PersistentVolume, Pod}
 use Rattle.call_types.specs.declared.entry.Entry.{Entry}
 use Rattle.call_types.specs.declared.reply.Reply.TheVariants as replies
 use Rattle.call_types.specs.declared.request.Request.TheVariants as requests
@@ -44,7 +44,8 @@ pub diligent_one : (role : Role) (c : Call) → IsDiligent role (c ∷ [])
 diligent_one role c kind first fourth earlier between later is = absurd (not_two c later (Some fourth) (Some first) between earlier is)
 
 -- an actor of one life that has made one call: its entries are those of its seat
-pub one_made : (past mine : List Entry) (actor : Actor) (part : Part) (c : Call) → lives_of part ≡ 1 → AreCalls all_pass [] part mine 1 1 [] → own part.first past ≡ own part.first mine → AreOfLife [] part part.first 1 past (c ∷ []) → HasMadeCalls 1 past actor part
+pub one_made : (past mine : List Entry) (actor : Actor) (part : Part) (c : Call) → lives_of part ≡ 1 → AreCalls all_pass [] part mine 1 1 []
+    → own part.first past ≡ own part.first mine → AreOfLife [] part part.first 1 past (c ∷ []) → HasMadeCalls 1 past actor part
 one_made past mine actor part c one calls own_are are = record {
   made = 1;
   mine = mine;
@@ -59,7 +60,8 @@ one_made past mine actor part c one calls own_are are = record {
     at seat low high = omega (arith, low, high, one)
 
 -- one whose call was let through, with this entry
-pub told_made : (past : List Entry) (actor : Actor) (part : Part) (e : Entry) → lives_of part ≡ 1 → IsCall all_pass [] part 1 [] (e ∷ []) → own part.first past ≡ own part.first (e ∷ []) → AreOfLife [] part part.first 1 past (Some e ∷ []) → HasMadeCalls 1 past actor part
+pub told_made : (past : List Entry) (actor : Actor) (part : Part) (e : Entry) → lives_of part ≡ 1 → IsCall all_pass [] part 1 [] (e ∷ [])
+    → own part.first past ≡ own part.first (e ∷ []) → AreOfLife [] part part.first 1 past (Some e ∷ []) → HasMadeCalls 1 past actor part
 told_made past actor part e one call own_are are = one_made past (e ∷ []) actor part (Some e) one (MoreCalls {n = 1} {past = []} 0 (e ∷ []) refl call (NoCalls refl refl)) own_are are
 
 -- one that was to make none
@@ -70,7 +72,12 @@ none_made past actor part none = record {
   calls_are = NoCalls refl refl;
   own_are = λ seat life. none seat life.0;
   whole = inl refl;
-  diligent = λ seat life. record { calls = []; are = record { of_seat = sym (none seat life.0); left = refl }; diligent = λ kind first fourth earlier between later is. absurd (not_longer later (Some fourth) (between ++ Some first ∷ earlier) is) };
+  diligent = λ seat life. record {
+    calls = [];
+    are = record { of_seat = sym (none seat life.0); left = refl };
+    diligent = λ kind first fourth earlier
+        between later is. absurd (not_longer later (Some fourth) (between ++ Some first ∷ earlier) is);
+  };
   silent = λ seat life. record { calls = []; are = record { of_seat = sym (none seat life.0); left = refl }; silent = tt };
 }
 
@@ -157,12 +164,15 @@ made_cases = record {
 
 pub loss_cases : LossExamples
 loss_cases = record {
-  lost_before_it_leaves_none = one_made _ [] binder_1 (started_part (loses_first false) binder_1 5) None refl (MoreCalls {n = 1} {past = []} 0 [] refl refl (NoCalls refl refl)) refl (record { of_seat = refl; left = refl });
+  lost_before_it_leaves_none = one_made _ [] binder_1 (started_part (loses_first false) binder_1 5) None refl (MoreCalls {n = 1} {past = []} 0 []
+      refl refl (NoCalls refl refl)) refl (record { of_seat = refl; left = refl });
   no_entry_then = λ did. let none : listed ∷ [] ≡ [] = lost_none (listed ∷ []) did in absurd (cc);
   not_an_untold_one = λ did. let none : untold listed ∷ [] ≡ [] = lost_none (untold listed ∷ []) did in absurd (cc);
-  lost_after_it_is_untold = told_made _ binder_1 (started_part (loses_first true) binder_1 5) (untold listed) refl (record { request = _; reply = _; passes = refl; is = refl }) refl (record { of_seat = refl; left = refl });
+  lost_after_it_is_untold = told_made _ binder_1 (started_part (loses_first true) binder_1 5) (untold listed) refl (record
+      { request = _; reply = _; passes = refl; is = refl }) refl (record { of_seat = refl; left = refl });
   not_told_then = λ did. absurd (true≢false (lost_one (listed ∷ []) did).was_told);
   not_without_an_entry = λ did. let one : 0 ≡ 1 = (lost_one [] did).one in absurd (omega (arith, one));
-  another_loses_its_own = told_made _ binder_1 (started_part (another_loses false) binder_1 5) listed refl (record { request = _; reply = _; passes = refl; is = refl }) refl (record { of_seat = refl; left = refl });
+  another_loses_its_own = told_made _ binder_1 (started_part (another_loses false) binder_1 5) listed refl (record
+      { request = _; reply = _; passes = refl; is = refl }) refl (record { of_seat = refl; left = refl });
   nothing_of_this_one = λ did. let one : 0 ≡ 1 = (told_beside [] did).one in absurd (omega (arith, one));
 }

@@ -1,7 +1,7 @@
 -- New actors of a drain.
 use Rattle.std.proofs.Common.{◌≡◌, ℕ, ◌+◌, List, [], ◌∷◌, length, true, None, refl}
-use Rattle.kube_types.specs.declared.parts.Kind.{Kind}
-use Rattle.kube_types.specs.declared.parts.Kind.TheVariants as kinds
+use Rattle.kube_parts.specs.declared.parts.Kind.{Kind}
+use Rattle.kube_parts.specs.declared.parts.Kind.TheVariants as kinds
 use Rattle.call_types.specs.declared.request.SeatKind.{SeatKind}
 use Rattle.call_types.specs.declared.request.SeatKind.TheVariants as seats
 use Rattle.informer_cache.specs.Cache.{Known, CacheStandsFor, kind_known}
@@ -58,7 +58,12 @@ abbrev at_seat : Role → ℕ → Drainer
 at_seat role seat = record { seat = seat; actor = begun_as role }
 
 new_at : (kind : SeatKind) (node : List ℕ) (seat : ℕ) → IsNewAt kind node seat (at_seat (record { kind = kind; node = node }) seat)
-new_at kind node seat = record { at = refl; is_new = begun_new (record { kind = kind; node = node }); stands = begins (record { kind = kind; node = node }) (begun_as (record { kind = kind; node = node })) (begun_new (record { kind = kind; node = node })) }
+new_at kind node seat = record {
+  at = refl;
+  is_new = begun_new (record { kind = kind; node = node });
+  stands = begins
+      (record { kind = kind; node = node }) (begun_as (record { kind = kind; node = node })) (begun_new (record { kind = kind; node = node }));
+}
 
 -- those of a drain with one node, whose first seat is this one
 

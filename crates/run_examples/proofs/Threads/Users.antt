@@ -1,6 +1,6 @@
 -- The examples of seats and of users compute.
 use Rattle.std.proofs.Common.{◌≡◌, ◌⊎◌, ℕ, zero, suc, ◌+◌, ◌<◌, ◌≤◌, Bool, true, false, true≢false, List, [], ◌∷◌, ◌++◌, Some, None, inl, inr, refl, sym, ◌∙◌, ap, ne_eqb, arith}
-use Rattle.kube_types.specs.declared.parts.Kind.TheVariants.{Node, Pod}
+use Rattle.kube_parts.specs.declared.parts.Kind.TheVariants.{Node, Pod}
 use Rattle.call_types.specs.declared.entry.Entry.{Entry}
 use Rattle.call_types.specs.declared.request.Request.{Request}
 use Rattle.call_types.specs.declared.request.Request.TheVariants as requests
@@ -54,8 +54,16 @@ abbrev second_first : List Entry
 second_first = asks 1 Pod ∷ asks 2 Node ∷ []
 
 no_other : (seat : ℕ) → (seat ≡ 0) ⊎ (3 ≤ seat) → (own seat second_last ≡ []) × (own seat second_first ≡ [])
-no_other seat (inl is) = (rw (ne_eqb 2 seat (λ e. absurd (omega (arith, is, e))), ne_eqb 1 seat (λ e. absurd (omega (arith, is, e)))) refl, rw (ne_eqb 1 seat (λ e. absurd (omega (arith, is, e))), ne_eqb 2 seat (λ e. absurd (omega (arith, is, e)))) refl)
-no_other seat (inr low) = (rw (ne_eqb 2 seat (λ e. absurd (omega (arith, low, e))), ne_eqb 1 seat (λ e. absurd (omega (arith, low, e)))) refl, rw (ne_eqb 1 seat (λ e. absurd (omega (arith, low, e))), ne_eqb 2 seat (λ e. absurd (omega (arith, low, e)))) refl)
+no_other seat (inl is) = (
+  rw (ne_eqb 2 seat (λ e. absurd (omega (arith, is, e))), ne_eqb 1 seat (λ e. absurd (omega (arith, is, e)))) refl,
+  rw
+      (ne_eqb 1 seat (λ e. absurd (omega (arith, is, e))), ne_eqb 2 seat (λ e. absurd (omega (arith, is, e)))) refl,
+)
+no_other seat (inr low) = (
+  rw (ne_eqb 2 seat (λ e. absurd (omega (arith, low, e))), ne_eqb 1 seat (λ e. absurd (omega (arith, low, e)))) refl,
+  rw
+      (ne_eqb 1 seat (λ e. absurd (omega (arith, low, e))), ne_eqb 2 seat (λ e. absurd (omega (arith, low, e)))) refl,
+)
 
 of_users : (user : ℕ) → 0 < user → user < 5 → AreOfLines user small.lines (own user second_last) × AreOfLines user small.lines (own user second_first)
 of_users zero some few = absurd (omega (arith, some))
@@ -66,9 +74,19 @@ of_users (suc (suc (suc (suc zero)))) some few = (refl, refl)
 of_users (suc (suc (suc (suc (suc n))))) some few = absurd (omega (arith, few))
 
 -- a history in which no seat has an entry but the users'
-worked_where : (past : List Entry) → ((user : ℕ) → 0 < user → user < 5 → AreOfLines user small.lines (own user past)) → ((seat : ℕ) → (seat ≡ 0) ⊎ (3 ≤ seat) → own seat past ≡ []) → IsThreadedWork small 1 0 past
+worked_where : (past : List Entry) → ((user : ℕ) → 0 < user → user < 5 → AreOfLines user small.lines (own user past))
+    → ((seat : ℕ) → (seat ≡ 0) ⊎ (3 ≤ seat) → own seat past ≡ []) → IsThreadedWork small 1 0 past
 worked_where past users none = record {
-  done = record { users = users; actors = (idle binder_1 5 (omega arith), (idle ops_1 6 (omega arith), (idle scheduler_1 7 (omega arith), (idle claims_1 8 (omega arith), (idle (worker workers.Volumes One) 9 (omega arith), (idle (agent_of (codes "n1")) 10 (omega arith), tt)))))) };
+  done = record {
+    users = users;
+    actors = (
+      idle binder_1 5 (omega arith),
+      (
+        idle ops_1 6 (omega arith),
+        (idle scheduler_1 7 (omega arith), (idle claims_1 8 (omega arith), (idle (worker workers.Volumes One) 9 (omega arith), (idle (agent_of (codes "n1")) 10 (omega arith), tt)))),
+      ),
+    );
+  };
   others = λ seat out. none seat (high seat out);
 }
   where

@@ -1,7 +1,7 @@
 -- The examples of an agent that is stale, and of all that take part, compute.
 use Rattle.std.proofs.Common.{◌≡◌, ◌⊎◌, ℕ, zero, suc, ◌+◌, ◌<◌, ◌≤◌, Bool, true, false, List, [], ◌∷◌, ◌++◌, length, Some, None, inl, inr, refl, sym, ◌∙◌, ap, subst, arith, ne_eqb}
 use Rattle.std.specs.Prelude.{codes}
-use Rattle.kube_types.specs.declared.parts.Kind.TheVariants.{Node, Pod}
+use Rattle.kube_parts.specs.declared.parts.Kind.TheVariants.{Node, Pod}
 use Rattle.call_types.specs.declared.entry.Entry.{Entry}
 use Rattle.call_types.specs.declared.request.SeatKind.{SeatKind}
 use Rattle.call_types.specs.declared.request.SeatKind.TheVariants as seats
@@ -47,8 +47,18 @@ fewer = record {
   calls_are = MoreCalls {n = 1} {past = []} 0 (refused ∷ []) refl (record { request = _; reply = _; passes = refl; is = refl }) (NoCalls refl refl);
   own_are = λ seat life. refl;
   whole = inr (omega arith, (refl, inl (refl, refl)));
-  diligent = λ seat life. record { calls = Some refused ∷ []; are = subst (λ s. AreOfLife [] node_part s 1 (refused ∷ []) (Some refused ∷ [])) (first_life seat life.0 life.1) of_life; diligent = diligent_one _ (Some refused) };
-  silent = λ seat life. record { calls = Some refused ∷ []; are = subst (λ s. AreOfLife [] node_part s 1 (refused ∷ []) (Some refused ∷ [])) (first_life seat life.0 life.1) of_life; silent = (tt, λ stale. stale.1) };
+  diligent = λ seat life. record {
+    calls = Some refused ∷ [];
+    are = subst (λ s. AreOfLife [] node_part s 1 (refused ∷ []) (Some refused ∷ []))
+        (first_life seat life.0 life.1) of_life;
+    diligent = diligent_one _ (Some refused);
+  };
+  silent = λ seat life. record {
+    calls = Some refused ∷ [];
+    are = subst (λ s. AreOfLife [] node_part s 1 (refused ∷ []) (Some refused ∷ []))
+        (first_life seat life.0 life.1) of_life;
+    silent = (tt, λ stale. stale.1);
+  };
 }
 
 abbrev rest_of : List Entry → List Entry
@@ -65,7 +75,8 @@ pub stale_cases : StaleExamples
 stale_cases = record {
   fewer_where_an_agent_is_stale = fewer;
   it_asks_nothing_more = λ did. let l = did.silent 5 (omega arith, omega arith) in not_silent seats.Agent l.calls refused (refused ∷ []) l.are.of_seat (refl, inl (refl, refl)) l.silent;
-  not_even_another_call = λ did. let l = did.silent 5 (omega arith, omega arith) in not_silent seats.Agent l.calls (entry 5 seats.Agent Pod) (refused ∷ []) l.are.of_seat (refl, inl (refl, refl)) l.silent;
+  not_even_another_call = λ did. let l = did.silent 5 (omega arith, omega arith) in
+      not_silent seats.Agent l.calls (entry 5 seats.Agent Pod) (refused ∷ []) l.are.of_seat (refl, inl (refl, refl)) l.silent;
 }
 
 -- ---- all that take part
@@ -79,7 +90,16 @@ users_asked (suc (suc (suc (suc zero)))) some few = refl
 users_asked (suc (suc (suc (suc (suc n))))) some few = absurd (omega (arith, few))
 
 nobody_else : (seat : ℕ) → (seat ≡ 0) ⊎ (11 ≤ seat) → own seat all_worked ≡ []
-nobody_else seat out = rw (ne_eqb 10 seat (not 10 (omega arith) (omega arith)), ne_eqb 9 seat (not 9 (omega arith) (omega arith)), ne_eqb 2 seat (not 2 (omega arith) (omega arith)), ne_eqb 8 seat (not 8 (omega arith) (omega arith)), ne_eqb 6 seat (not 6 (omega arith) (omega arith)), ne_eqb 1 seat (not 1 (omega arith) (omega arith)), ne_eqb 7 seat (not 7 (omega arith) (omega arith))) refl
+nobody_else seat out = rw (
+  ne_eqb 10 seat (not 10 (omega arith) (omega arith)),
+  ne_eqb 9 seat (not 9 (omega arith) (omega arith)),
+  ne_eqb 2 seat
+      (not 2 (omega arith) (omega arith)),
+  ne_eqb 8 seat (not 8 (omega arith) (omega arith)),
+  ne_eqb 6 seat (not 6 (omega arith) (omega arith)),
+  ne_eqb 1 seat (not 1 (omega arith) (omega arith)),
+  ne_eqb 7 seat (not 7 (omega arith) (omega arith)),
+) refl
   where
     by : (n : ℕ) → 0 < n → n < 11 → n ≡ seat → (seat ≡ 0) ⊎ (11 ≤ seat) → ⊥
     by n some few is (inl z) = absurd (omega (arith, some, is, z))
@@ -116,17 +136,23 @@ whole_cases = record {
     done = record {
       users = users_asked;
       actors = (
-        one_made all_worked [] binder_1 (started_part small.lines binder_1 5) None refl (MoreCalls {n = 1} {past = []} 0 [] refl refl (NoCalls refl refl)) refl (record { of_seat = refl; left = refl }),
+        one_made all_worked [] binder_1 (started_part small.lines binder_1 5) None refl
+            (MoreCalls {n = 1} {past = []} 0 [] refl refl (NoCalls refl refl)) refl (record { of_seat = refl; left = refl }),
         (
-          told_made all_worked ops_1 (started_part small.lines ops_1 6) (told_once ops_1 6) refl (record { request = _; reply = _; passes = refl; is = refl }) refl (record { of_seat = refl; left = refl }),
+          told_made all_worked ops_1 (started_part small.lines ops_1 6) (told_once ops_1 6) refl
+              (record { request = _; reply = _; passes = refl; is = refl }) refl (record { of_seat = refl; left = refl }),
           (
-            told_made all_worked scheduler_1 (started_part small.lines scheduler_1 7) (told_once scheduler_1 7) refl (record { request = _; reply = _; passes = refl; is = refl }) refl (record { of_seat = refl; left = refl }),
+            told_made all_worked scheduler_1 (started_part small.lines scheduler_1 7) (told_once scheduler_1 7) refl
+                (record { request = _; reply = _; passes = refl; is = refl }) refl (record { of_seat = refl; left = refl }),
             (
-              told_made all_worked claims_1 (started_part small.lines claims_1 8) (told_once claims_1 8) refl (record { request = _; reply = _; passes = refl; is = refl }) refl (record { of_seat = refl; left = refl }),
+              told_made all_worked claims_1 (started_part small.lines claims_1 8) (told_once claims_1 8) refl
+                  (record { request = _; reply = _; passes = refl; is = refl }) refl (record { of_seat = refl; left = refl }),
               (
-                told_made all_worked volumes_1 (started_part small.lines volumes_1 9) (told_once volumes_1 9) refl (record { request = _; reply = _; passes = refl; is = refl }) refl (record { of_seat = refl; left = refl }),
+                told_made all_worked volumes_1 (started_part small.lines volumes_1 9) (told_once volumes_1 9) refl
+                    (record { request = _; reply = _; passes = refl; is = refl }) refl (record { of_seat = refl; left = refl }),
                 (
-                  told_made all_worked node (started_part small.lines node 10) (told_once node 10) refl (record { request = _; reply = _; passes = refl; is = refl }) refl (record { of_seat = refl; left = refl }),
+                  told_made all_worked node (started_part small.lines node 10) (told_once node 10) refl
+                      (record { request = _; reply = _; passes = refl; is = refl }) refl (record { of_seat = refl; left = refl }),
                   tt,
                 ),
               ),
@@ -138,7 +164,8 @@ whole_cases = record {
     others = nobody_else;
   };
   not_without_the_agents = λ h. served others_worked h.done.actors.1.1.1.1.1.0 refl;
-  not_with_the_lost_one = λ h. let did = h.done.actors.0 in let call : did.mine ≡ [] = its_call small.lines (listed ∷ all_worked) did in let none : listed ∷ [] ≡ [] = did.own_are 5 (omega arith, omega arith) ∙ ap (own 5) call in absurd (cc);
+  not_with_the_lost_one = λ h. let did = h.done.actors.0 in let call : did.mine ≡ [] = its_call small.lines (listed ∷ all_worked) did in
+      let none : listed ∷ [] ≡ [] = did.own_are 5 (omega arith, omega arith) ∙ ap (own 5) call in absurd (cc);
   not_with_a_users_line_less = λ h. let lines = h.done.users 2 (omega arith) (omega arith) in absurd (cc);
   not_where_none_was_to_be_made = λ h. let none = none_of_it all_worked ops_1 _ 6 (omega arith) (omega arith) h.done.actors.1.0 in absurd (cc);
 }

@@ -1,8 +1,8 @@
 -- Verdicts on short histories, beside verdicts that they do not get.
 -- A choice of this project, as the verdicts are.
 use Rattle.std.specs.Prelude.{ℕ, [], ◌∷◌, true, None}
-use Rattle.kube_types.specs.declared.names.LicenceRule.TheVariants.{Reading, Kind}
-use Rattle.kube_types.specs.declared.parts.Kind.TheVariants as kinds
+use Rattle.kube_parts.specs.declared.names.LicenceRule.TheVariants.{Reading, Kind}
+use Rattle.kube_parts.specs.declared.parts.Kind.TheVariants as kinds
 use Rattle.call_types.specs.declared.entry.Entry.{Entry}
 use Rattle.call_types.specs.declared.setup.Setup.{Setup}
 use Rattle.call_types.specs.declared.request.SeatKind.{SeatKind}

@@ -1,7 +1,7 @@
 -- Whose calls the history of a replayed script has: cases that hold, and cases beside them that do not.
 -- A choice of this project.
 use Rattle.std.specs.Prelude.{ℕ, true, false, [], ◌∷◌, None}
-use Rattle.kube_types.specs.declared.names.Due.TheVariants as dues
+use Rattle.kube_parts.specs.declared.names.Due.TheVariants as dues
 use Rattle.call_types.specs.declared.entry.Entry.{Entry}
 use Rattle.call_types.specs.declared.reply.Refusal.TheVariants.{NotFound}
 use Rattle.call_types.specs.declared.reply.Reply.TheVariants.{Refused}

@@ -1,12 +1,12 @@
 -- What a turn may not leave undone, and what it may not do beside: cases that hold, and cases beside them that do not.
 -- A choice of this project. The newest entry and the newest call stand first.
 use Rattle.std.specs.Prelude.{ℕ, ◌≡◌, true, List, [], ◌∷◌, Some, None, codes}
-use Rattle.kube_types.specs.declared.parts.Kind.{Kind}
-use Rattle.kube_types.specs.declared.parts.Kind.TheVariants as kinds
-use Rattle.kube_types.specs.declared.parts.VolumePhase.TheVariants as volumes
-use Rattle.kube_types.specs.declared.objects.Object.{Object}
-use Rattle.kube_types.specs.declared.objects.Object.TheVariants.{Volume}
-use Rattle.kube_types.specs.declared.objects.Volume.{Volume as VolumeData}
+use Rattle.kube_parts.specs.declared.parts.Kind.{Kind}
+use Rattle.kube_parts.specs.declared.parts.Kind.TheVariants as kinds
+use Rattle.kube_parts.specs.declared.parts.VolumePhase.TheVariants as volumes
+use Rattle.kube_objects.specs.declared.objects.Object.{Object}
+use Rattle.kube_objects.specs.declared.objects.Object.TheVariants.{Volume}
+use Rattle.kube_objects.specs.declared.objects.Volume.{Volume as VolumeData}
 use Rattle.call_types.specs.declared.entry.Entry.{Entry}
 use Rattle.call_types.specs.declared.request.Request.{Request}
 use Rattle.call_types.specs.declared.request.Request.TheVariants as requests
@@ -35,7 +35,8 @@ abbrev pub lists : Kind → List Object → Entry
 lists kind os = record { seat = 5; kind = seats.Binder; request = requests.List kind None; reply = replies.Listed os 1; told = true }
 
 abbrev pub six : List Entry
-six = watches kinds.StorageClass ∷ watches kinds.PersistentVolumeClaim ∷ watches kinds.PersistentVolume ∷ lists kinds.StorageClass [] ∷ lists kinds.PersistentVolumeClaim [] ∷ lists kinds.PersistentVolume [] ∷ []
+six = watches kinds.StorageClass ∷ watches kinds.PersistentVolumeClaim ∷ watches kinds.PersistentVolume ∷ lists kinds.StorageClass []
+    ∷ lists kinds.PersistentVolumeClaim [] ∷ lists kinds.PersistentVolume [] ∷ []
 
 -- after a turn of so many calls, with these entries
 abbrev pub made_all : Part → ℕ → List Entry → Progress → Progress
@@ -53,7 +54,8 @@ pending_a = in_phase volumes.Pending a
 
 -- it is listed, and the life only watches
 abbrev pub only_watches : List Entry
-only_watches = watches kinds.StorageClass ∷ watches kinds.PersistentVolumeClaim ∷ watches kinds.PersistentVolume ∷ lists kinds.StorageClass [] ∷ lists kinds.PersistentVolumeClaim [] ∷ lists kinds.PersistentVolume (Volume pending_a ∷ []) ∷ []
+only_watches = watches kinds.StorageClass ∷ watches kinds.PersistentVolumeClaim ∷ watches kinds.PersistentVolume ∷ lists kinds.StorageClass []
+    ∷ lists kinds.PersistentVolumeClaim [] ∷ lists kinds.PersistentVolume (Volume pending_a ∷ []) ∷ []
 
 -- after a turn that gave it fewer, and these were its calls
 abbrev pub made_fewer : Part → ℕ → List Entry → Progress
@@ -63,8 +65,12 @@ pub record LeftExamples : Type 0 where
   pub where_nothing_is_due : IsTurnLine all_pass [] (role_of binder_1) plain_part 9 (first_progress None) (made_fewer plain_part 6 six)
   pub not_where_a_told_key_is_left : (after : Progress) → after.past ≡ only_watches → IsTurnLine all_pass [] (role_of binder_1) plain_part 50 (first_progress None) after → ⊥
   -- the call that was lost may have been that of the key
-  pub a_lost_call_counts_for_it : IsDone (role_of binder_1) [] (Some (watches kinds.StorageClass) ∷ Some (watches kinds.PersistentVolumeClaim) ∷ Some (watches kinds.PersistentVolume) ∷ None ∷ Some (lists kinds.StorageClass []) ∷ Some (lists kinds.PersistentVolumeClaim []) ∷ Some (lists kinds.PersistentVolume (Volume pending_a ∷ [])) ∷ [])
-  pub not_one_lost_before_it_was_told : IsDone (role_of binder_1) [] (Some (watches kinds.StorageClass) ∷ Some (watches kinds.PersistentVolumeClaim) ∷ Some (watches kinds.PersistentVolume) ∷ Some (lists kinds.StorageClass []) ∷ Some (lists kinds.PersistentVolumeClaim []) ∷ Some (lists kinds.PersistentVolume (Volume pending_a ∷ [])) ∷ None ∷ []) → ⊥
+  pub a_lost_call_counts_for_it : IsDone (role_of binder_1) []
+      (Some (watches kinds.StorageClass) ∷ Some (watches kinds.PersistentVolumeClaim) ∷ Some (watches kinds.PersistentVolume) ∷ None ∷ Some
+      (lists kinds.StorageClass []) ∷ Some (lists kinds.PersistentVolumeClaim []) ∷ Some (lists kinds.PersistentVolume (Volume pending_a ∷ [])) ∷ [])
+  pub not_one_lost_before_it_was_told : IsDone (role_of binder_1) []
+      (Some (watches kinds.StorageClass) ∷ Some (watches kinds.PersistentVolumeClaim) ∷ Some (watches kinds.PersistentVolume) ∷ Some
+      (lists kinds.StorageClass []) ∷ Some (lists kinds.PersistentVolumeClaim []) ∷ Some (lists kinds.PersistentVolume (Volume pending_a ∷ [])) ∷ None ∷ []) → ⊥
 
 -- ---- an agent that was told StaleEpoch asks nothing more
 

@@ -1,7 +1,7 @@
 -- What an actor of a run on threads has done that was to make one call: cases that hold, and cases beside them that do not. The
 -- newest entry stands first. A choice of this project.
 use Rattle.std.specs.Prelude.{ℕ, ◌≡◌, Bool, true, false, List, [], ◌∷◌, codes}
-use Rattle.kube_types.specs.declared.parts.Kind.TheVariants.{Node, PersistentVolume, Pod}
+use Rattle.kube_parts.specs.declared.parts.Kind.TheVariants.{Node, PersistentVolume, Pod}
 use Rattle.call_types.specs.declared.entry.Entry.{Entry}
 use Rattle.call_types.specs.declared.reply.Refusal.TheVariants.{StaleEpoch}
 use Rattle.call_types.specs.declared.reply.Reply.TheVariants as replies
@@ -76,5 +76,6 @@ pub record WholeExamples : Type 0 where
   pub each_has_made_its_call : IsThreadedWork small 1 1 all_worked
   pub not_without_the_agents : IsThreadedWork small 1 1 others_worked → ⊥
   pub not_with_the_lost_one : IsThreadedWork small 1 1 (listed ∷ all_worked) → ⊥
-  pub not_with_a_users_line_less : IsThreadedWork small 1 1 (entry 10 seats.Agent Pod ∷ entry 9 seats.VolumeProtect Pod ∷ entry 8 seats.ClaimProtect Pod ∷ entry 6 seats.Ops Pod ∷ asks 1 Pod ∷ entry 7 seats.Scheduler Pod ∷ []) → ⊥
+  pub not_with_a_users_line_less : IsThreadedWork small 1 1
+      (entry 10 seats.Agent Pod ∷ entry 9 seats.VolumeProtect Pod ∷ entry 8 seats.ClaimProtect Pod ∷ entry 6 seats.Ops Pod ∷ asks 1 Pod ∷ entry 7 seats.Scheduler Pod ∷ []) → ⊥
   pub not_where_none_was_to_be_made : IsThreadedWork small 1 0 all_worked → ⊥

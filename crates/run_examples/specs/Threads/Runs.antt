@@ -1,7 +1,7 @@
 -- Whose calls the history of a run on threads has with its drain: a case that holds, and cases beside it that do not. The newest
 -- entry stands first. A choice of this project.
 use Rattle.std.specs.Prelude.{ℕ, List, [], ◌∷◌, None}
-use Rattle.kube_types.specs.declared.parts.Kind.TheVariants.{Node, PersistentVolume, Pod}
+use Rattle.kube_parts.specs.declared.parts.Kind.TheVariants.{Node, PersistentVolume, Pod}
 use Rattle.call_types.specs.declared.entry.Entry.{Entry}
 use Rattle.call_types.specs.declared.request.SeatKind.TheVariants as seats
 use Rattle.world_core.specs.declared.drained.Drained.{Drained}

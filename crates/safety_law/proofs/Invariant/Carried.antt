@@ -1,11 +1,11 @@
 -- What a volume that carries a claim refers to.
 use Rattle.std.proofs.Common.{sym, refl, true≢false}
 use Rattle.std.specs.Prelude.{◌≡◌, true, Option, Some, None, bytes_eq}
-use Rattle.kube_types.specs.declared.uid.Uid.{Uid}
-use Rattle.kube_types.specs.declared.objects.Ref.{Ref}
-use Rattle.kube_types.specs.declared.objects.Volume.{Volume as VolumeData}
-use Rattle.kube_types.specs.declared.objects.Claim.{Claim as ClaimData}
-use Rattle.kube_types.specs.Bindings.{carries, refers_carrying, uid_carries, names_claim}
+use Rattle.kube_parts.specs.declared.uid.Uid.{Uid}
+use Rattle.kube_objects.specs.declared.objects.Ref.{Ref}
+use Rattle.kube_objects.specs.declared.objects.Volume.{Volume as VolumeData}
+use Rattle.kube_objects.specs.declared.objects.Claim.{Claim as ClaimData}
+use Rattle.kube_objects.specs.Bindings.{carries, refers_carrying, uid_carries, names_claim}
 use Rattle.safety_law.specs.Invariant.Was.{Refers}
 use Rattle.safety_law.proofs.Invariant.Tests.{same_text, uid_is}
 use Rattle.std.proofs.lemmas.Bool.{and_parts}

@@ -4,14 +4,37 @@ use Rattle.std.proofs.lemmas.Bool.Decides.{nat_tests}
 use Rattle.std.specs.Prelude.{if◌then◌else◌, ℕ, ◌≡◌, ◌⊎◌, ◌+◌, ◌==◌, Bool, true, false, ◌&&◌, List, [], ◌∷◌, Option, Some, None, bytes_eq, nat_lt}
 use Rattle.std.proofs.lemmas.Slice.Eq.{bytes_eq-Decides}
 use Rattle.plain_data.specs.Pairs.{Pair}
-use Rattle.kube_types.specs.declared.uid.Uid.{Uid}
+use Rattle.kube_parts.specs.declared.uid.Uid.{Uid}
 use Rattle.call_types.specs.declared.setup.Setup.{Setup}
 use Rattle.call_types.specs.declared.request.SeatKind.{SeatKind}
 use Rattle.call_types.specs.declared.request.Request.{Request}
 use Rattle.call_types.specs.declared.request.Request.TheVariants as requests
 use Rattle.call_types.specs.declared.reply.Reply.{Reply}
 use Rattle.binder_model.specs.Answers.{Outcome, is_user, reply_of}
-use Rattle.binder_model.specs.Devices.{Data, first_fit, Devices, DeviceAnswer, MountAt, epoch_of, after_call, provision_new, provision, erase, unless_planned, unless_stale, take_node, with_mounts, device_answer, data_named, is_planned, epoch_if_stale, with_mount, without_mount, rows_on, is_mounted_on}
+use Rattle.binder_model.specs.Devices.{
+  Data,
+  first_fit,
+  Devices,
+  DeviceAnswer,
+  MountAt,
+  epoch_of,
+  after_call,
+  provision_new,
+  provision,
+  erase,
+  unless_planned,
+  unless_stale,
+  take_node,
+  with_mounts,
+  device_answer,
+  data_named,
+  is_planned,
+  epoch_if_stale,
+  with_mount,
+  without_mount,
+  rows_on,
+  is_mounted_on,
+}
 use Rattle.binder_model.specs.Watching.{oldest}
 use Rattle.binder_model.specs.AgentLicence.{has_row, is_of_epoch, lacks_pod}
 use Rattle.binder_model.specs.World.{base, World, Effect, OnStore, OnDevices, SetsMoment, effect, reply_to, world_after, on_devices, set_time, watch, is_time, refused_rule}
@@ -24,14 +47,14 @@ use Rattle.safety_law.proofs.Invariant.Tests.{uid_same}
 use Rattle.binder_model.specs.Devices.{put_mount}
 use Rattle.binder_model.proofs.Mounts.{put_was}
 use Rattle.model_laws.proofs.Lists.{some_filter}
-use Rattle.kube_types.specs.declared.names.Field.TheVariants as fields
+use Rattle.kube_parts.specs.declared.names.Field.TheVariants as fields
 use Rattle.call_types.specs.declared.reply.Refusal.TheVariants.{Invalid, Gone}
 use Rattle.call_types.specs.declared.reply.Reply.TheVariants.{Refused, Events}
 use Rattle.binder_model.specs.Answers.{Says}
 use Rattle.binder_model.specs.Watching.{told_events}
 use Rattle.binder_model.specs.Told.{objects_in}
 use Rattle.std.proofs.lemmas.Option.{same_Some}
-use Rattle.kube_types.specs.declared.names.Rule.TheVariants as rules
+use Rattle.kube_parts.specs.declared.names.Rule.TheVariants as rules
 use Rattle.call_types.specs.declared.reply.Refusal.TheVariants.{BackFault, Forbidden}
 use Rattle.binder_model.specs.Answers.{outcome}
 use Rattle.binder_model.specs.World.{stale_epoch}
@@ -72,7 +95,8 @@ test_answer false x y kx ky = ky
 
 planned_answer : (setup : Setup) (d : Devices) (request : Request) (next : DeviceAnswer) → IsAnswer d request next → IsAnswer d request (unless_planned setup d next)
 unfolding unless_planned
-planned_answer setup d request next k = test_answer (is_planned (d.calls + 1) setup.faults) (after_call d (Refused (BackFault (d.calls + 1)))) next (quiet d _ request (Refused (BackFault (d.calls + 1))) refl refl (λ pod. refl) refl) k
+planned_answer setup d request next k =
+    test_answer (is_planned (d.calls + 1) setup.faults) (after_call d (Refused (BackFault (d.calls + 1)))) next (quiet d _ request (Refused (BackFault (d.calls + 1))) refl refl (λ pod. refl) refl) k
 
 pub stale_none : (d : Devices) (node : List ℕ) (given : ℕ) → epoch_if_stale d node given ≡ None → given ≡ epoch_of node d.epochs
 stale_none d node given e = by (given == epoch_of node d.epochs) refl e
@@ -99,7 +123,12 @@ provision_answer setup d request name provisioner bytes labels None = new (first
 take_answer : (d : Devices) (node : List ℕ) → IsAnswer d (requests.TakeNode node) (take_node d node)
 unfolding take_node
 take_answer d node = record {
-  move = record { epoch = λ other. by other (bytes_eq node other) refl; mount = λ m h. inl h; listed = no_list (take_node d node).devices (requests.TakeNode node) (take_node d node).reply (λ pod. refl) };
+  move = record {
+    epoch = λ other. by other (bytes_eq node other) refl;
+    mount = λ m h. inl h;
+    listed =
+        no_list (take_node d node).devices (requests.TakeNode node) (take_node d node).reply (λ pod. refl);
+  };
   mute = refl;
 }
   where
@@ -171,7 +200,8 @@ devices_mute setup d request a is = by (device_answer setup d request) is (devic
 
 -- every effect
 
-none_moved : (w : World) (kind : SeatKind) (request : Request) (x : Effect) → (world_after w x).devices ≡ w.devices → TellsMounts (world_after w x).devices request (reply_to x) → EffectMove w kind request x
+none_moved : (w : World) (kind : SeatKind) (request : Request) (x : Effect) → (world_after w x).devices ≡ w.devices
+    → TellsMounts (world_after w x).devices request (reply_to x) → EffectMove w kind request x
 none_moved w kind request x e listed = record { move = still w.devices _ request _ (ap (λ d. d.epochs) e) (ap (λ d. d.mounts) e) listed; user = λ u. e }
 
 on_store : (w : World) (kind : SeatKind) (request : Request) (o : Outcome) → TellsMounts w.devices request (reply_of o) → EffectMove w kind request (OnStore o)
@@ -195,7 +225,8 @@ asked w kind request None none =
     on_store w kind request o (no_call w.devices request (reply_of o) none)
 
 -- requests that are none of the devices'
-away : (w : World) (kind : SeatKind) (request : Request) (x : Effect) → (world_after w x).devices ≡ w.devices → ((node : List ℕ) (epoch : ℕ) → is_of_epoch node epoch request ≡ false) → EffectMove w kind request x
+away : (w : World) (kind : SeatKind) (request : Request) (x : Effect) → (world_after w x).devices ≡ w.devices
+    → ((node : List ℕ) (epoch : ℕ) → is_of_epoch node epoch request ≡ false) → EffectMove w kind request x
 away w kind request x e none = none_moved w kind request x e (no_call (world_after w x).devices request (reply_to x) none)
 
 pub device_moves : CallsMoveTheDevices
@@ -207,7 +238,9 @@ device_moves setup w kind (requests.SetTime at) = by (is_time at)
     by false = away w kind (requests.SetTime at) (OnStore _) refl (λ node epoch. refl)
 device_moves setup w kind (requests.Watch k from) = by (nat_lt w.store.version from) (nat_lt from (oldest (base setup) w.store.version))
   where
-    by : (a b : Bool) → EffectMove w kind (requests.Watch k from) (if a then OnStore (Says (Refused (Invalid fields.From))) else if b then OnStore (Says (Refused (Gone (oldest (base setup) w.store.version)))) else OnStore (Says (Events (told_events k from w.store.version w.log))))
+    by : (a b : Bool) → EffectMove w kind (requests.Watch k from)
+        (if a then OnStore (Says (Refused (Invalid fields.From))) else if b then OnStore
+        (Says (Refused (Gone (oldest (base setup) w.store.version)))) else OnStore (Says (Events (told_events k from w.store.version w.log))))
     by true b = away w kind (requests.Watch k from) (OnStore _) refl (λ node epoch. refl)
     by false true = away w kind (requests.Watch k from) (OnStore _) refl (λ node epoch. refl)
     by false false = away w kind (requests.Watch k from) (OnStore _) refl (λ node epoch. refl)

@@ -1,7 +1,7 @@
 -- Each effect is what was asked: an outcome of the store, an answer of the devices to a controller, or a new moment.
 use Rattle.std.proofs.Common.{refl, true≢false}
 use Rattle.std.specs.Prelude.{if◌then◌else◌, ◌≡◌, Bool, true, false, Option, Some, None, nat_lt}
-use Rattle.kube_types.specs.Keys.{AreRows}
+use Rattle.kube_objects.specs.Keys.{AreRows}
 use Rattle.call_types.specs.declared.setup.Setup.{Setup}
 use Rattle.call_types.specs.declared.request.SeatKind.{SeatKind}
 use Rattle.call_types.specs.declared.request.Request.{Request}

@@ -1,16 +1,16 @@
 -- Each outcome of the store is what was asked, past the tests of its verb: the one walk over the verbs.
 use Rattle.std.proofs.Common.{sym, refl, subst, ap, inl, inr, ◌∙◌, true≢false}
 use Rattle.std.specs.Prelude.{ℕ, ◌≡◌, Bool, true, false, List, [], ◌∷◌, Option, Some, None, is_some, unwrap_or}
-use Rattle.kube_types.specs.declared.uid.Uid.{Uid}
-use Rattle.kube_types.specs.declared.names.Field.{Field}
-use Rattle.kube_types.specs.declared.names.Rule.{Rule}
-use Rattle.kube_types.specs.declared.key.Key.{Key}
-use Rattle.kube_types.specs.declared.objects.Pod.{Pod as PodData}
-use Rattle.kube_types.specs.declared.objects.Object.{Object}
-use Rattle.kube_types.specs.declared.objects.Object.TheVariants.{Class, Node, Volume, Claim, Pod}
-use Rattle.kube_types.specs.Keys.{AreRows, meta_of, key_of, row_at}
-use Rattle.kube_types.specs.Bindings.{is_deleting, is_scheduled, is_uid}
-use Rattle.kube_types.proofs.KeyOrder.{row_at_key}
+use Rattle.kube_parts.specs.declared.uid.Uid.{Uid}
+use Rattle.kube_parts.specs.declared.names.Field.{Field}
+use Rattle.kube_parts.specs.declared.names.Rule.{Rule}
+use Rattle.kube_objects.specs.declared.key.Key.{Key}
+use Rattle.kube_objects.specs.declared.objects.Pod.{Pod as PodData}
+use Rattle.kube_objects.specs.declared.objects.Object.{Object}
+use Rattle.kube_objects.specs.declared.objects.Object.TheVariants.{Class, Node, Volume, Claim, Pod}
+use Rattle.kube_objects.specs.Keys.{AreRows, meta_of, key_of, row_at}
+use Rattle.kube_objects.specs.Bindings.{is_deleting, is_scheduled, is_uid}
+use Rattle.kube_objects.proofs.KeyOrder.{row_at_key}
 use Rattle.call_types.specs.declared.edit.Edit.{Edit}
 use Rattle.call_types.specs.declared.request.NewStatus.{NewStatus}
 use Rattle.call_types.specs.declared.request.SeatKind.{SeatKind}
@@ -22,7 +22,33 @@ use Rattle.call_types.specs.declared.reply.Reply.TheVariants.{Refused}
 use Rattle.binder_model.specs.Told.{objects_in}
 use Rattle.binder_model.specs.Store.{State, with_meta, at_version, marked_object, leaves, leaves_at_once}
 use Rattle.binder_model.specs.Edits.{edited_object}
-use Rattle.binder_model.specs.Answers.{Outcome, Says, is_user, is_other_version, is_other_uid, refuse, refuse_field, refuse_rule, refuse_stale, write_outcome, create, update, with_status, written_if_fits, update_status, edit_to, edit, delete_of, delete, get, list, pod_with, bind, finish, outcome}
+use Rattle.binder_model.specs.Answers.{
+  Outcome,
+  Says,
+  is_user,
+  is_other_version,
+  is_other_uid,
+  refuse,
+  refuse_field,
+  refuse_rule,
+  refuse_stale,
+  write_outcome,
+  create,
+  update,
+  with_status,
+  written_if_fits,
+  update_status,
+  edit_to,
+  edit,
+  delete_of,
+  delete,
+  get,
+  list,
+  pod_with,
+  bind,
+  finish,
+  outcome,
+}
 use Rattle.model_laws.proofs.Identity.{edit_kept, IsKeyKept}
 use Rattle.safety_law.specs.Invariant.Writes.{IsCreate, IsUpdate, IsEdit, IsStatus, IsMark, IsBind, IsFinish, WriteOf, IsLeaving, IsIn, FormOf}
 use Rattle.model_laws.proofs.Readings.{listed_stand}

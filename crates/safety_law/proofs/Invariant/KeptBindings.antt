@@ -1,19 +1,19 @@
 -- References, bindings and ended volumes: each part is kept where the store moves.
 use Rattle.std.proofs.Common.{sym, refl, subst, inl, inr, ap, ◌∙◌, true≢false}
 use Rattle.std.specs.Prelude.{ℕ, ◌≡◌, Bool, true, false, List, [], ◌∷◌, Option, Some, None, bytes_eq, ◌&&◌}
-use Rattle.kube_types.specs.declared.uid.Uid.{Uid}
-use Rattle.kube_types.specs.declared.key.Key.{Key}
-use Rattle.kube_types.specs.declared.parts.Kind.TheVariants as kinds
-use Rattle.kube_types.specs.declared.objects.Ref.{Ref}
-use Rattle.kube_types.specs.declared.parts.VolumePhase.TheVariants as volumes
-use Rattle.kube_types.specs.declared.parts.VolumePhase.{VolumePhase}
-use Rattle.kube_types.specs.declared.objects.Volume.{Volume as VolumeData}
-use Rattle.kube_types.specs.declared.objects.Claim.{Claim as ClaimData}
-use Rattle.kube_types.specs.declared.objects.Object.{Object}
-use Rattle.kube_types.specs.declared.objects.Object.TheVariants.{Volume, Claim}
-use Rattle.kube_types.specs.Keys.{key_of, row_at}
-use Rattle.kube_types.specs.Bindings.{is_ended, is_bound, is_completed, is_protected_volume, pv_protection, has_name, is_deleting, carries, refers_carrying, uid_carries, is_uid}
-use Rattle.kube_types.proofs.KeyOrder.{row_at_key}
+use Rattle.kube_parts.specs.declared.uid.Uid.{Uid}
+use Rattle.kube_objects.specs.declared.key.Key.{Key}
+use Rattle.kube_parts.specs.declared.parts.Kind.TheVariants as kinds
+use Rattle.kube_objects.specs.declared.objects.Ref.{Ref}
+use Rattle.kube_parts.specs.declared.parts.VolumePhase.TheVariants as volumes
+use Rattle.kube_parts.specs.declared.parts.VolumePhase.{VolumePhase}
+use Rattle.kube_objects.specs.declared.objects.Volume.{Volume as VolumeData}
+use Rattle.kube_objects.specs.declared.objects.Claim.{Claim as ClaimData}
+use Rattle.kube_objects.specs.declared.objects.Object.{Object}
+use Rattle.kube_objects.specs.declared.objects.Object.TheVariants.{Volume, Claim}
+use Rattle.kube_objects.specs.Keys.{key_of, row_at}
+use Rattle.kube_objects.specs.Bindings.{is_ended, is_bound, is_completed, is_protected_volume, pv_protection, has_name, is_deleting, carries, refers_carrying, uid_carries, is_uid}
+use Rattle.kube_objects.proofs.KeyOrder.{row_at_key}
 use Rattle.call_types.specs.declared.entry.Entry.{Entry}
 use Rattle.call_types.specs.declared.setup.Setup.{Setup}
 use Rattle.binder_model.specs.ObjectKeys.{volume_key}
@@ -139,7 +139,8 @@ module _ (setup : Setup) (e : Entry) (past : List Entry) (inv : Invariant setup 
           let at = name_of v came.old came.next.key in
           let old = step_old setup past inv v came r uid refers in
           elim (came.step.released r uid ended refers) [
-            | inl before ↦ kept_away setup e past m uid v.meta.name old (subst (IsAway (world setup past) uid) (sym at) (inv.released (key_of (Volume v)) came.old r uid came.next.there before.0 before.1))
+            | inl before ↦ kept_away setup e past m uid v.meta.name old
+                (subst (IsAway (world setup past) uid) (sym at) (inv.released (key_of (Volume v)) came.old r uid came.next.there before.0 before.1))
             | inr away ↦ kept_away setup e past m uid v.meta.name old (subst (IsAway (world setup past) uid) (sym at) away)
           ]
     ]
@@ -264,30 +265,40 @@ module _ (setup : Setup) (e : Entry) (past : List Entry) (inv : Invariant setup 
 
       volume : (u : VolumeData) → row_at (volume_key name) (world setup (e ∷ past)).store.rows ≡ Some (Volume u) → StillBound (world setup (e ∷ past)) name r
       volume u is = elim (m.row (volume_key name) (Volume u) is) [
-        | inl same ↦ let one_v : s.volume ≡ u = some_volume s.volume u (sym s.there ∙ same) in record { volume = u; there = is; bound = subst (λ (x : VolumeData). is_bound x.phase ≡ true) one_v s.bound; refers = subst (λ (x : VolumeData). x.claim_ref ≡ Some r) one_v s.refers }
+        | inl same ↦ let one_v : s.volume ≡ u = some_volume s.volume u (sym s.there ∙ same) in
+            record { volume = u; there = is; bound = subst (λ (x : VolumeData). is_bound x.phase ≡ true) one_v s.bound; refers = subst (λ (x : VolumeData). x.claim_ref ≡ Some r) one_v s.refers }
         | inr new ↦ elim (volume_came setup past u new.write) [
-          | inl began ↦ absurd (none-some _ (sym began.first.free ∙ ap (λ j. row_at j (world setup past).store.rows) (row_at_key (volume_key name) (Volume u) (world setup (e ∷ past)).store.rows is) ∙ s.there))
+          | inl began ↦ absurd (none-some _
+              (sym began.first.free ∙ ap (λ j. row_at j (world setup past).store.rows) (row_at_key (volume_key name) (Volume u) (world setup (e ∷ past)).store.rows is) ∙ s.there))
           | inr came ↦ written u is came
         ]
       ]
 
       now : (o : Object) → row_at (volume_key name) (world setup (e ∷ past)).store.rows ≡ Some o → StillBound (world setup (e ∷ past)) name r
       now o is =
-          let l = volume_keyed o s.volume (row_at_key (volume_key name) (Volume s.volume) (world setup past).store.rows s.there ∙ sym (row_at_key (volume_key name) o (world setup (e ∷ past)).store.rows is)) in
+          let l = volume_keyed o s.volume (row_at_key (volume_key name) (Volume s.volume) (world setup past).store.rows s.there ∙ sym
+          (row_at_key (volume_key name) o (world setup (e ∷ past)).store.rows is)) in
           volume l.0 (is ∙ ap (λ z. Some z) l.1)
 
   pub kept_binding : (v : VolumeData) (r : Ref) (uid : Uid) (k : Key) (c : ClaimData) → Stood setup (e ∷ past) (Volume v) → is_bound v.phase ≡ true → Refers v r uid
       → row_at k (world setup (e ∷ past)).store.rows ≡ Some (Claim c) → c.meta.uid ≡ Some uid → NamesAtMost v.meta.name c
       → StillBound (world setup (e ∷ past)) v.meta.name r
   kept_binding v r uid k c was bound refers there its most = elim (new_or setup e past m (Volume v) was) [
-    | inr new ↦ record { volume = v; there = ap (λ j. row_at j (world setup (e ∷ past)).store.rows) (sym (by_name v (kept_placed setup e past inv m v was))) ∙ new.stands; bound = bound; refers = refers.is }
+    | inr new ↦ record {
+      volume = v;
+      there =
+          ap (λ j. row_at j (world setup (e ∷ past)).store.rows) (sym (by_name v (kept_placed setup e past inv m v was))) ∙ new.stands;
+      bound = bound;
+      refers = refers.is;
+    }
     | inl before ↦
         let old = refers_old setup past inv v r uid before refers in
         kept_bound v.meta.name r uid k c refers.known old (elim (m.row k (Claim c) there) [
           | inl same ↦ inv.binding v r uid k c before bound refers same its most
           | inr new ↦ elim (claim_came setup past c new.write) [
             | inl began ↦ fresh began.room (Some uid) old (sym its ∙ began.first.uid)
-            | inr came ↦ inv.binding v r uid (key_of (Claim c)) came.old before bound refers came.next.there (sym came.next.keeps.uid ∙ its) (at_most_before v.meta.name came.old c came.next.keeps most)
+            | inr came ↦ inv.binding v r uid (key_of (Claim c)) came.old before bound refers came.next.there (sym came.next.keeps.uid ∙ its)
+                (at_most_before v.meta.name came.old c came.next.keeps most)
           ]
         ]) there its most
   ]

@@ -1,14 +1,14 @@
 -- What is known of the store by what a seat was told.
 use Rattle.std.proofs.Common.{sym, refl, subst, inl, inr, ap, ◌∙◌}
 use Rattle.std.specs.Prelude.{if◌then◌else◌, ℕ, ◌≡◌, ◌==◌, Bool, true, false, List, [], ◌∷◌, Option, Some, None}
-use Rattle.kube_types.specs.declared.uid.Uid.{Uid}
-use Rattle.kube_types.specs.declared.objects.Ref.{Ref}
-use Rattle.kube_types.specs.declared.objects.Volume.{Volume as VolumeData}
-use Rattle.kube_types.specs.declared.objects.Claim.{Claim as ClaimData}
-use Rattle.kube_types.specs.declared.objects.Object.{Object}
-use Rattle.kube_types.specs.declared.objects.Object.TheVariants.{Class, Node, Volume, Claim, Pod}
-use Rattle.kube_types.specs.Keys.{key_of, row_at}
-use Rattle.kube_types.proofs.KeyOrder.{row_at_key}
+use Rattle.kube_parts.specs.declared.uid.Uid.{Uid}
+use Rattle.kube_objects.specs.declared.objects.Ref.{Ref}
+use Rattle.kube_objects.specs.declared.objects.Volume.{Volume as VolumeData}
+use Rattle.kube_objects.specs.declared.objects.Claim.{Claim as ClaimData}
+use Rattle.kube_objects.specs.declared.objects.Object.{Object}
+use Rattle.kube_objects.specs.declared.objects.Object.TheVariants.{Class, Node, Volume, Claim, Pod}
+use Rattle.kube_objects.specs.Keys.{key_of, row_at}
+use Rattle.kube_objects.proofs.KeyOrder.{row_at_key}
 use Rattle.call_types.specs.declared.entry.Entry.{Entry}
 use Rattle.call_types.specs.declared.setup.Setup.{Setup}
 use Rattle.call_types.specs.declared.reply.Reply.{Reply}
@@ -24,7 +24,7 @@ use Rattle.safety_law.specs.Invariant.Invariant.{Invariant, IsReferred, IsOld}
 use Rattle.safety_law.specs.Invariant.Good.{Good, IsTrue}
 use Rattle.safety_law.proofs.Invariant.Came.{row_was, older}
 use Rattle.safety_law.proofs.Invariant.KeptBindings.{kept_not_there, other_stays}
-use Rattle.kube_types.specs.declared.key.Key.{Key}
+use Rattle.kube_objects.specs.declared.key.Key.{Key}
 use Rattle.call_types.specs.declared.request.Request.TheVariants as requests
 use Rattle.model_laws.specs.Stood.{Stood}
 use Rattle.binder_model.specs.World.{IsHistory}
@@ -114,7 +114,8 @@ read_gone : (setup : Setup) (past : List Entry) → Invariant setup past → (r 
     → IsGone uid (row_at (claim_key r.namespace r.name) (world setup past).store.rows) → IsNotThere (world setup past) uid
 read_gone setup past inv r uid n gone k c there its =
     let keyed : key_of (Claim c) ≡ claim_key r.namespace r.name = n.named c (row_was setup past k (Claim c) there) its in
-    let at : row_at (claim_key r.namespace r.name) (world setup past).store.rows ≡ Some (Claim c) = ap (λ j. row_at j (world setup past).store.rows) (sym keyed ∙ row_at_key k (Claim c) _ there) ∙ there in
+    let at : row_at (claim_key r.namespace r.name) (world setup past).store.rows ≡ Some (Claim c) =
+    ap (λ j. row_at j (world setup past).store.rows) (sym keyed ∙ row_at_key k (Claim c) _ there) ∙ there in
     let h : IsGone uid (Some (Claim c)) = subst (IsGone uid) at gone in
     h its
 

@@ -1,15 +1,15 @@
 -- How the store moves at one entry, whatever the entry: what it does at each key.
 use Rattle.std.proofs.Common.{sym, refl, subst, inl, inr, ap, ◌∙◌, arith}
 use Rattle.std.specs.Prelude.{◌≡◌}
-use Rattle.kube_types.specs.declared.objects.Object.{Object}
-use Rattle.kube_types.specs.Keys.{AreRows, key_of, row_at, put_row, without_row}
-use Rattle.kube_types.proofs.KeyOrder.{row_at-put_row, row_at-put_row_other, row_at-without_row, row_at-without_row_other}
+use Rattle.kube_objects.specs.declared.objects.Object.{Object}
+use Rattle.kube_objects.specs.Keys.{AreRows, key_of, row_at, put_row, without_row}
+use Rattle.kube_objects.proofs.KeyOrder.{row_at-put_row, row_at-put_row_other, row_at-without_row, row_at-without_row_other}
 use Rattle.call_types.specs.declared.setup.Setup.{Setup}
 use Rattle.call_types.specs.declared.request.SeatKind.{SeatKind}
 use Rattle.call_types.specs.declared.request.Request.{Request}
 use Rattle.binder_model.specs.Answers.{Outcome, Says, Stores, Removes, after}
 use Rattle.binder_model.specs.World.{World, Effect, OnStore, OnDevices, SetsMoment, world_after, log_after}
-use Rattle.kube_types.proofs.SameKeys.{key_tells}
+use Rattle.kube_objects.proofs.SameKeys.{key_tells}
 use Rattle.model_laws.proofs.Histories.{rows_after}
 use Rattle.safety_law.specs.Invariant.Writes.{Writes, FormOf, EffectOf}
 use Rattle.safety_law.proofs.Invariant.Effects.{effect_form}

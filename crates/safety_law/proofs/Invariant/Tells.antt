@@ -1,9 +1,9 @@
 -- What an answer tells that is no watch's stands in the store at that moment.
 use Rattle.std.proofs.Common.{subst, inl, inr}
 use Rattle.std.specs.Prelude.{◌≡◌, false, [], Some}
-use Rattle.kube_types.specs.declared.objects.Object.{Object}
-use Rattle.kube_types.specs.Keys.{key_of, row_at, put_row}
-use Rattle.kube_types.proofs.KeyOrder.{row_at-put_row}
+use Rattle.kube_objects.specs.declared.objects.Object.{Object}
+use Rattle.kube_objects.specs.Keys.{key_of, row_at, put_row}
+use Rattle.kube_objects.proofs.KeyOrder.{row_at-put_row}
 use Rattle.call_types.specs.declared.setup.Setup.{Setup}
 use Rattle.call_types.specs.declared.request.SeatKind.{SeatKind}
 use Rattle.call_types.specs.declared.request.Request.{Request}

@@ -3,8 +3,8 @@ use Rattle.std.proofs.Common.{refl, ap, sym, true≢false, arith}
 use Rattle.std.proofs.lemmas.Bool.Decides.{nat_tests}
 use Rattle.std.proofs.lemmas.Slice.Eq.{bytes_eq-Decides}
 use Rattle.std.specs.Prelude.{ℕ, ◌≡◌, true, List, Option, Some, None, bytes_eq}
-use Rattle.kube_types.specs.declared.uid.Uid.{Uid}
-use Rattle.kube_types.specs.Bindings.{is_uid}
+use Rattle.kube_parts.specs.declared.uid.Uid.{Uid}
+use Rattle.kube_objects.specs.Bindings.{is_uid}
 use Rattle.std.specs.Prelude.{is_some}
 use Rattle.binder_model.specs.Same.{same_uid}
 

@@ -1,13 +1,13 @@
 -- Whose place a written object takes, for every verb: none, as a new object, or that of an object whose key and identity it keeps.
 use Rattle.std.proofs.Common.{sym, refl, subst, inl, inr, ap, ◌∙◌, true≢false}
 use Rattle.std.specs.Prelude.{ℕ, ◌≡◌, ◌+◌, List, Option, Some, None, is_some}
-use Rattle.kube_types.specs.declared.uid.Uid.{Uid}
-use Rattle.kube_types.specs.declared.key.Key.{Key}
-use Rattle.kube_types.specs.declared.objects.Object.{Object}
-use Rattle.kube_types.specs.declared.objects.Object.TheVariants.{Class, Node, Volume, Claim, Pod}
-use Rattle.kube_types.specs.Keys.{meta_of, key_of, row_at}
-use Rattle.kube_types.specs.Bindings.{is_deleting}
-use Rattle.kube_types.proofs.KeyOrder.{row_at_key}
+use Rattle.kube_parts.specs.declared.uid.Uid.{Uid}
+use Rattle.kube_objects.specs.declared.key.Key.{Key}
+use Rattle.kube_objects.specs.declared.objects.Object.{Object}
+use Rattle.kube_objects.specs.declared.objects.Object.TheVariants.{Class, Node, Volume, Claim, Pod}
+use Rattle.kube_objects.specs.Keys.{meta_of, key_of, row_at}
+use Rattle.kube_objects.specs.Bindings.{is_deleting}
+use Rattle.kube_objects.proofs.KeyOrder.{row_at_key}
 use Rattle.call_types.specs.declared.request.NewStatus.{NewStatus}
 use Rattle.call_types.specs.declared.request.SeatKind.{SeatKind}
 use Rattle.call_types.specs.declared.request.Request.{Request}
@@ -57,7 +57,8 @@ pub status_next : (s : State) (kind : SeatKind) (key : Key) (status : NewStatus)
     → (u : IsStatus s kind key status given o) → IsNext s u.old o
 status_next s kind key status given o u =
     let v : IsVersionOf u.old (Some u.new) = subst (IsVersionOf u.old) u.fits (status_kept status u.old) in
-    subst (IsNext s u.old) (sym u.is) (next s key u.old _ u.there (key-at_version u.new _ ∙ v.1 ∙ row_at_key key u.old s.rows u.there) (kept (at_version_keeps u.old u.new _ v.0 v.2)) (version-at u.new _))
+    subst (IsNext s u.old) (sym u.is) (next s key u.old _ u.there (key-at_version u.new _ ∙ v.1 ∙ row_at_key key u.old s.rows u.there)
+    (kept (at_version_keeps u.old u.new _ v.0 v.2)) (version-at u.new _))
 
 -- a mark gives the name that was there
 marked_named : (old : Object) (n : ℕ) (moment : List ℕ) → NamesOnce old (marked_object old n moment)
@@ -83,12 +84,15 @@ marked_next s moment key given o u =
 pub bound_next : (s : State) (kind : SeatKind) (key : Key) (uid : Uid) (node : List ℕ) (o : Object) → (u : IsBind s kind key uid node o) → IsNext s (Pod u.pod) o
 bound_next s kind key uid node o u =
     let new = Pod (record u.pod { node = node }) in
-    subst (IsNext s (Pod u.pod)) (sym u.is) (next s key (Pod u.pod) _ u.there (key-at_version new _ ∙ row_at_key key (Pod u.pod) s.rows u.there) (kept (at_version_keeps (Pod u.pod) new _ refl tt)) (version-at new _))
+    subst (IsNext s (Pod u.pod)) (sym u.is)
+    (next s key (Pod u.pod) _ u.there (key-at_version new _ ∙ row_at_key key (Pod u.pod) s.rows u.there) (kept (at_version_keeps (Pod u.pod) new _ refl tt)) (version-at new _))
 
 pub finished_next : (s : State) (kind : SeatKind) (key : Key) (uid : Uid) (node : List ℕ) (stale : Option ℕ) (o : Object)
     → (u : IsFinish s kind key uid node stale o) → IsNext s (Pod u.pod) o
 finished_next s kind key uid node stale o u =
-    subst (IsNext s (Pod u.pod)) (sym u.is) (next s key (Pod u.pod) _ u.there (key-at_version (Pod u.pod) _ ∙ row_at_key key (Pod u.pod) s.rows u.there) (kept (at_version_keeps (Pod u.pod) (Pod u.pod) _ refl tt)) (version-at (Pod u.pod) _))
+    subst (IsNext s (Pod u.pod)) (sym u.is)
+    (next s key (Pod u.pod) _ u.there (key-at_version (Pod u.pod) _ ∙ row_at_key key (Pod u.pod) s.rows u.there)
+    (kept (at_version_keeps (Pod u.pod) (Pod u.pod) _ refl tt)) (version-at (Pod u.pod) _))
 
 later : (s : State) (old o : Object) → IsNext s old o → Whence s o
 later s old o n = inr (record { old = old; next = n })

@@ -4,21 +4,21 @@ use Rattle.std.proofs.lemmas.Bool.Decides.{nat_tests}
 use Rattle.std.specs.Prelude.{if◌then◌else◌, ℕ, ◌≡◌, ◌≢◌, ◌==◌, Bool, true, false, ◌&&◌, List, [], ◌∷◌, Option, Some, None, is_some, bytes_eq, unwrap_or, ◌||◌, ◌++◌}
 use Rattle.std.proofs.lemmas.Slice.Eq.{bytes_eq-Decides}
 use Rattle.plain_data.specs.Pairs.{value_at}
-use Rattle.kube_types.specs.declared.uid.Uid.{Uid}
-use Rattle.kube_types.specs.declared.names.Field.{Field}
-use Rattle.kube_types.specs.declared.key.Key.{Key}
-use Rattle.kube_types.specs.declared.parts.Kind.TheVariants as kinds
-use Rattle.kube_types.specs.declared.parts.VolumePhase.{VolumePhase}
-use Rattle.kube_types.specs.declared.parts.VolumePhase.TheVariants as volumes
-use Rattle.kube_types.specs.declared.objects.Ref.{Ref}
-use Rattle.kube_types.specs.declared.objects.Volume.{Volume as VolumeData}
-use Rattle.kube_types.specs.declared.objects.Claim.{Claim as ClaimData}
-use Rattle.kube_types.specs.declared.objects.Object.{Object}
-use Rattle.kube_types.specs.declared.objects.Object.TheVariants.{Volume, Claim, Pod}
-use Rattle.kube_types.specs.Keys.{meta_of, key_of, row_at}
-use Rattle.kube_types.specs.Bindings.{is_scheduled, has_name, pvc_protection, is_empty, is_completed, is_protected_volume, is_protected_claim, ref_uid, bind_completed}
-use Rattle.kube_types.proofs.KeyOrder.{row_at_key}
-use Rattle.kube_types.specs.declared.objects.Pod.{Pod as PodData}
+use Rattle.kube_parts.specs.declared.uid.Uid.{Uid}
+use Rattle.kube_parts.specs.declared.names.Field.{Field}
+use Rattle.kube_objects.specs.declared.key.Key.{Key}
+use Rattle.kube_parts.specs.declared.parts.Kind.TheVariants as kinds
+use Rattle.kube_parts.specs.declared.parts.VolumePhase.{VolumePhase}
+use Rattle.kube_parts.specs.declared.parts.VolumePhase.TheVariants as volumes
+use Rattle.kube_objects.specs.declared.objects.Ref.{Ref}
+use Rattle.kube_objects.specs.declared.objects.Volume.{Volume as VolumeData}
+use Rattle.kube_objects.specs.declared.objects.Claim.{Claim as ClaimData}
+use Rattle.kube_objects.specs.declared.objects.Object.{Object}
+use Rattle.kube_objects.specs.declared.objects.Object.TheVariants.{Volume, Claim, Pod}
+use Rattle.kube_objects.specs.Keys.{meta_of, key_of, row_at}
+use Rattle.kube_objects.specs.Bindings.{is_scheduled, has_name, pvc_protection, is_empty, is_completed, is_protected_volume, is_protected_claim, ref_uid, bind_completed}
+use Rattle.kube_objects.proofs.KeyOrder.{row_at_key}
+use Rattle.kube_objects.specs.declared.objects.Pod.{Pod as PodData}
 use Rattle.call_types.specs.declared.entry.Entry.{Entry}
 use Rattle.call_types.specs.declared.setup.Setup.{Setup}
 use Rattle.call_types.specs.declared.request.NewStatus.{NewStatus}
@@ -162,7 +162,8 @@ user_volume setup past a b n safe g = user_step setup past a b n safe (passes (S
 
 user_claim : (setup : Setup) (past : List Entry) (a b : ClaimData) (n : ℕ) → guard_on seats.User (Some (Claim a)) (Claim b) ≡ None
     → ClaimStep setup past a (stored_claim a b n)
-user_claim setup past a b n g = same_claim setup past a (stored_claim a b n) (ap is_some (sym (completion_same (Some (Claim a)) (Claim b) (passes (Some (Claim a)) (Claim b) g)))) (sym (claim_guards_same (Claim a) (Claim b) (passes (Some (Claim a)) (Claim b) g)))
+user_claim setup past a b n g = same_claim setup past a (stored_claim a b n) (ap is_some
+    (sym (completion_same (Some (Claim a)) (Claim b) (passes (Some (Claim a)) (Claim b) g)))) (sym (claim_guards_same (Claim a) (Claim b) (passes (Some (Claim a)) (Claim b) g)))
 
 module _ (setup : Setup) (past mine : List Entry) (inv : Invariant setup past) (known : Known setup past mine) where
   update_volume : (kind : SeatKind) (a b : VolumeData) (given : Option ℕ) (n : ℕ) → IsSafe a → Licensed kind mine (requests.Update (Volume b) given)
@@ -170,13 +171,15 @@ module _ (setup : Setup) (past mine : List Entry) (inv : Invariant setup past) (
       → row_at (key_of (Volume b)) (world setup past).store.rows ≡ Some (Volume a) → VolumeStep setup past a (stored_volume a b n)
   update_volume seats.User a b given n safe l g v is = user_volume setup past a b n safe g
   update_volume seats.Binder a b given n safe l g v is =
-      binder_volume_step setup past mine inv known a b n (ref_uid b.claim_ref) safe (at_volume setup past mine inv known a (key_of (Volume b)) given (VolumeMay (binder_volume (ref_uid b.claim_ref)) mine b) refl l.1 is v)
+      binder_volume_step setup past mine inv known a b n (ref_uid b.claim_ref) safe
+      (at_volume setup past mine inv known a (key_of (Volume b)) given (VolumeMay (binder_volume (ref_uid b.claim_ref)) mine b) refl l.1 is v)
   update_volume seats.Ops a b given n safe l g v is = absurd l.1
   update_volume seats.Scheduler a b given n safe l g v is =
       take_step setup past mine known.told a b n safe (at_volume setup past mine inv known a (key_of (Volume b)) given (VolumeMay Takes mine b) refl l.1 is v)
   update_volume seats.ClaimProtect a b given n safe l g v is = absurd l.1
   update_volume seats.VolumeProtect a b given n safe l g v is =
-      volume_guard_step setup past mine a b n (is_protected_volume b) safe (at_volume setup past mine inv known a (key_of (Volume b)) given (VolumeMay (volume_guard (is_protected_volume b)) mine b) refl l.1 is v)
+      volume_guard_step setup past mine a b n (is_protected_volume b) safe
+      (at_volume setup past mine inv known a (key_of (Volume b)) given (VolumeMay (volume_guard (is_protected_volume b)) mine b) refl l.1 is v)
   update_volume seats.Agent a b given n safe l g v is = absurd l.1
 
   update_claim : (kind : SeatKind) (a b : ClaimData) (given : Option ℕ) (n : ℕ) → Licensed kind mine (requests.Update (Claim b) given)
@@ -190,7 +193,8 @@ module _ (setup : Setup) (past mine : List Entry) (inv : Invariant setup past) (
   update_claim seats.Scheduler a b given n l g v is =
       select_step setup past mine a b n (at_claim setup past mine inv known a (key_of (Claim b)) given (λ o. MaySelectNode mine o b) refl l.1 is v)
   update_claim seats.ClaimProtect a b given n l g v is =
-      claim_guard_step setup past mine known a b n (is_protected_claim b) refl (at_claim setup past mine inv known a (key_of (Claim b)) given (ClaimMay (claim_guard (is_protected_claim b)) mine b) refl l.1 is v)
+      claim_guard_step setup past mine known a b n (is_protected_claim b) refl
+      (at_claim setup past mine inv known a (key_of (Claim b)) given (ClaimMay (claim_guard (is_protected_claim b)) mine b) refl l.1 is v)
   update_claim seats.VolumeProtect a b given n l g v is = absurd l.1
   update_claim seats.Agent a b given n l g v is = absurd l.1
 
@@ -361,7 +365,8 @@ user_start : (setup : Setup) (past : List Entry) (lacks : Bool) (default : Optio
     → create_fault lacks new ≡ None → guard_on seats.User None new ≡ None → KindStart setup past (created_object default new n moment)
 unfolding created_object admitted_object without_status with_meta
 user_start setup past lacks default (Volume v) n moment fault g = created_volume setup past lacks default v n moment fault (λ r uid h. no_uid_given v r uid (passes None (Volume v) g) h)
-user_start setup past lacks default (Claim c) n moment fault g = record { fresh = no_value (value_at bind_completed c.meta.annotations) (completion_same None (Claim c) (passes None (Claim c) g)); guarded = has_given pvc_protection c.meta.finalizers }
+user_start setup past lacks default (Claim c) n moment fault g =
+    record { fresh = no_value (value_at bind_completed c.meta.annotations) (completion_same None (Claim c) (passes None (Claim c) g)); guarded = has_given pvc_protection c.meta.finalizers }
 user_start setup past lacks default new n moment fault g = tt
 
 -- the reference of a provisioned volume names a claim that was told
@@ -406,6 +411,18 @@ made setup past mine room inv known kind (requests.Update new given) l o f = upd
 made setup past mine room inv known kind (requests.UpdateStatus key status given) l o f = status_made setup past mine inv known kind key status given o l f
 made setup past mine room inv known kind (requests.Edit key change) l o f = edit_made setup past mine inv kind key change o l f
 made setup past mine room inv known kind (requests.Delete key given) l o f = mark_made setup past inv key given o f
-made setup past mine room inv known kind (requests.BindPod key uid node) l o f = inr (record { old = Pod f.pod; next = bound_next (world setup past).store kind key uid node o f; step = subst (KindStep setup past (Pod f.pod)) (sym f.is) (bind_step_pod setup past f.pod node _ f.unscheduled) })
-made setup past mine room inv known kind (requests.FinishPod key uid node epoch) l o f = inr (record { old = Pod f.pod; next = finished_next (world setup past).store kind key uid node _ o f; step = subst (KindStep setup past (Pod f.pod)) (sym f.is) (finish_step_pod setup past f.pod _) })
+made setup past mine room inv known kind (requests.BindPod key uid node) l o f =
+    inr (record {
+      old = Pod f.pod;
+      next = bound_next (world setup past).store kind key uid node o f;
+      step =
+          subst (KindStep setup past (Pod f.pod)) (sym f.is) (bind_step_pod setup past f.pod node _ f.unscheduled);
+    })
+made setup past mine room inv known kind (requests.FinishPod key uid node epoch) l o f =
+    inr (record {
+      old = Pod f.pod;
+      next = finished_next (world setup past).store kind key uid node _ o f;
+      step =
+          subst (KindStep setup past (Pod f.pod)) (sym f.is) (finish_step_pod setup past f.pod _);
+    })
 made setup past mine room inv known kind request l o f = absurd f

@@ -5,13 +5,13 @@ use Rattle.std.proofs.lemmas.Cmp.{nat_list_cmp_total}
 use Rattle.plain_data.specs.Pairs.{Pair, value_at, put_pair, without_key}
 use Rattle.plain_data.specs.Pairs as pairs
 use Rattle.plain_data.proofs.RowLookups.{find-put_other, find-without_other}
-use Rattle.kube_types.specs.declared.parts.Kind.TheVariants as kinds
-use Rattle.kube_types.specs.declared.objects.Meta.{Meta}
-use Rattle.kube_types.specs.declared.objects.Volume.{Volume as VolumeData}
-use Rattle.kube_types.specs.declared.objects.Claim.{Claim as ClaimData}
-use Rattle.kube_types.specs.declared.objects.Object.TheVariants.{Claim}
-use Rattle.kube_types.specs.Keys.{key_of}
-use Rattle.kube_types.specs.Bindings.{is_completed, bind_completed, bound_by_controller, selected_node, pvc_protection, is_empty, is_protected_claim}
+use Rattle.kube_parts.specs.declared.parts.Kind.TheVariants as kinds
+use Rattle.kube_objects.specs.declared.objects.Meta.{Meta}
+use Rattle.kube_objects.specs.declared.objects.Volume.{Volume as VolumeData}
+use Rattle.kube_objects.specs.declared.objects.Claim.{Claim as ClaimData}
+use Rattle.kube_objects.specs.declared.objects.Object.TheVariants.{Claim}
+use Rattle.kube_objects.specs.Keys.{key_of}
+use Rattle.kube_objects.specs.Bindings.{is_completed, bind_completed, bound_by_controller, selected_node, pvc_protection, is_empty, is_protected_claim}
 use Rattle.call_types.specs.declared.entry.Entry.{Entry}
 use Rattle.call_types.specs.declared.setup.Setup.{Setup}
 use Rattle.binder_model.specs.BindWrites.{completed_with}
@@ -30,7 +30,13 @@ use Rattle.model_laws.proofs.Identity.{placed_same}
 
 -- what an update and a status leave in the store
 abbrev pub stored_claim : ClaimData → ClaimData → ℕ → ClaimData
-stored_claim o new n = record new { phase = o.phase; got_modes = o.got_modes; got = o.got; meta = record new.meta { uid = o.meta.uid; version = n; created = o.meta.created; deleted = o.meta.deleted } }
+stored_claim o new n = record new {
+  phase = o.phase;
+  got_modes = o.got_modes;
+  got = o.got;
+  meta = record new.meta
+      { uid = o.meta.uid; version = n; created = o.meta.created; deleted = o.meta.deleted };
+}
 
 -- what keeps the mark of completion
 pub same_claim : (setup : Setup) (past : List Entry) (o new : ClaimData) → is_completed new ≡ is_completed o
@@ -82,10 +88,14 @@ clear_keeps ps = ap (λ x. option_map (λ (p : Pair). p.1) x) (find-without_othe
 
 -- the rows SelectedNode
 pub select_step : (setup : Setup) (past mine : List Entry) (o new : ClaimData) (n : ℕ) → MaySelectNode mine o new → ClaimStep setup past o (stored_claim o new n)
-select_step setup past mine o new n row = same_claim setup past o (stored_claim o new n) (ap (λ (x : ClaimData). is_completed x) row.change ∙ ap is_some (select_keeps row.node.meta.name o.meta.annotations)) (ap (λ (x : ClaimData). is_protected_claim x) row.change)
+select_step setup past mine o new n row =
+    same_claim setup past o (stored_claim o new n)
+    (ap (λ (x : ClaimData). is_completed x) row.change ∙ ap is_some (select_keeps row.node.meta.name o.meta.annotations)) (ap (λ (x : ClaimData). is_protected_claim x) row.change)
 
 pub clear_step : (setup : Setup) (past mine : List Entry) (o new : ClaimData) (n : ℕ) → MayClearNode mine o new → ClaimStep setup past o (stored_claim o new n)
-clear_step setup past mine o new n row = same_claim setup past o (stored_claim o new n) (ap (λ (x : ClaimData). is_completed x) row.change ∙ ap is_some (clear_keeps o.meta.annotations)) (ap (λ (x : ClaimData). is_protected_claim x) row.change)
+clear_step setup past mine o new n row =
+    same_claim setup past o (stored_claim o new n) (ap (λ (x : ClaimData). is_completed x) row.change ∙ ap is_some (clear_keeps o.meta.annotations))
+    (ap (λ (x : ClaimData). is_protected_claim x) row.change)
 
 -- the rows AddGuard and DropClaimGuard
 pub guard_claim_step : (setup : Setup) (past : List Entry) (o new : ClaimData) (n : ℕ) → is_protected_claim new ≡ true → GuardsClaim o new

@@ -1,13 +1,13 @@
 -- Data are erased only for what is ended with policy Delete: the fifth part.
 use Rattle.std.proofs.Common.{sym, refl, subst, inl, inr, ap, ◌∙◌, true≢false}
 use Rattle.std.specs.Prelude.{if◌then◌else◌, ◌≡◌, Bool, true, false, List, [], ◌∷◌, Option, Some, None, is_some}
-use Rattle.kube_types.specs.declared.uid.Uid.{Uid}
-use Rattle.kube_types.specs.declared.objects.DataId.{DataId}
-use Rattle.kube_types.specs.declared.objects.Ref.{Ref}
-use Rattle.kube_types.specs.declared.objects.Volume.{Volume as VolumeData}
-use Rattle.kube_types.specs.declared.objects.Object.TheVariants.{Volume}
-use Rattle.kube_types.specs.Bindings.{ref_uid}
-use Rattle.kube_types.specs.Sources.{data_id_of}
+use Rattle.kube_parts.specs.declared.uid.Uid.{Uid}
+use Rattle.kube_objects.specs.declared.objects.DataId.{DataId}
+use Rattle.kube_objects.specs.declared.objects.Ref.{Ref}
+use Rattle.kube_objects.specs.declared.objects.Volume.{Volume as VolumeData}
+use Rattle.kube_objects.specs.declared.objects.Object.TheVariants.{Volume}
+use Rattle.kube_objects.specs.Bindings.{ref_uid}
+use Rattle.kube_objects.specs.Sources.{data_id_of}
 use Rattle.call_types.specs.declared.entry.Entry.{Entry}
 use Rattle.call_types.specs.declared.setup.Setup.{Setup}
 use Rattle.call_types.specs.declared.request.SeatKind.{SeatKind}
@@ -73,20 +73,20 @@ erases_ended setup past mine inv true_of id row =
     }
 
 -- an Erase is the reclaimer's
-erase_row : (setup : Setup) (past mine : List Entry) → Invariant setup past → IsTrue setup past mine → (kind : SeatKind) (id : DataId)
-    → Licensed kind mine (requests.Erase id) → reply_to (effect setup (world setup past) kind (requests.Erase id)) ≡ replies.Erased true
+erase_row : (setup : Setup) (past mine : List Entry) → Invariant setup past → IsTrue setup past mine → (kind : SeatKind) (id : DataId) (removed : Bool)
+    → Licensed kind mine (requests.Erase id) → reply_to (effect setup (world setup past) kind (requests.Erase id)) ≡ replies.Erased removed
     → ErasesEnded (world setup past).store.rows mine id
 unfolding effect on_devices device_answer reply_to reply_of
-erase_row setup past mine inv true_of seats.User id l is = absurd (true≢false (sym (ap is_erased is)))
+erase_row setup past mine inv true_of seats.User id removed l is = absurd (true≢false (sym (ap is_erased is)))
   where
     is_erased : Reply → Bool
     is_erased (replies.Erased removed) = true
     is_erased reply = false
-erase_row setup past mine inv true_of seats.Ops id l is = erases_ended setup past mine inv true_of id l.1
-erase_row setup past mine inv true_of kind id l is = absurd l.1
+erase_row setup past mine inv true_of seats.Ops id removed l is = erases_ended setup past mine inv true_of id l.1
+erase_row setup past mine inv true_of kind id removed l is = absurd l.1
 
 pub erases_well : (setup : Setup) (past mine : List Entry) → Invariant setup past → IsTrue setup past mine
     → (kind : SeatKind) (request : Request) (reply : Reply) → Licensed kind mine request
     → reply ≡ reply_to (effect setup (world setup past) kind request) → ErasesWell (world setup past).store.rows mine request reply
-erases_well setup past mine inv true_of kind (requests.Erase id) (replies.Erased true) l is = erase_row setup past mine inv true_of kind id l (sym is)
+erases_well setup past mine inv true_of kind (requests.Erase id) (replies.Erased removed) l is = erase_row setup past mine inv true_of kind id removed l (sym is)
 erases_well setup past mine inv true_of kind request reply l is = tt

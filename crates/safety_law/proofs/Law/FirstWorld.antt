@@ -4,24 +4,39 @@ use Rattle.std.proofs.lemmas.Bool.{and_parts, or_parts, not-false, le-leb, lt-lt
 use Rattle.std.proofs.lemmas.Slice.Eq.{bytes_eq-Decides}
 use Rattle.std.specs.Prelude.{if◌then◌else◌, ℕ, ◌≡◌, ◌<◌, ◌≤◌, nat_lt, nat_le, Bool, true, false, not, ◌&&◌, ◌||◌, List, [], ◌∷◌, Option, Some, bytes_eq, is_some}
 use Rattle.std.specs.List.{list_any}
-use Rattle.kube_types.specs.declared.uid.Uid.{Uid}
-use Rattle.kube_types.specs.declared.key.Key.{Key}
-use Rattle.kube_types.specs.declared.parts.Kind.TheVariants as kinds
-use Rattle.kube_types.specs.declared.objects.Ref.{Ref}
-use Rattle.kube_types.specs.declared.objects.Volume.{Volume as VolumeData}
-use Rattle.kube_types.specs.declared.objects.Claim.{Claim as ClaimData}
-use Rattle.kube_types.specs.declared.objects.Object.{Object}
-use Rattle.kube_types.specs.declared.objects.Object.TheVariants.{Class, Node, Volume, Claim, Pod}
-use Rattle.kube_types.specs.Keys.{meta_of, key_of, kind_index, row_at, put_row}
-use Rattle.kube_types.specs.Uids.{uid_of_serial}
-use Rattle.kube_types.specs.Bindings.{pv_protection, pvc_protection, is_empty, is_bound, is_ended, is_completed, is_protected_volume, is_protected_claim, carries, names_claim, ref_uid}
-use Rattle.kube_types.proofs.KeyOrder.{row_at-put_row, row_at-put_row_other}
+use Rattle.kube_parts.specs.declared.uid.Uid.{Uid}
+use Rattle.kube_objects.specs.declared.key.Key.{Key}
+use Rattle.kube_parts.specs.declared.parts.Kind.TheVariants as kinds
+use Rattle.kube_objects.specs.declared.objects.Ref.{Ref}
+use Rattle.kube_objects.specs.declared.objects.Volume.{Volume as VolumeData}
+use Rattle.kube_objects.specs.declared.objects.Claim.{Claim as ClaimData}
+use Rattle.kube_objects.specs.declared.objects.Object.{Object}
+use Rattle.kube_objects.specs.declared.objects.Object.TheVariants.{Class, Node, Volume, Claim, Pod}
+use Rattle.kube_objects.specs.Keys.{meta_of, key_of, kind_index, row_at, put_row}
+use Rattle.kube_parts.specs.Uids.{uid_of_serial}
+use Rattle.kube_objects.specs.Bindings.{pv_protection, pvc_protection, is_empty, is_bound, is_ended, is_completed, is_protected_volume, is_protected_claim, carries, names_claim, ref_uid}
+use Rattle.kube_objects.proofs.KeyOrder.{row_at-put_row, row_at-put_row_other}
 use Rattle.call_types.specs.declared.setup.Setup.{Setup}
-use Rattle.binder_model.specs.Imports.{most_serials, serial_or_zero, binds_claim, is_imported_as_lost, imported_phase, imported_meta, imported_object, is_dropped, rows_of_imports, shares_uid, names_another, refers_to_another, is_ended_for, ImportsPass}
+use Rattle.binder_model.specs.Imports.{
+  most_serials,
+  serial_or_zero,
+  binds_claim,
+  is_imported_as_lost,
+  imported_phase,
+  imported_meta,
+  imported_object,
+  is_dropped,
+  rows_of_imports,
+  shares_uid,
+  names_another,
+  refers_to_another,
+  is_ended_for,
+  ImportsPass,
+}
 use Rattle.binder_model.specs.Store.{with_finalizer}
 use Rattle.binder_model.specs.World.{world, base}
 use Rattle.binder_model.specs.Safe.{is_lost_import, was_imported_as_lost}
-use Rattle.kube_types.proofs.SameKeys.{key_tells}
+use Rattle.kube_objects.proofs.SameKeys.{key_tells}
 use Rattle.model_laws.proofs.Histories.{import_rows_rise}
 use Rattle.safety_law.specs.Invariant.Writes.{IsIn}
 use Rattle.safety_law.proofs.Invariant.Objects.{same_volume, same_claim}
@@ -182,7 +197,8 @@ module _ (setup : Setup) (pass : ImportsPass setup.imports) where
         old = serial_old (base setup) (Some uid) (omega (arith, low, same));
         named = λ c there its.
             let j = claim_import setup.imports c (stands_import (Claim c) there) in
-            let names = and_parts (bytes_eq r.namespace j.origin.meta.namespace) (bytes_eq r.name j.origin.meta.name) (first_named i.origin j.origin r uid i.among j.among is h.known (ap (λ (x : ClaimData). x.meta.uid) (sym j.is) ∙ its)) in
+            let names = and_parts (bytes_eq r.namespace j.origin.meta.namespace) (bytes_eq r.name j.origin.meta.name)
+            (first_named i.origin j.origin r uid i.among j.among is h.known (ap (λ (x : ClaimData). x.meta.uid) (sym j.is) ∙ its)) in
             let placed : c.meta.namespace ≡ r.namespace = ap (λ (x : ClaimData). x.meta.namespace) j.is ∙ sym (same_text r.namespace j.origin.meta.namespace names.0) in
             let called : c.meta.name ≡ r.name = ap (λ (x : ClaimData). x.meta.name) j.is ∙ sym (same_text r.name j.origin.meta.name names.1) in
             λ n. record { kind = kinds.PersistentVolumeClaim; namespace = placed n; name = called n };
@@ -246,7 +262,8 @@ module _ (setup : Setup) (pass : ImportsPass setup.imports) where
   first_completed c was done found =
       let i = claim_import setup.imports c (stands_import (Claim c) was) in
       let uid : c.meta.uid ≡ i.origin.meta.uid = ap (λ (x : ClaimData). x.meta.uid) i.is in
-      let none : (shares_uid i.origin.meta.uid c.meta.uid && is_imported_as_lost setup.imports i.origin) ≡ false = none_of (is_lost_import setup.imports c.meta.uid) setup.imports (Claim i.origin) i.among found in
+      let none : (shares_uid i.origin.meta.uid c.meta.uid && is_imported_as_lost setup.imports i.origin) ≡ false =
+      none_of (is_lost_import setup.imports c.meta.uid) setup.imports (Claim i.origin) i.among found in
       let not_lost = and_false _ _ none (shares_same i.origin.meta.uid c.meta.uid (each_sound setup.imports pass (Claim i.origin) i.among).uid uid) in
       let completed : is_completed i.origin ≡ true = ap (λ (x : ClaimData). is_completed x) (sym i.is) ∙ done in
       let some = some_of (binds_claim i.origin) setup.imports (not-false _ (and_false _ _ not_lost completed)) in

@@ -1,17 +1,17 @@
 -- No entry that writes phase Lost is answered Done.
 use Rattle.std.proofs.Common.{sym, refl, subst, inl, inr, ap, ◌∙◌, true≢false}
 use Rattle.std.specs.Prelude.{ℕ, ◌≡◌, Bool, true, false, List, [], ◌∷◌, Option, Some, is_some}
-use Rattle.kube_types.specs.declared.uid.Uid.{Uid}
-use Rattle.kube_types.specs.declared.key.Key.{Key}
-use Rattle.kube_types.specs.declared.parts.ClaimPhase.TheVariants as claims
-use Rattle.kube_types.specs.declared.parts.ClaimPhase.{ClaimPhase}
-use Rattle.kube_types.specs.declared.parts.Modes.{Modes}
-use Rattle.kube_types.specs.declared.objects.Amount.{Amount}
-use Rattle.kube_types.specs.declared.objects.Claim.{Claim as ClaimData}
-use Rattle.kube_types.specs.declared.objects.Object.{Object}
-use Rattle.kube_types.specs.declared.objects.Object.TheVariants.{Class, Node, Volume, Claim, Pod}
-use Rattle.kube_types.specs.Keys.{meta_of, key_of, row_at}
-use Rattle.kube_types.specs.Bindings.{is_completed, ref_uid}
+use Rattle.kube_parts.specs.declared.uid.Uid.{Uid}
+use Rattle.kube_objects.specs.declared.key.Key.{Key}
+use Rattle.kube_parts.specs.declared.parts.ClaimPhase.TheVariants as claims
+use Rattle.kube_parts.specs.declared.parts.ClaimPhase.{ClaimPhase}
+use Rattle.kube_parts.specs.declared.parts.Modes.{Modes}
+use Rattle.kube_objects.specs.declared.objects.Amount.{Amount}
+use Rattle.kube_objects.specs.declared.objects.Claim.{Claim as ClaimData}
+use Rattle.kube_objects.specs.declared.objects.Object.{Object}
+use Rattle.kube_objects.specs.declared.objects.Object.TheVariants.{Class, Node, Volume, Claim, Pod}
+use Rattle.kube_objects.specs.Keys.{meta_of, key_of, row_at}
+use Rattle.kube_objects.specs.Bindings.{is_completed, ref_uid}
 use Rattle.call_types.specs.declared.entry.Entry.{Entry}
 use Rattle.call_types.specs.declared.setup.Setup.{Setup}
 use Rattle.call_types.specs.declared.request.NewStatus.{NewStatus}
@@ -48,14 +48,14 @@ use Rattle.binder_model.specs.Safe.{was_imported_as_lost}
 use Rattle.safety_law.specs.Invariant.Writes.{IsStatus}
 use Rattle.safety_law.proofs.Invariant.Whence.{status_next}
 use Rattle.std.proofs.lemmas.Option.{none-some}
-use Rattle.kube_types.specs.Keys.{AreRows}
+use Rattle.kube_objects.specs.Keys.{AreRows}
 use Rattle.call_types.specs.declared.request.Request.{Request}
 use Rattle.binder_model.specs.Answers.{Says, Stores, Removes, after}
 use Rattle.binder_model.specs.World.{Effect, OnStore, OnDevices, SetsMoment, world_after}
 use Rattle.model_laws.proofs.Replies.{done_writes_or_deletes_again}
 use Rattle.safety_law.specs.Invariant.Writes.{EffectOf}
 use Rattle.safety_law.proofs.Invariant.Effects.{effect_form}
-use Rattle.kube_types.specs.declared.objects.Volume.{Volume as VolumeData}
+use Rattle.kube_objects.specs.declared.objects.Volume.{Volume as VolumeData}
 use Rattle.model_laws.specs.Stood.{Stood}
 use Rattle.safety_law.proofs.Invariant.Came.{old_stood}
 
@@ -83,7 +83,14 @@ here_before setup e past g u name c was its h = elim (g.1.row h.key (Claim h.cla
   | inl there ↦ record { key = h.key; claim = h.claim; there = there; its = h.its; most = h.most }
   | inr new ↦ elim (claim_came setup past h.claim new.write) [
     | inl began ↦ fresh began.room c.meta.uid (old_stood setup past (Claim c) was) (its ∙ sym h.its ∙ began.first.uid)
-    | inr came ↦ record { key = key_of (Claim h.claim); claim = came.old; there = came.next.there; its = sym came.next.keeps.uid ∙ h.its; most = at_most_before name came.old h.claim came.next.keeps h.most }
+    | inr came ↦ record {
+      key = key_of (Claim h.claim);
+      claim = came.old;
+      there = came.next.there;
+      its = sym came.next.keeps.uid ∙ h.its;
+      most =
+          at_most_before name came.old h.claim came.next.keeps h.most;
+    }
   ]
 ]
 
@@ -119,7 +126,8 @@ not_lost setup (e ∷ past) g seat a u known lost here h = by (not_lost setup pa
         let c = carried b.volume t.0 b.carries in
         let one_u : Some c.uid ≡ Some u = sym c.its ∙ its in
         let named = (inv.placed b.volume b.was).titled in
-        let follows : d.claim.volume_name ≡ b.volume.meta.name = elim (inv.later (Claim t.0) d.key (Claim d.claim) t.1 d.there (d.its ∙ sym its)).keeps.named [ inl none ↦ absurd (named (sym b.names ∙ none)) | inr same ↦ same ∙ b.names ] in
+        let follows : d.claim.volume_name ≡ b.volume.meta.name =
+        elim (inv.later (Claim t.0) d.key (Claim d.claim) t.1 d.there (d.its ∙ sym its)).keeps.named [ inl none ↦ absurd (named (sym b.names ∙ none)) | inr same ↦ same ∙ b.names ] in
         let name : a.volume_name ≡ b.volume.meta.name = elim d.most [ inl none ↦ absurd (named (sym follows ∙ none)) | inr is ↦ sym is ∙ follows ] in
         let s = inv.binding b.volume c.reference c.uid d.key d.claim b.was b.bound c.refers d.there (d.its ∙ sym one_u) (inr follows) in
         let there : row_at (volume_key a.volume_name) (world setup past).store.rows ≡ Some (Volume s.volume) = ap (λ n. row_at (volume_key n) (world setup past).store.rows) name ∙ s.there in
@@ -185,7 +193,8 @@ no_lost : (setup : Setup) (past : List Entry) → Good setup past
 no_lost setup past g seat seats.User key modes amount given l c a there v lost = absurd (true≢false c)
 no_lost setup past g seat seats.Binder key modes amount given l c a there v lost =
     let inv = invariant_of setup past g in
-    let row : MayLose (own seat past) a modes amount = at_claim setup past (own seat past) inv (known setup past g seat) a key given (ClaimPhaseMay Loses (own seat past) modes amount) l.1.0 l.1.1 there v in
+    let row : MayLose (own seat past) a modes amount =
+    at_claim setup past (own seat past) inv (known setup past g seat) a key given (ClaimPhaseMay Loses (own seat past) modes amount) l.1.0 l.1.1 there v in
     let b = inv.completed key a there row.completed lost in
     let u = known_uid a.meta.uid (inv.has (Claim a) (row_was setup past key (Claim a) there)) in
     elim row.why [
@@ -201,12 +210,14 @@ lost_is_never_done setup e past run key modes amount given o asked lost done =
     let start = first_world_is_good setup run.imports in
     let short = room_for setup start (e ∷ past) run.short in
     let g = run_good setup start.invariant past (omega (arith, short)) run.run.0 in
-    let reply : reply_to (effect setup (world setup past) e.kind (requests.UpdateStatus key status given)) ≡ Done o = ap (λ x. reply_to (effect setup (world setup past) e.kind x)) (sym asked) ∙ sym run.run.1 ∙ done in
+    let reply : reply_to (effect setup (world setup past) e.kind (requests.UpdateStatus key status given)) ≡ Done o =
+    ap (λ x. reply_to (effect setup (world setup past) e.kind x)) (sym asked) ∙ sym run.run.1 ∙ done in
     let u = status_done setup (world setup past) e.kind key status given o (invariant_of setup past g).order reply in
     let a = claim_on claims.Lost modes amount u.old (ap is_some u.fits) in
     let next = status_next (world setup past).store e.kind key status given o u in
     let same : (meta_of o).uid ≡ a.0.meta.uid = next.keeps.uid ∙ ap (λ x. (meta_of x).uid) a.1 in
-    no_lost setup past g e.seat e.kind key modes amount given (subst (Licensed e.kind (own e.seat past)) asked run.run.2) u.controller a.0 (u.there ∙ ap (λ (x : Object). Some x) a.1) (ap (λ (x : Object). is_other_version given (meta_of x).version) (sym a.1) ∙ u.version) (ap (was_imported_as_lost setup) (sym same) ∙ lost)
+    no_lost setup past g e.seat e.kind key modes amount given (subst (Licensed e.kind (own e.seat past)) asked run.run.2) u.controller a.0
+    (u.there ∙ ap (λ (x : Object). Some x) a.1) (ap (λ (x : Object). is_other_version given (meta_of x).version) (sym a.1) ∙ u.version) (ap (was_imported_as_lost setup) (sym same) ∙ lost)
 
 -- each BindPod that was answered Done has the evidence of its row
 
@@ -224,5 +235,6 @@ bind_row setup w mine kind key uid node l e = absurd l.1
 
 pub binds_have_evidence : BindsHaveEvidence
 binds_have_evidence setup e past run key uid node o asked done =
-    let reply : reply_to (effect setup (world setup past) e.kind (requests.BindPod key uid node)) ≡ Done o = ap (λ x. reply_to (effect setup (world setup past) e.kind x)) (sym asked) ∙ sym run.run.1 ∙ done in
+    let reply : reply_to (effect setup (world setup past) e.kind (requests.BindPod key uid node)) ≡ Done o =
+    ap (λ x. reply_to (effect setup (world setup past) e.kind x)) (sym asked) ∙ sym run.run.1 ∙ done in
     bind_row setup (world setup past) (own e.seat past) e.kind key uid node (subst (Licensed e.kind (own e.seat past)) asked run.run.2) (ap is_done reply)

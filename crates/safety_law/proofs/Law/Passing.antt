@@ -4,11 +4,11 @@ use Rattle.std.proofs.lemmas.Bool.{or_parts}
 use Rattle.std.proofs.lemmas.Bool.Decides.{nat_tests}
 use Rattle.std.specs.Prelude.{◌≡◌, ◌≤◌, Bool, true, false, ◌||◌, List, [], ◌∷◌, ◌++◌, Option, Some, None, is_some, is_none}
 use Rattle.std.specs.List.{list_any}
-use Rattle.kube_types.specs.declared.uid.Uid.{Uid}
-use Rattle.kube_types.specs.declared.objects.Object.{Object}
-use Rattle.kube_types.specs.Keys.{meta_of, key_of, same_key}
-use Rattle.kube_types.specs.Bindings.{ref_uid, is_uid}
-use Rattle.kube_types.proofs.SameKeys.{same_key-Decides}
+use Rattle.kube_parts.specs.declared.uid.Uid.{Uid}
+use Rattle.kube_objects.specs.declared.objects.Object.{Object}
+use Rattle.kube_objects.specs.Keys.{meta_of, key_of, same_key}
+use Rattle.kube_objects.specs.Bindings.{ref_uid, is_uid}
+use Rattle.kube_objects.proofs.SameKeys.{same_key-Decides}
 use Rattle.binder_model.specs.Fields.{create_fault}
 use Rattle.binder_model.specs.Imports.{most_imported, serial_or_zero, reference_of, shares_uid, refers_to_another, is_ended_for, holds_of_pair, import_fault, PassAfter, ImportsPass}
 use Rattle.std.proofs.lemmas.List.{append_assoc, append-nil}

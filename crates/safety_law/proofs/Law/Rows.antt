@@ -2,14 +2,14 @@
 use Rattle.std.proofs.Common.{sym, refl, subst, inl, inr, ap, ◌∙◌, true≢false}
 use Rattle.std.specs.Prelude.{if◌then◌else◌, ℕ, ◌≡◌, ◌⊎◌, Bool, true, false, List, Option, Some, None, is_some, is_none, unwrap_or}
 use Rattle.plain_data.specs.Pairs.{without_key}
-use Rattle.kube_types.specs.declared.uid.Uid.{Uid}
-use Rattle.kube_types.specs.declared.parts.VolumePhase.{VolumePhase}
-use Rattle.kube_types.specs.declared.parts.VolumePhase.TheVariants as volumes
-use Rattle.kube_types.specs.declared.objects.Meta.{Meta}
-use Rattle.kube_types.specs.declared.objects.Ref.{Ref}
-use Rattle.kube_types.specs.declared.objects.Volume.{Volume as VolumeData}
-use Rattle.kube_types.specs.declared.objects.Claim.{Claim as ClaimData}
-use Rattle.kube_types.specs.Bindings.{is_ended, is_bound, is_delete, is_protected_volume, has_name, has_key, pv_protection, bound_by_controller, ref_uid}
+use Rattle.kube_parts.specs.declared.uid.Uid.{Uid}
+use Rattle.kube_parts.specs.declared.parts.VolumePhase.{VolumePhase}
+use Rattle.kube_parts.specs.declared.parts.VolumePhase.TheVariants as volumes
+use Rattle.kube_objects.specs.declared.objects.Meta.{Meta}
+use Rattle.kube_objects.specs.declared.objects.Ref.{Ref}
+use Rattle.kube_objects.specs.declared.objects.Volume.{Volume as VolumeData}
+use Rattle.kube_objects.specs.declared.objects.Claim.{Claim as ClaimData}
+use Rattle.kube_objects.specs.Bindings.{is_ended, is_bound, is_delete, is_protected_volume, has_name, has_key, pv_protection, bound_by_controller, ref_uid}
 use Rattle.call_types.specs.declared.entry.Entry.{Entry}
 use Rattle.call_types.specs.declared.setup.Setup.{Setup}
 use Rattle.binder_model.specs.BindWrites.{taken_for, unbound_volume, ref_to, annotated_meta_if, without_uid}
@@ -104,7 +104,8 @@ is_unbound : (o : VolumeData) → IsUnbound o (unbound_volume o)
 unfolding unbound_volume
 is_unbound o = by (has_key bound_by_controller o.meta.annotations)
   where
-    by : (b : Bool) → IsUnbound o (if b then record o { claim_ref = None; meta = record o.meta { annotations = without_key bound_by_controller o.meta.annotations } } else record o { claim_ref = without_uid o.claim_ref })
+    by : (b : Bool) → IsUnbound o (if b then record o
+        { claim_ref = None; meta = record o.meta { annotations = without_key bound_by_controller o.meta.annotations } } else record o { claim_ref = without_uid o.claim_ref })
     by true = record { phase = refl; free = refl; guards = refl }
     by false = record { phase = refl; free = no_uid o.claim_ref; guards = refl }
 
@@ -114,7 +115,8 @@ pub unbind_step : (setup : Setup) (past mine : List Entry) → Invariant setup p
 unbind_step setup past mine inv true_of o new n safe row =
     let u : IsUnbound o new = subst (IsUnbound o) (sym row.change) (is_unbound o) in record {
       refers = λ r uid h. no_ref_uid new r uid u.free (record { is = h.is; known = h.known });
-      keeps = λ r uid bound h. inr (subst (λ (w : Uid). IsAway (world setup past) w o.meta.name) (ref_uid_one o r row.uid uid row.refers h) (elsewhere setup past mine inv true_of o.meta.name row.uid row.elsewhere));
+      keeps = λ r uid bound h. inr (subst (λ (w : Uid). IsAway (world setup past) w o.meta.name) (ref_uid_one o r row.uid uid row.refers h)
+          (elsewhere setup past mine inv true_of o.meta.name row.uid row.elsewhere));
       guarded = λ bound. u.guards ∙ safe bound;
       stays = λ bound. u.guards ∙ safe bound;
       released = λ r uid ended h. not_both (is_ended o.phase) ended row.live;
@@ -178,10 +180,13 @@ end_step setup past o phase n loose ended safe why = record {
 -- the row DropVolumeGuard
 pub unguard_step : (setup : Setup) (past : List Entry) (o new : VolumeData) (n : ℕ) → MayUnguardVolume o new → VolumeStep setup past o (stored_volume o new n)
 unguard_step setup past o new n row =
-    subst (λ (x : VolumeData). VolumeStep setup past o (stored_volume o x n)) (sym row.change) (same_step setup past o (stored_volume o (record o { meta = unguarded_meta pv_protection o.meta }) n) refl refl refl (λ bound. not_both (is_bound o.phase) bound row.loose))
+    subst (λ (x : VolumeData). VolumeStep setup past o (stored_volume o x n)) (sym row.change)
+    (same_step setup past o (stored_volume o (record o { meta = unguarded_meta pv_protection o.meta }) n) refl refl refl (λ bound. not_both (is_bound o.phase) bound row.loose))
 
 -- the row AddGuard
 pub guard_step : (setup : Setup) (past : List Entry) (o new : VolumeData) (n : ℕ) → IsSafe o → GuardsVolume o new → VolumeStep setup past o (stored_volume o new n)
 guard_step setup past o new n safe row =
     let change : new ≡ record o { meta = guarded_meta pv_protection o.meta } = row.rest ∙ ap (λ (m : Meta). record o { meta = m }) row.guard.change in
-    subst (λ (x : VolumeData). VolumeStep setup past o (stored_volume o x n)) (sym change) (same_step setup past o (stored_volume o (record o { meta = guarded_meta pv_protection o.meta }) n) refl refl refl (λ bound. not_both (has_name pv_protection o.meta.finalizers) (safe bound) row.guard.lacks))
+    subst (λ (x : VolumeData). VolumeStep setup past o (stored_volume o x n)) (sym change)
+    (same_step setup past o (stored_volume o (record o { meta = guarded_meta pv_protection o.meta }) n) refl refl refl
+    (λ bound. not_both (has_name pv_protection o.meta.finalizers) (safe bound) row.guard.lacks))

@@ -34,7 +34,8 @@ run_moves setup e past short g run =
     let inv = invariant_of setup past g in
     let low = few_writes setup past in
     let room : (world setup past).store.version + 1 < most_serials = omega (arith, low, short) in
-    as_made (world setup past) e.request (effect setup (world setup past) e.kind e.request) (made setup past (own e.seat past) room inv (known setup past g e.seat) e.kind e.request run.2) (moves setup (world setup past) e.kind e.request inv.order)
+    as_made (world setup past) e.request (effect setup (world setup past) e.kind e.request)
+    (made setup past (own e.seat past) room inv (known setup past g e.seat) e.kind e.request run.2) (moves setup (world setup past) e.kind e.request inv.order)
 
 -- a run that begins in a world which meets the invariant meets it throughout
 pub run_good : RunsAreGood

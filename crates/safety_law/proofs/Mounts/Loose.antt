@@ -2,15 +2,15 @@
 use Rattle.std.proofs.Common.{sym, refl, subst, inl, inr, ap, ◌∙◌, true≢false}
 use Rattle.std.specs.Prelude.{if◌then◌else◌, ℕ, ◌≡◌, Bool, true, false, not, ◌&&◌, ◌||◌, List, [], ◌∷◌, ◌++◌, Some, bytes_eq, unwrap_or}
 use Rattle.std.specs.List.{list_any}
-use Rattle.kube_types.specs.declared.uid.Uid.{Uid}
-use Rattle.kube_types.specs.declared.parts.Kind.TheVariants as kinds
-use Rattle.kube_types.specs.declared.objects.Claim.{Claim as ClaimData}
-use Rattle.kube_types.specs.declared.objects.Pod.{Pod as PodData}
-use Rattle.kube_types.specs.declared.objects.Object.{Object}
-use Rattle.kube_types.specs.declared.objects.Object.TheVariants.{Claim, Pod}
-use Rattle.kube_types.specs.Keys.{key_of, row_at}
-use Rattle.kube_types.specs.Bindings.{is_empty, has_name, is_scheduled, is_deleting, uses}
-use Rattle.kube_types.proofs.KeyOrder.{row_at_key}
+use Rattle.kube_parts.specs.declared.uid.Uid.{Uid}
+use Rattle.kube_parts.specs.declared.parts.Kind.TheVariants as kinds
+use Rattle.kube_objects.specs.declared.objects.Claim.{Claim as ClaimData}
+use Rattle.kube_objects.specs.declared.objects.Pod.{Pod as PodData}
+use Rattle.kube_objects.specs.declared.objects.Object.{Object}
+use Rattle.kube_objects.specs.declared.objects.Object.TheVariants.{Claim, Pod}
+use Rattle.kube_objects.specs.Keys.{key_of, row_at}
+use Rattle.kube_objects.specs.Bindings.{is_empty, has_name, is_scheduled, is_deleting, uses}
+use Rattle.kube_objects.proofs.KeyOrder.{row_at_key}
 use Rattle.call_types.specs.declared.entry.Entry.{Entry}
 use Rattle.call_types.specs.declared.setup.Setup.{Setup}
 use Rattle.call_types.specs.declared.request.Request.{Request}
@@ -152,7 +152,8 @@ record IsListing (o : ClaimData) (request : Request) (reply : Reply) : Type 0 wh
   unused : list_any (uses o) items ≡ false
 
 listing_of : (o : ClaimData) (request : Request) (reply : Reply) → IsPodList o request reply → IsListing o request reply
-listing_of o (requests.List kinds.Pod (Some namespace)) (Listed items version) h = record { namespace = namespace; items = items; version = version; asked = refl; answer = refl; placed = h.0; unused = h.1 }
+listing_of o (requests.List kinds.Pod (Some namespace)) (Listed items version) h =
+    record { namespace = namespace; items = items; version = version; asked = refl; answer = refl; placed = h.0; unused = h.1 }
 listing_of o request reply h = absurd h
 
 any_in : (f : Object → Bool) (x : Object) (xs : List Object) → IsIn x xs → f x ≡ true → list_any f xs ≡ true
@@ -178,7 +179,8 @@ pod_listed setup e past g o l p s scheduled name named keyed =
     let stands : row_at (key_of (Pod q)) (world setup past).store.rows ≡ Some (Pod q) = ap (λ k. row_at k (world setup past).store.rows) at ∙ s.there in
     let space : q.meta.namespace ≡ o.meta.namespace = ap (λ k. k.namespace) at ∙ sym (ap (λ k. k.namespace) keyed) in
     let r = lists_tell_what_stands setup (world setup past) e.kind kinds.Pod (Some l.namespace) (invariant_of setup past g.0).order in
-    let reply : reply_to (effect setup (world setup past) e.kind (requests.List kinds.Pod (Some l.namespace))) ≡ Listed l.items l.version = ap (λ x. reply_to (effect setup (world setup past) e.kind x)) (sym l.asked) ∙ sym g.2 ∙ l.answer in
+    let reply : reply_to (effect setup (world setup past) e.kind (requests.List kinds.Pod (Some l.namespace))) ≡ Listed l.items l.version =
+    ap (λ x. reply_to (effect setup (world setup past) e.kind x)) (sym l.asked) ∙ sym g.2 ∙ l.answer in
     let same : r.0 ≡ l.items = ap (items_of l.items) (sym r.1.1.0 ∙ reply) in
     let listed : IsIn (Pod q) r.0 = r.1.1.1.listed (Pod q) stands refl (text_same q.meta.namespace l.namespace (space ∙ sym l.placed)) in
     let t1 : is_scheduled q ≡ true = ap (λ (x : List ℕ). not (is_empty x)) s.node ∙ scheduled in
@@ -209,7 +211,8 @@ unguards setup (e ∷ past) g run start seat o u known keyed h = by (unguards se
             unmounted = λ m there x.
                 let i = mounted setup past g.0 run.0 start m there in
                 let n = i.names u x in
-                let k : key_of (Claim o) ≡ claim_key i.pod.meta.namespace n.name = sym (keyed n.claim (inl n.was) n.its) ∙ (λ j. record { kind = kinds.PersistentVolumeClaim; namespace = n.placed j; name = n.called j }) in
+                let k : key_of (Claim o) ≡ claim_key i.pod.meta.namespace n.name = sym (keyed n.claim (inl n.was) n.its)
+                ∙ (λ j. record { kind = kinds.PersistentVolumeClaim; namespace = n.placed j; name = n.called j }) in
                 pod_listed setup e past g o l i.pod i.stands i.scheduled n.name n.named k;
             unready = λ s node holds ag r.
                 let stands = shown_stands setup past g.0 run.0 node s holds ag r.recent r.teller r.earlier r.split r.pod r.uid r.told r.node_is r.scheduled r.known r.unfinished in

@@ -2,11 +2,11 @@
 use Rattle.std.proofs.Common.{sym, refl, subst, inl, inr, ap, ◌∙◌, true≢false}
 use Rattle.std.specs.Prelude.{ℕ, ◌≡◌, ◌⊎◌, Bool, true, false, List, [], ◌∷◌, Some, bytes_eq}
 use Rattle.std.proofs.lemmas.Slice.Eq.{bytes_eq-Decides}
-use Rattle.kube_types.specs.declared.uid.Uid.{Uid}
-use Rattle.kube_types.specs.declared.objects.Claim.{Claim as ClaimData}
-use Rattle.kube_types.specs.declared.objects.Pod.{Pod as PodData}
-use Rattle.kube_types.specs.declared.objects.Object.TheVariants.{Claim}
-use Rattle.kube_types.specs.Bindings.{has_name, is_scheduled, is_deleting}
+use Rattle.kube_parts.specs.declared.uid.Uid.{Uid}
+use Rattle.kube_objects.specs.declared.objects.Claim.{Claim as ClaimData}
+use Rattle.kube_objects.specs.declared.objects.Pod.{Pod as PodData}
+use Rattle.kube_objects.specs.declared.objects.Object.TheVariants.{Claim}
+use Rattle.kube_objects.specs.Bindings.{has_name, is_scheduled, is_deleting}
 use Rattle.call_types.specs.declared.entry.Entry.{Entry}
 use Rattle.call_types.specs.declared.setup.Setup.{Setup}
 use Rattle.call_types.specs.declared.request.SeatKind.{SeatKind}
@@ -120,7 +120,8 @@ mounted setup (e ∷ past) g run start m h = by (mounted setup past g.0 run.0 st
     on : MountIn m (world setup past).devices.mounts → IsPodMount setup past m → IsPodMount setup (e ∷ past) m
     on there i = record {
       pod = i.pod;
-      stands = pod_next setup e past g run i.pod m.row.pod i.scheduled i.uid i.stands (λ fin. unmounted setup past g.0 run.0 i.pod.node e.seat fin.epoch m.row.pod fin.holds fin.row.unmounted m there (sym i.node) refl);
+      stands = pod_next setup e past g run i.pod m.row.pod i.scheduled i.uid i.stands
+          (λ fin. unmounted setup past g.0 run.0 i.pod.node e.seat fin.epoch m.row.pod fin.holds fin.row.unmounted m there (sym i.node) refl);
       uid = i.uid;
       node = i.node;
       scheduled = i.scheduled;
@@ -131,7 +132,8 @@ mounted setup (e ∷ past) g run start m h = by (mounted setup past g.0 run.0 st
     new b =
         let row = b.row in
         let split : IsSplit m.node (own e.seat past) row.recent row.teller row.earlier = record { since = row.since; listed = row.listed } in
-        let s = shown_stands setup past g.0 run.0 m.node e.seat b.holds (mount_is_agents setup e past run m b) row.recent row.teller row.earlier split row.shown m.row.pod row.told row.on_node.placed row.on_node.scheduled row.on_node.same row.unfinished in
+        let s = shown_stands setup past g.0 run.0 m.node e.seat b.holds
+        (mount_is_agents setup e past run m b) row.recent row.teller row.earlier split row.shown m.row.pod row.told row.on_node.placed row.on_node.scheduled row.on_node.same row.unfinished in
         record {
           pod = row.shown;
           stands = pod_next setup e past g run row.shown m.row.pod row.on_node.scheduled row.on_node.same s (λ fin. true≢false (sym (ap is_finish fin.asked) ∙ ap is_finish b.asked));

@@ -3,14 +3,14 @@ use Rattle.std.proofs.Common.{sym, refl, subst, inl, inr, ap, ◌∙◌, true≢
 use Rattle.std.proofs.lemmas.Bool.Decides.{nat_tests}
 use Rattle.std.specs.Prelude.{ℕ, ◌≡◌, ◌==◌, Bool, true, false, not, ◌||◌, List, [], ◌∷◌, Option, Some, None, unwrap_or}
 use Rattle.std.specs.List.{list_any}
-use Rattle.kube_types.specs.declared.uid.Uid.{Uid}
-use Rattle.kube_types.specs.declared.key.Key.{Key}
-use Rattle.kube_types.specs.declared.objects.Pod.{Pod as PodData}
-use Rattle.kube_types.specs.declared.objects.Object.{Object}
-use Rattle.kube_types.specs.declared.objects.Object.TheVariants.{Class, Node, Volume, Claim, Pod}
-use Rattle.kube_types.specs.Keys.{key_of, kind_index, row_at}
-use Rattle.kube_types.specs.Bindings.{is_scheduled, is_empty}
-use Rattle.kube_types.proofs.KeyOrder.{row_at_key}
+use Rattle.kube_parts.specs.declared.uid.Uid.{Uid}
+use Rattle.kube_objects.specs.declared.key.Key.{Key}
+use Rattle.kube_objects.specs.declared.objects.Pod.{Pod as PodData}
+use Rattle.kube_objects.specs.declared.objects.Object.{Object}
+use Rattle.kube_objects.specs.declared.objects.Object.TheVariants.{Class, Node, Volume, Claim, Pod}
+use Rattle.kube_objects.specs.Keys.{key_of, kind_index, row_at}
+use Rattle.kube_objects.specs.Bindings.{is_scheduled, is_empty}
+use Rattle.kube_objects.proofs.KeyOrder.{row_at_key}
 use Rattle.call_types.specs.declared.entry.Entry.{Entry}
 use Rattle.call_types.specs.declared.setup.Setup.{Setup}
 use Rattle.call_types.specs.declared.request.SeatKind.{SeatKind}
@@ -111,7 +111,8 @@ pod_finished setup e past g run q k uid is scheduled known none =
         let one_u : u ≡ uid = ap (λ x. unwrap_or x u) u_is in
         let now : epoch ≡ epoch_of node (world setup past).devices.epochs = stale_none (world setup past).devices node epoch f.current in
         let row = finish_row (own e.seat past) e.kind key u node epoch f.controller (subst (Licensed e.kind (own e.seat past)) r run.2) in
-        subst (λ (x : List ℕ). IsFinished setup e past x uid) (sym q_node) (subst (IsFinished setup e past node) one_u (record { key = key; epoch = epoch; asked = r; row = row; holds = row.current ∙ ap (λ (z : ℕ). Some z) now }))
+        subst (λ (x : List ℕ). IsFinished setup e past x uid) (sym q_node)
+        (subst (IsFinished setup e past node) one_u (record { key = key; epoch = epoch; asked = r; row = row; holds = row.current ∙ ap (λ (z : ℕ). Some z) now }))
     by (requests.Delete key given) r p made at goes f =
         let there : row_at (key_of (Pod p)) (world setup past).store.rows ≡ Some (Pod q) = ap (λ j. row_at j (world setup past).store.rows) at ∙ is in
         let c = pod_came setup past q p there made in
@@ -131,7 +132,14 @@ pod_next setup e past g run p uid scheduled known s not_finished = by (row_at (k
     stands q is = elim (g.1.row (key_of (Pod p)) (Pod q) is) [
       | inl same ↦
           let e1 : s.pod ≡ q = some_pod s.pod q (sym s.there ∙ same) in
-          record { pod = q; there = is; uid = ap (λ (x : PodData). x.meta.uid) (sym e1) ∙ s.uid; node = ap (λ (x : PodData). x.node) (sym e1) ∙ s.node; claims = ap (λ (x : PodData). x.claims) (sym e1) ∙ s.claims }
+          record {
+            pod = q;
+            there = is;
+            uid = ap (λ (x : PodData). x.meta.uid) (sym e1) ∙ s.uid;
+            node = ap (λ (x : PodData). x.node) (sym e1)
+                ∙ s.node;
+            claims = ap (λ (x : PodData). x.claims) (sym e1) ∙ s.claims;
+          }
       | inr new ↦
           let at = row_at_key (key_of (Pod p)) (Pod q) (world setup (e ∷ past)).store.rows is in
           let c = pod_came setup past s.pod q (ap (λ j. row_at j (world setup past).store.rows) at ∙ s.there) new.write in
@@ -139,7 +147,8 @@ pod_next setup e past g run p uid scheduled known s not_finished = by (row_at (k
     ]
 
     by : (x : Option Object) → row_at (key_of (Pod p)) (world setup (e ∷ past)).store.rows ≡ x → StandsOn (world setup (e ∷ past)) p
-    by None is = absurd (not_finished (subst (λ (x : List ℕ). IsFinished setup e past x uid) s.node (pod_finished setup e past g run s.pod (key_of (Pod p)) uid s.there q_scheduled (s.uid ∙ known) is)))
+    by None is = absurd (not_finished (subst (λ (x : List ℕ). IsFinished setup e past x uid) s.node
+        (pod_finished setup e past g run s.pod (key_of (Pod p)) uid s.there q_scheduled (s.uid ∙ known) is)))
     by (Some o) is =
         let q = pod_keyed o p (sym (row_at_key (key_of (Pod p)) o (world setup (e ∷ past)).store.rows is)) in
         stands q.0 (is ∙ ap (λ (x : Object). Some x) q.1)

@@ -1,10 +1,10 @@
 -- What the reads of an agent tell: the claims that it found.
 use Rattle.std.proofs.Common.{sym, refl, subst, inl, inr, ap, ◌∙◌, true≢false}
 use Rattle.std.specs.Prelude.{if◌then◌else◌, ℕ, ◌≡◌, ◌==◌, Bool, true, false, ◌&&◌, List, [], ◌∷◌, ◌++◌, Option, Some, None, is_some, unwrap_or}
-use Rattle.kube_types.specs.declared.key.Key.{Key}
-use Rattle.kube_types.specs.declared.objects.Object.{Object}
-use Rattle.kube_types.specs.Keys.{key_of, row_at}
-use Rattle.kube_types.proofs.KeyOrder.{row_at_key}
+use Rattle.kube_objects.specs.declared.key.Key.{Key}
+use Rattle.kube_objects.specs.declared.objects.Object.{Object}
+use Rattle.kube_objects.specs.Keys.{key_of, row_at}
+use Rattle.kube_objects.proofs.KeyOrder.{row_at_key}
 use Rattle.call_types.specs.declared.entry.Entry.{Entry}
 use Rattle.call_types.specs.declared.setup.Setup.{Setup}
 use Rattle.call_types.specs.declared.request.Request.{Request}
@@ -18,7 +18,7 @@ use Rattle.model_laws.specs.Reads.{found}
 use Rattle.safety_law.proofs.Invariant.Came.{row_was}
 use Rattle.safety_law.specs.Invariant.Good.{Good}
 use Rattle.std.proofs.lemmas.Bool.{and_parts}
-use Rattle.kube_types.proofs.SameKeys.{same_key-Decides}
+use Rattle.kube_objects.proofs.SameKeys.{same_key-Decides}
 use Rattle.safety_law.proofs.Invariant.Known.{get_reply}
 use Rattle.model_laws.specs.Stood.{Stood}
 
@@ -106,4 +106,5 @@ pub read_was : (setup : Setup) (past : List Entry) → Good setup past → (seat
     → since_epoch node (own seat past) ≡ recent ++ rest → (key : Key) (o : Object) → last_get key recent ≡ Some (Found o) → WasAt setup past key o
 read_was setup past g seat node recent rest since key o read =
     let l = last_get_in key recent (Found o) read in
-    own_found setup past g seat l.entry key o (since_in node (own seat past) l.entry (subst (λ (z : List Entry). IsEntryIn l.entry z) (sym since) (front_in l.entry recent rest l.is_in))) l.asked l.answer
+    own_found setup past g seat l.entry key o
+    (since_in node (own seat past) l.entry (subst (λ (z : List Entry). IsEntryIn l.entry z) (sym since) (front_in l.entry recent rest l.is_in))) l.asked l.answer

@@ -2,12 +2,12 @@
 use Rattle.std.proofs.Common.{sym, refl, subst, inl, inr, ap, ◌∙◌, true≢false, arith}
 use Rattle.std.proofs.lemmas.Bool.Decides.{nat_tests}
 use Rattle.std.specs.Prelude.{if◌then◌else◌, ℕ, ◌≡◌, ◌⊎◌, ◌<◌, ◌≤◌, ◌==◌, nat_lt, Bool, true, false, ◌&&◌, List, [], ◌∷◌, ◌++◌, Option, Some, None, is_some, filter, take, length, cond, ⊤}
-use Rattle.kube_types.specs.declared.parts.Kind.{Kind}
-use Rattle.kube_types.specs.declared.parts.Kind.TheVariants as kinds
-use Rattle.kube_types.specs.declared.objects.Pod.{Pod as PodData}
-use Rattle.kube_types.specs.declared.objects.Object.{Object}
-use Rattle.kube_types.specs.declared.objects.Object.TheVariants.{Class, Node, Volume, Claim, Pod}
-use Rattle.kube_types.specs.Keys.{AreRows, meta_of, is_of_kind}
+use Rattle.kube_parts.specs.declared.parts.Kind.{Kind}
+use Rattle.kube_parts.specs.declared.parts.Kind.TheVariants as kinds
+use Rattle.kube_objects.specs.declared.objects.Pod.{Pod as PodData}
+use Rattle.kube_objects.specs.declared.objects.Object.{Object}
+use Rattle.kube_objects.specs.declared.objects.Object.TheVariants.{Class, Node, Volume, Claim, Pod}
+use Rattle.kube_objects.specs.Keys.{AreRows, meta_of, is_of_kind}
 use Rattle.call_types.specs.declared.entry.Entry.{Entry}
 use Rattle.call_types.specs.declared.setup.Setup.{Setup}
 use Rattle.call_types.specs.declared.request.SeatKind.{SeatKind}
@@ -124,7 +124,8 @@ has_taken setup (e ∷ past) seat node epoch is = by (has_taken setup past seat 
     by : (last_epoch node (own seat past) ≡ Some epoch → (v : ℕ) × (taken_version setup seat node past ≡ Some v)) → OwnStep seat e past
         → (v : ℕ) × (taken_version setup seat node (e ∷ past) ≡ Some v)
     by f (Own seats same) = first f seats (epoch_in node e) refl (ap (last_epoch node) (sym same) ∙ is)
-    by f (Others apart same) = let r = f (ap (last_epoch node) (sym same) ∙ is) in let not_taken : takes_node seat node e ≡ false = rw apart refl in (r.0, same_taken setup seat node e past not_taken ∙ r.1)
+    by f (Others apart same) = let r = f (ap (last_epoch node) (sym same) ∙ is) in let not_taken : takes_node seat node e ≡ false = rw apart refl in
+        (r.0, same_taken setup seat node e past not_taken ∙ r.1)
 
 -- events
 
@@ -268,7 +269,8 @@ facts : (setup : Setup) (e : Entry) (past : List Entry) → Good setup (e ∷ pa
     → v ≤ (world setup past).store.version → e.kind ≡ seats.Agent → Facts v e.request e.reply (following_of (own e.seat past) kinds.Pod)
 facts setup e past g run v low agent = record {
   list = λ k items version is r.
-      let at = list_version setup (world setup past) e.kind k (invariant_of setup past g.0).order items version (ap (λ x. reply_to (effect setup (world setup past) e.kind x)) (sym is) ∙ sym g.2 ∙ r) in
+      let at = list_version setup (world setup past) e.kind k (invariant_of setup past g.0).order items version
+      (ap (λ x. reply_to (effect setup (world setup past) e.kind x)) (sym is) ∙ sym g.2 ∙ r) in
       omega (arith, low, at);
   events = λ from es is r a.
       let f = from_above v from _ a (agent_watch (own e.seat past) e.kind kinds.Pod from agent (subst (Licensed e.kind (own e.seat past)) is run.2)) in
@@ -304,7 +306,8 @@ followed_since setup (e ∷ past) g run seat node v is agents listed = by (follo
 
     by : (taken_version setup seat node past ≡ Some v → AreOfKind seats.Agent (own seat past) → ListedPods (since_epoch node (own seat past)) → AtLeast v (following_of (own seat past) kinds.Pod))
         → OwnStep seat e past → AtLeast v (following_of (own seat (e ∷ past)) kinds.Pod)
-    by f (Own at same) = subst (λ (m : List Entry). AtLeast v (following_of m kinds.Pod)) (sym same) (mine f at (is_some (epoch_in node e)) refl (subst (AreOfKind seats.Agent) same agents) (subst (λ (m : List Entry). ListedPods (since_epoch node m)) same listed))
+    by f (Own at same) = subst (λ (m : List Entry). AtLeast v (following_of m kinds.Pod)) (sym same) (mine f at (is_some (epoch_in node e)) refl
+        (subst (AreOfKind seats.Agent) same agents) (subst (λ (m : List Entry). ListedPods (since_epoch node m)) same listed))
     by f (Others apart same) =
         let not_taken : takes_node seat node e ≡ false = rw apart refl in
         subst (λ (m : List Entry). AtLeast v (following_of m kinds.Pod)) (sym same)
@@ -437,7 +440,9 @@ pub told_since : (setup : Setup) (past : List Entry) → Good setup past → Run
 told_since setup [] g run seat node v is agents recent teller earlier split p told = absurd (none-some _ is)
 told_since setup (e ∷ past) g run seat node v is agents recent teller earlier split p told = by (told_since setup past g.0 run.0 seat node v) (own_step seat e past)
   where
-    mine : ((t : taken_version setup seat node past ≡ Some v) → AreOfKind seats.Agent (own seat past) → (recent : List Entry) (teller : Entry) (earlier : List Entry) → IsSplit node (own seat past) recent teller earlier → (p : PodData) → TellsObject (IsPodWith (λ x. x ≡ p)) teller → WasSince setup seat node past (Pod p))
+    mine : ((t : taken_version setup seat node past ≡ Some v) → AreOfKind seats.Agent (own seat past)
+        → (recent : List Entry) (teller : Entry) (earlier : List Entry) → IsSplit node (own seat past) recent teller earlier → (p : PodData)
+        → TellsObject (IsPodWith (λ x. x ≡ p)) teller → WasSince setup seat node past (Pod p))
         → e.seat ≡ seat → is_some (epoch_in node e) ≡ false → AreOfKind seats.Agent (e ∷ own seat past) → (recent : List Entry)
         → e ∷ since_epoch node (own seat past) ≡ recent ++ teller ∷ earlier → WasSince setup seat node (e ∷ past) (Pod p)
     mine f at flag a [] eq =
@@ -449,7 +454,8 @@ told_since setup (e ∷ past) g run seat node v is agents recent teller earlier 
         let l1 : ListedPods (e ∷ earlier) = subst (λ (x : Entry). ListedPods (x ∷ earlier)) is_e split.listed in
         let l2 : ListedPods (e ∷ since_epoch node (own seat past)) = subst (λ (x : List Entry). ListedPods (e ∷ x)) rest l1 in
         let told_e : TellsObject (IsPodWith (λ x. x ≡ p)) e = subst (λ (x : Entry). TellsObject (IsPodWith (λ y. y ≡ p)) x) is_e told in
-        subst (λ (s : ℕ). takes_node s node e ≡ false → taken_version setup s node past ≡ Some v → AreOfKind seats.Agent (own s past) → ListedPods (e ∷ since_epoch node (own s past)) → WasSince setup s node (e ∷ past) (Pod p)) at
+        subst (λ (s : ℕ). takes_node s node e ≡ false → taken_version setup s node past ≡ Some v → AreOfKind seats.Agent (own s past)
+        → ListedPods (e ∷ since_epoch node (own s past)) → WasSince setup s node (e ∷ past) (Pod p)) at
         (λ nt tv ag ls. newest_since setup e past g run node v nt tv a.0 ag ls p told_e) not_taken t a.1 l2
     mine f at flag a (x ∷ recent) eq =
         let own_seat : (e.seat == seat) ≡ true = grind (arith, nat_tests) in
@@ -457,16 +463,21 @@ told_since setup (e ∷ past) g run seat node v is agents recent teller earlier 
         let t : taken_version setup seat node past ≡ Some v = sym (same_taken setup seat node e past not_taken) ∙ is in
         on_since setup seat node e past (Pod p) not_taken (f t a.1 recent teller earlier (record { since = ap tail_of eq; listed = split.listed }) p told)
 
-    cases : ((t : taken_version setup seat node past ≡ Some v) → AreOfKind seats.Agent (own seat past) → (recent : List Entry) (teller : Entry) (earlier : List Entry) → IsSplit node (own seat past) recent teller earlier → (p : PodData) → TellsObject (IsPodWith (λ x. x ≡ p)) teller → WasSince setup seat node past (Pod p))
+    cases : ((t : taken_version setup seat node past ≡ Some v) → AreOfKind seats.Agent (own seat past)
+        → (recent : List Entry) (teller : Entry) (earlier : List Entry) → IsSplit node (own seat past) recent teller earlier → (p : PodData)
+        → TellsObject (IsPodWith (λ x. x ≡ p)) teller → WasSince setup seat node past (Pod p))
         → e.seat ≡ seat → (b : Bool) → is_some (epoch_in node e) ≡ b → AreOfKind seats.Agent (e ∷ own seat past)
         → (if b then [] else e ∷ since_epoch node (own seat past)) ≡ recent ++ teller ∷ earlier → WasSince setup seat node (e ∷ past) (Pod p)
     cases f at true flag a eq = absurd (no_split recent teller earlier eq)
     cases f at false flag a eq = mine f at flag a recent eq
 
-    by : ((t : taken_version setup seat node past ≡ Some v) → AreOfKind seats.Agent (own seat past) → (recent : List Entry) (teller : Entry) (earlier : List Entry) → IsSplit node (own seat past) recent teller earlier → (p : PodData) → TellsObject (IsPodWith (λ x. x ≡ p)) teller → WasSince setup seat node past (Pod p))
+    by : ((t : taken_version setup seat node past ≡ Some v) → AreOfKind seats.Agent (own seat past)
+        → (recent : List Entry) (teller : Entry) (earlier : List Entry) → IsSplit node (own seat past) recent teller earlier → (p : PodData)
+        → TellsObject (IsPodWith (λ x. x ≡ p)) teller → WasSince setup seat node past (Pod p))
         → OwnStep seat e past → WasSince setup seat node (e ∷ past) (Pod p)
     by f (Own at same) = cases f at (is_some (epoch_in node e)) refl (subst (AreOfKind seats.Agent) same agents) (ap (since_epoch node) (sym same) ∙ split.since)
     by f (Others apart same) =
         let not_taken : takes_node seat node e ≡ false = rw apart refl in
         let t : taken_version setup seat node past ≡ Some v = sym (same_taken setup seat node e past not_taken) ∙ is in
-        on_since setup seat node e past (Pod p) not_taken (f t (subst (AreOfKind seats.Agent) same agents) recent teller earlier (record { since = ap (since_epoch node) (sym same) ∙ split.since; listed = split.listed }) p told)
+        on_since setup seat node e past (Pod p) not_taken
+        (f t (subst (AreOfKind seats.Agent) same agents) recent teller earlier (record { since = ap (since_epoch node) (sym same) ∙ split.since; listed = split.listed }) p told)

@@ -2,7 +2,7 @@
 use Rattle.std.proofs.Common.{sym, refl, subst, inl, inr, ap, ◌∙◌, true≢false, arith}
 use Rattle.std.proofs.lemmas.Bool.Decides.{nat_tests}
 use Rattle.std.specs.Prelude.{if◌then◌else◌, ℕ, ◌≡◌, ◌⊎◌, ◌==◌, Bool, true, false, ◌&&◌, List, [], ◌∷◌, Some}
-use Rattle.kube_types.specs.declared.uid.Uid.{Uid}
+use Rattle.kube_parts.specs.declared.uid.Uid.{Uid}
 use Rattle.call_types.specs.declared.entry.Entry.{Entry}
 use Rattle.call_types.specs.declared.setup.Setup.{Setup}
 use Rattle.call_types.specs.declared.request.SeatKind.{SeatKind}
@@ -45,7 +45,8 @@ new_mount setup e past run m h = by (is_user e.kind) refl
   where
     made : is_user e.kind ≡ false → IsMounting (world setup past).devices e.request m → MountedBy setup e past m
     made c i =
-        let row = mount_split (own e.seat past) m.node i.epoch m.row.pod m.row.claims (mount_row (own e.seat past) e.kind m.node i.epoch m.row.pod m.row.claims c (subst (Licensed e.kind (own e.seat past)) i.asked run.2)) in
+        let row = mount_split (own e.seat past) m.node i.epoch m.row.pod m.row.claims
+        (mount_row (own e.seat past) e.kind m.node i.epoch m.row.pod m.row.claims c (subst (Licensed e.kind (own e.seat past)) i.asked run.2)) in
         record { epoch = i.epoch; asked = i.asked; row = row; holds = row.current ∙ ap (λ (n : ℕ). Some n) i.current; controller = c }
 
     by : (b : Bool) → is_user e.kind ≡ b → MountIn m (world setup past).devices.mounts ⊎ MountedBy setup e past m

@@ -2,14 +2,14 @@
 use Rattle.std.proofs.Common.{◌≡◌, ◌∙◌, ℕ, List, [], Bool, true, false, true≢false, Option, Some, None, inl, inr, refl, sym, ap, arith, if◌then◌else◌}
 use Rattle.std.specs.List.{list_any}
 use Rattle.std.proofs.lemmas.Bool.{and_parts}
-use Rattle.kube_types.specs.declared.uid.Uid.{Uid}
-use Rattle.kube_types.specs.declared.key.Key.{Key}
-use Rattle.kube_types.specs.declared.parts.Kind.TheVariants as kinds
-use Rattle.kube_types.specs.declared.objects.Pod.{Pod as PodData}
-use Rattle.kube_types.specs.declared.objects.Object.{Object}
-use Rattle.kube_types.specs.declared.objects.Object.TheVariants.{Class, Node, Volume, Claim, Pod}
-use Rattle.kube_types.specs.Keys.{kind_index, row_at}
-use Rattle.kube_types.proofs.KeyOrder.{row_at_key}
+use Rattle.kube_parts.specs.declared.uid.Uid.{Uid}
+use Rattle.kube_objects.specs.declared.key.Key.{Key}
+use Rattle.kube_parts.specs.declared.parts.Kind.TheVariants as kinds
+use Rattle.kube_objects.specs.declared.objects.Pod.{Pod as PodData}
+use Rattle.kube_objects.specs.declared.objects.Object.{Object}
+use Rattle.kube_objects.specs.declared.objects.Object.TheVariants.{Class, Node, Volume, Claim, Pod}
+use Rattle.kube_objects.specs.Keys.{kind_index, row_at}
+use Rattle.kube_objects.proofs.KeyOrder.{row_at_key}
 use Rattle.call_types.specs.declared.entry.Entry.{Entry}
 use Rattle.call_types.specs.declared.setup.Setup.{Setup}
 use Rattle.call_types.specs.declared.request.Request.{Request}
@@ -93,7 +93,8 @@ unmount_mute setup w kind node epoch pod = asked_devices kind w (requests.Unmoun
 
 finished_mute : (setup : Setup) (w : World) (kind : SeatKind) (key : Key) (uid : Uid) (node : List ℕ) (epoch : ℕ) → IsMute (reply_to (effect setup w kind (requests.FinishPod key uid node epoch)))
 unfolding effect on_devices device_answer outcome reply_to
-finished_mute setup w kind key uid node epoch = refused_mute (is_user kind) _ _ (finish_mute w.store (stale_epoch w.devices (requests.FinishPod key uid node epoch)) node (pod_with uid (row_at key w.store.rows)))
+finished_mute setup w kind key uid node epoch =
+    refused_mute (is_user kind) _ _ (finish_mute w.store (stale_epoch w.devices (requests.FinishPod key uid node epoch)) node (pod_with uid (row_at key w.store.rows)))
 
 -- the single objects that an agent reads are no pods
 

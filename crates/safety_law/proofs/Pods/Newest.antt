@@ -1,12 +1,12 @@
 -- The newest telling of a pod's key is not below any that told the pod; so a pod that it shows staying was never told deleting.
 use Rattle.std.proofs.Common.{◌≡◌, ◌∙◌, ℕ, ◌≤◌, List, [], ◌∷◌, Bool, true, false, true≢false, Option, Some, None, inl, inr, refl, sym, subst, ap, arith, if◌then◌else◌}
 use Rattle.std.specs.Prelude.{◌==◌, ◌⊎◌, nat_lt}
-use Rattle.kube_types.specs.declared.parts.Kind.{Kind}
-use Rattle.kube_types.specs.declared.parts.Kind.TheVariants as kinds
-use Rattle.kube_types.specs.declared.objects.Pod.{Pod as PodData}
-use Rattle.kube_types.specs.declared.objects.Object.{Object}
-use Rattle.kube_types.specs.declared.objects.Object.TheVariants.{Class, Node, Volume, Claim, Pod}
-use Rattle.kube_types.specs.Keys.{AreRows, key_of, row_at}
+use Rattle.kube_parts.specs.declared.parts.Kind.{Kind}
+use Rattle.kube_parts.specs.declared.parts.Kind.TheVariants as kinds
+use Rattle.kube_objects.specs.declared.objects.Pod.{Pod as PodData}
+use Rattle.kube_objects.specs.declared.objects.Object.{Object}
+use Rattle.kube_objects.specs.declared.objects.Object.TheVariants.{Class, Node, Volume, Claim, Pod}
+use Rattle.kube_objects.specs.Keys.{AreRows, key_of, row_at}
 use Rattle.call_types.specs.declared.entry.Entry.{Entry}
 use Rattle.call_types.specs.declared.setup.Setup.{Setup}
 use Rattle.call_types.specs.declared.request.Request.{Request}
@@ -45,10 +45,12 @@ watch_says P setup w kind k from refused events = by (nat_lt w.store.version fro
 
 -- an entry that tells a pod tells its key, at its version or a later one
 
-module _ (setup : Setup) (e : Entry) (past : List Entry) (answered : e.reply ≡ reply_to (effect setup (world setup past) e.kind e.request)) (p : PodData) (told : IsIn (Pod p) (objects_in e.reply)) where
+module _ (setup : Setup) (e : Entry) (past : List Entry) (answered : e.reply ≡ reply_to (effect setup (world setup past) e.kind e.request))
+    (p : PodData) (told : IsIn (Pod p) (objects_in e.reply)) where
   listed_from : (request : Request) (reply : Reply) → e.request ≡ request → e.reply ≡ reply → is_pod_list request reply ≡ true → IsFrom p.meta.version (tells_of request reply (key_of (Pod p)))
   listed_from (requests.List kinds.Pod None) (replies.Listed items version) asks is list =
-      let same : reply_to (effect setup (world setup past) e.kind (requests.List kinds.Pod None)) ≡ replies.Listed items version = sym (answered ∙ ap (λ r. reply_to (effect setup (world setup past) e.kind r)) asks) ∙ is in
+      let same : reply_to (effect setup (world setup past) e.kind (requests.List kinds.Pod None)) ≡ replies.Listed items version =
+      sym (answered ∙ ap (λ r. reply_to (effect setup (world setup past) e.kind r)) asks) ∙ is in
       let rows : AreRows items = lists_are_in_order setup (world setup past) e.kind kinds.Pod None items version (rows_stand_in_order setup past) same in
       let at : row_at (key_of (Pod p)) items ≡ Some (Pod p) = member_stands (Pod p) items rows (subst (λ r. IsIn (Pod p) (objects_in r)) is told) in
       rw at (omega arith)

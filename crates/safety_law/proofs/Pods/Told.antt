@@ -3,13 +3,13 @@ use Rattle.std.proofs.Common.{◌≡◌, ◌∙◌, ℕ, ◌≤◌, List, [], �
 use Rattle.std.specs.Prelude.{◌==◌, nat_lt, ⊤}
 use Rattle.std.specs.List.{list_any}
 use Rattle.std.proofs.lemmas.Bool.Decides.{nat_tests}
-use Rattle.kube_types.specs.declared.key.Key.{Key}
-use Rattle.kube_types.specs.declared.parts.Kind.{Kind}
-use Rattle.kube_types.specs.declared.objects.Pod.{Pod as PodData}
-use Rattle.kube_types.specs.declared.objects.Object.{Object}
-use Rattle.kube_types.specs.declared.objects.Object.TheVariants.{Class, Node, Volume, Claim, Pod}
-use Rattle.kube_types.specs.Keys.{key_of, meta_of, row_at, same_key}
-use Rattle.kube_types.proofs.SameKeys.{same_key_itself}
+use Rattle.kube_objects.specs.declared.key.Key.{Key}
+use Rattle.kube_parts.specs.declared.parts.Kind.{Kind}
+use Rattle.kube_objects.specs.declared.objects.Pod.{Pod as PodData}
+use Rattle.kube_objects.specs.declared.objects.Object.{Object}
+use Rattle.kube_objects.specs.declared.objects.Object.TheVariants.{Class, Node, Volume, Claim, Pod}
+use Rattle.kube_objects.specs.Keys.{key_of, meta_of, row_at, same_key}
+use Rattle.kube_objects.proofs.SameKeys.{same_key_itself}
 use Rattle.call_types.specs.declared.entry.Entry.{Entry}
 use Rattle.call_types.specs.declared.setup.Setup.{Setup}
 use Rattle.call_types.specs.declared.request.Request.{Request}
@@ -19,7 +19,24 @@ use Rattle.call_types.specs.declared.reply.Event.{Event}
 use Rattle.call_types.specs.declared.reply.Reply.{Reply}
 use Rattle.call_types.specs.declared.reply.Reply.TheVariants as replies
 use Rattle.binder_model.specs.Answers.{Removes, Says, Stores, reply_of}
-use Rattle.binder_model.specs.Told.{IsPodWith, SomeOf, Telling, TellsObject, later, listing, objects_in, objects_of_event, objects_of_events, of_event, own, presence, told_by_events, told_of, tells_of, newest}
+use Rattle.binder_model.specs.Told.{
+  IsPodWith,
+  SomeOf,
+  Telling,
+  TellsObject,
+  later,
+  listing,
+  objects_in,
+  objects_of_event,
+  objects_of_events,
+  of_event,
+  own,
+  presence,
+  told_by_events,
+  told_of,
+  tells_of,
+  newest,
+}
 use Rattle.binder_model.specs.Watching.{told_events}
 use Rattle.binder_model.specs.World.{Effect, IsHistory, OnDevices, OnStore, SetsMoment, effect, reply_to, world}
 use Rattle.model_laws.proofs.Lists.{IsIn, none_some, one, some_or}

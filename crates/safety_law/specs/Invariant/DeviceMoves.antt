@@ -12,7 +12,7 @@ use Rattle.binder_model.specs.Told.{SomeOf}
 use Rattle.binder_model.specs.World.{World, Effect, reply_to, world_after}
 use Rattle.call_types.specs.declared.setup.Setup.{Setup}
 use Rattle.binder_model.specs.World.{effect}
-use Rattle.kube_types.specs.declared.uid.Uid.{Uid}
+use Rattle.kube_parts.specs.declared.uid.Uid.{Uid}
 use Rattle.binder_model.specs.AgentLicence.{is_of_epoch, lacks_pod, has_row}
 
 abbrev pub MountIn : MountAt → List MountAt → Type 0

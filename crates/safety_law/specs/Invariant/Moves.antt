@@ -1,9 +1,9 @@
 -- How one call moves the store, whatever the call: what it does at each key, and to the version.
 -- A choice of this project, as the definitions are; their sources stand in `binder_model`.
 use Rattle.std.specs.Prelude.{◌≡◌, ◌⊎◌, ◌+◌, ◌≤◌, Option, Some, None}
-use Rattle.kube_types.specs.declared.key.Key.{Key}
-use Rattle.kube_types.specs.declared.objects.Object.{Object}
-use Rattle.kube_types.specs.Keys.{AreRows, key_of, row_at}
+use Rattle.kube_objects.specs.declared.key.Key.{Key}
+use Rattle.kube_objects.specs.declared.objects.Object.{Object}
+use Rattle.kube_objects.specs.Keys.{AreRows, key_of, row_at}
 use Rattle.binder_model.specs.Answers.{Stores, Removes}
 use Rattle.binder_model.specs.World.{World, Effect, OnStore, effect, world_after}
 use Rattle.safety_law.specs.Invariant.Writes.{IsLeaving}

@@ -1,10 +1,10 @@
 -- Whose place a written object takes: none, as a new object, or that of an older version of it.
 -- A choice of this project, as the definitions are; their sources stand in `binder_model`.
 use Rattle.std.specs.Prelude.{◌≡◌, ◌⊎◌, ◌+◌, true, Some, None}
-use Rattle.kube_types.specs.declared.objects.Object.{Object}
-use Rattle.kube_types.specs.Keys.{meta_of, key_of, row_at}
-use Rattle.kube_types.specs.Bindings.{is_deleting}
-use Rattle.kube_types.specs.Uids.{uid_of_serial}
+use Rattle.kube_objects.specs.declared.objects.Object.{Object}
+use Rattle.kube_objects.specs.Keys.{meta_of, key_of, row_at}
+use Rattle.kube_objects.specs.Bindings.{is_deleting}
+use Rattle.kube_parts.specs.Uids.{uid_of_serial}
 use Rattle.binder_model.specs.Store.{State}
 use Rattle.model_laws.specs.Histories.{NamesOnce}
 use Rattle.std.specs.Prelude.{ℕ, List, Option}

@@ -2,12 +2,12 @@
 -- Source: Kubernetes API conventions, "Metadata": a deletion timestamp is set by the server and not taken back, and a UID is
 -- given once. Lists of entries begin with the newest.
 use Rattle.std.specs.Prelude.{ℕ, ◌≡◌, ◌≤◌, ◌<◌, true, false, List, Some, length}
-use Rattle.kube_types.specs.declared.uid.Uid.{Uid}
-use Rattle.kube_types.specs.declared.objects.Pod.{Pod as PodData}
-use Rattle.kube_types.specs.declared.objects.Object.{Object}
-use Rattle.kube_types.specs.declared.objects.Object.TheVariants.{Pod}
-use Rattle.kube_types.specs.Keys.{meta_of}
-use Rattle.kube_types.specs.Bindings.{is_deleting}
+use Rattle.kube_parts.specs.declared.uid.Uid.{Uid}
+use Rattle.kube_objects.specs.declared.objects.Pod.{Pod as PodData}
+use Rattle.kube_objects.specs.declared.objects.Object.{Object}
+use Rattle.kube_objects.specs.declared.objects.Object.TheVariants.{Pod}
+use Rattle.kube_objects.specs.Keys.{meta_of}
+use Rattle.kube_objects.specs.Bindings.{is_deleting}
 use Rattle.call_types.specs.declared.entry.Entry.{Entry}
 use Rattle.call_types.specs.declared.setup.Setup.{Setup}
 use Rattle.binder_model.specs.Imports.{ImportsPass}

@@ -1,14 +1,56 @@
 -- The lines of generated scripts, each after those before it, pass no limit.
-use Rattle.std.proofs.Common.{◌≡◌, ℕ, zero, suc, ◌+◌, ◌*◌, ◌<◌, nat_lt, true, false, List, [], ◌∷◌, ◌++◌, length, None, Option, refl, ap, sym, subst, ◌∙◌, append_assoc, append-nil, le-ltb, arith, codes}
+use Rattle.std.proofs.Common.{
+  ◌≡◌,
+  ℕ,
+  zero,
+  suc,
+  ◌+◌,
+  ◌*◌,
+  ◌<◌,
+  nat_lt,
+  true,
+  false,
+  List,
+  [],
+  ◌∷◌,
+  ◌++◌,
+  length,
+  None,
+  Option,
+  refl,
+  ap,
+  sym,
+  subst,
+  ◌∙◌,
+  append_assoc,
+  append-nil,
+  le-ltb,
+  arith,
+  codes,
+}
 use Rattle.plain_data.specs.Pairs.{Pair}
-use Rattle.kube_types.specs.declared.objects.Object.{Object}
+use Rattle.kube_objects.specs.declared.objects.Object.{Object}
 use Rattle.script_lines.specs.declared.errors.Reason.TheVariants.{TooManyObjects, TooManyNodes}
 use Rattle.script_text.specs.declared.script.Line.{Line}
 use Rattle.script_text.specs.declared.script.Line.TheVariants.{Drain}
 use Rattle.script_text.specs.Said.{agents_of, objects_of, and_node, created_node, creates as count_of}
 use Rattle.script_text.specs.Grammar.{line_limit, first_of, passed}
 use Rattle.script_gen.specs.Draws.{draw}
-use Rattle.script_gen.specs.Generated.{creates, each_below, class_lines, node_lines, volume_line, claim_line, late_claim_line, pod_line, delete_line, volume_lines, claim_lines, pod_lines, delete_lines}
+use Rattle.script_gen.specs.Generated.{
+  creates,
+  each_below,
+  class_lines,
+  node_lines,
+  volume_line,
+  claim_line,
+  late_claim_line,
+  pod_line,
+  delete_line,
+  volume_lines,
+  claim_lines,
+  pod_lines,
+  delete_lines,
+}
 use Rattle.script_gen.specs.Objects.{numbered}
 use Rattle.script_laws.specs.Read.Given.{IsLineObject}
 use Rattle.script_laws.specs.Read.Scripts.{AreLinesAfter}

@@ -4,10 +4,10 @@ use Rattle.std.specs.Fmt.{digits}
 use Rattle.serde_json.specs.Data.{no_members}
 use Rattle.json_text.proofs.Good.{good_none}
 use Rattle.quantity_text.specs.Quantity.{amount_of, unsigned_amount, refuse, scaled, scale_of, value_of, has_too_many_digits}
-use Rattle.kube_types.specs.declared.objects.Object.TheVariants.{Class, Node, Volume, Claim}
+use Rattle.kube_objects.specs.declared.objects.Object.TheVariants.{Class, Node, Volume, Claim}
 use Rattle.object_text.specs.declared.extra.Listed.{Listed}
 use Rattle.object_text.specs.declared.extra.Listed.TheVariants as listed
-use Rattle.kube_types.specs.declared.parts.SourceKind.TheVariants.{Nfs}
+use Rattle.kube_parts.specs.declared.parts.SourceKind.TheVariants.{Nfs}
 use Rattle.object_laws.specs.Given.{AreExtra, IsAmount, IsMeta, IsNamespace}
 use Rattle.script_laws.specs.Read.Given.{IsLineObject}
 use Rattle.script_laws.proofs.Read.Kept.{Keeps}

@@ -7,7 +7,7 @@ use Rattle.json.specs.Print.{escape_byte}
 use Rattle.serde_json.specs.Data.{Data, Members, no_members, member, no_items, item, string, array, object}
 use Rattle.json_text.specs.Build.{Good, GoodMembers}
 use Rattle.json_text.proofs.Good.{good_object, good_string, good_item, good_items, good_array}
-use Rattle.kube_types.specs.declared.objects.Object.TheVariants.{Pod}
+use Rattle.kube_objects.specs.declared.objects.Object.TheVariants.{Pod}
 use Rattle.object_text.specs.declared.extra.Listed.TheVariants as listed
 use Rattle.object_text.specs.ExtraMembers.{extra_text}
 use Rattle.object_text.specs.PartReaders.{claims_at, claim_name_of}

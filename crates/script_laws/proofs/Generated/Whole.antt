@@ -4,7 +4,22 @@ use Rattle.quantity_text.specs.Quantity.{amount_of, unsigned_amount, refuse, sca
 use Rattle.script_text.specs.declared.script.Line.{Line}
 use Rattle.script_text.specs.declared.script.Line.TheVariants.{Drain}
 use Rattle.script_text.specs.Said.{agents_of, nodes_of}
-use Rattle.script_gen.specs.Generated.{each_below, class_lines, node_lines, volume_line, claim_line, late_claim_line, pod_line, delete_line, volume_lines, claim_lines, pod_lines, delete_lines, generated_lines, generated}
+use Rattle.script_gen.specs.Generated.{
+  each_below,
+  class_lines,
+  node_lines,
+  volume_line,
+  claim_line,
+  late_claim_line,
+  pod_line,
+  delete_line,
+  volume_lines,
+  claim_lines,
+  pod_lines,
+  delete_lines,
+  generated_lines,
+  generated,
+}
 use Rattle.script_laws.specs.Read.Scripts.{AreLinesAfter}
 use Rattle.script_laws.specs.Generated.Laws.{CountsLines, GeneratedIsScript}
 use Rattle.script_laws.proofs.Generated.Agents.{none_below, creates_below}

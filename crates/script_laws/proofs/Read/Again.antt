@@ -20,7 +20,12 @@ use Rattle.script_laws.proofs.Read.TextsGive.{ScriptGiven, script_gives as text_
 
 fault_utf8 : (call : ℕ) → IsCount most_call call → HasUtf8 (fault_data call)
 unfolding fault_data
-fault_utf8 call is = object_of_utf8 ((codes "call", whole call) ∷ (codes "do", text (codes "fault")) ∷ []) (IsUtf8-are_ascii _ refl, count_utf8 most_call call (omega arith) is, (IsUtf8-are_ascii _ refl, IsUtf8-are_ascii _ refl, tt))
+fault_utf8 call is = object_of_utf8 ((codes "call", whole call) ∷ (codes "do", text (codes "fault")) ∷ []) (
+  IsUtf8-are_ascii _ refl,
+  count_utf8
+      most_call call (omega arith) is,
+  (IsUtf8-are_ascii _ refl, IsUtf8-are_ascii _ refl, tt),
+)
 
 fault_text_is : (call : ℕ) → IsCount most_call call → IsText (fault_text call)
 unfolding fault_text
@@ -28,7 +33,8 @@ fault_text_is call is = is_utf8-from_IsUtf8 (compact_text (fault_data call)) (te
 
 fault_texts : (calls : List ℕ) → All (IsCount most_call) calls → All IsText (map fault_text calls)
 fault_texts [] h = All-nil IsText
-fault_texts (call ∷ calls) h = All-cons IsText (fault_text call) (map fault_text calls) (fault_text_is call (All-head (IsCount most_call) call calls h)) (fault_texts calls (All-tail (IsCount most_call) call calls h))
+fault_texts (call ∷ calls) h = All-cons IsText (fault_text call) (map fault_text calls) (fault_text_is call
+    (All-head (IsCount most_call) call calls h)) (fault_texts calls (All-tail (IsCount most_call) call calls h))
 
 script_texts : (s : Script) → ScriptGiven s → All IsText (script_lines s)
 unfolding script_lines

@@ -10,7 +10,7 @@ use Rattle.script_lines.specs.declared.errors.Reason.{Reason}
 use Rattle.script_lines.specs.declared.verbs.Verb.{Verb}
 use Rattle.script_lines.specs.declared.verbs.Verb.TheVariants as verbs
 use Rattle.script_lines.specs.Answers.{◌>>=◌}
-use Rattle.kube_types.specs.declared.objects.Object.{Object}
+use Rattle.kube_objects.specs.declared.objects.Object.{Object}
 use Rattle.script_text.specs.declared.script.Line.{Line}
 use Rattle.script_text.specs.declared.script.Line.TheVariants.{Call, Lose, Restart, Turn, Drain}
 use Rattle.script_text.specs.declared.script.Meaning.{Meaning}
@@ -33,7 +33,8 @@ own_of d = verb_at d >>= λ verb. object_by verb d
 not_create : (d : Data) (verb : Verb) → verb_at d ≡ Ok verb → node_from (object_by verb d) ≡ None → node_from (own_of d) ≡ None
 not_create d verb e none = ap (λ r. node_from (r >>= λ v. object_by v d)) e ∙ none
 
-call_node : (agents : List Pair) (before : List Line) (user : ℕ) (request : Request) → IsLineAfter agents before (Call user request) → LineHasShortObject (Call user request) → node_from (own_of (line_data (Call user request))) ≡ created_node (Call user request)
+call_node : (agents : List Pair) (before : List Line) (user : ℕ) (request : Request) → IsLineAfter agents before (Call user request)
+    → LineHasShortObject (Call user request) → node_from (own_of (line_data (Call user request))) ≡ created_node (Call user request)
 unfolding line_data
 call_node agents before user (asks.Create o) is fits =
     let ps : MemberList = line_pairs (Call user (asks.Create o)) in
@@ -87,7 +88,8 @@ line_node agents before Drain is fits =
     not_create (object_of ps) verbs.Drain (verb_back (object_of ps) (codes "drain") verbs.Drain (has (codes "do") ps) refl) refl
 
 -- with the node of a line that was read
-pub own_node : (agents : List Pair) (before : List Line) (line : Line) → IsLineAfter agents before line → LineHasShortObject line → IsRead (line_data line) → node_from (own_object (line_text line)) ≡ created_node line
+pub own_node : (agents : List Pair) (before : List Line) (line : Line) → IsLineAfter agents before line → LineHasShortObject line
+    → IsRead (line_data line) → node_from (own_object (line_text line)) ≡ created_node line
 unfolding line_text
 own_node agents before line is fits read = ap node_from (own_read (line_data line) read) ∙ line_node agents before line is fits
 
@@ -95,7 +97,8 @@ pub pool_node : (pool : Pool) (size : List ℕ) → IsRead (pool_data pool size)
 unfolding pool_text pool_data
 pool_node pool size read =
     let ps : MemberList = pool_pairs pool size in
-    ap node_from (own_read (object_of ps) read) ∙ not_create (object_of ps) verbs.Pool (verb_back (object_of ps) (codes "pool") verbs.Pool (has (codes "do") ps ∙ no_topology (codes "do") pool.topology _ (λ u. refl)) refl) refl
+    ap node_from (own_read (object_of ps) read)
+    ∙ not_create (object_of ps) verbs.Pool (verb_back (object_of ps) (codes "pool") verbs.Pool (has (codes "do") ps ∙ no_topology (codes "do") pool.topology _ (λ u. refl)) refl) refl
 
 pub fault_node : (call : ℕ) → IsRead (fault_data call) → node_from (own_object (fault_text call)) ≡ None
 unfolding fault_text fault_data

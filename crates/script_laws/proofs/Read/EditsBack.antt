@@ -6,9 +6,9 @@ use Rattle.serde_json.specs.Find.{get}
 use Rattle.json_text.specs.Build.{pick}
 use Rattle.json_text.specs.Members.{MemberList, text, object_of}
 use Rattle.json_text.proofs.Good.{good_string, no_float_good, good_object_of}
-use Rattle.kube_types.specs.Words.{policy_word}
-use Rattle.kube_types.proofs.NamedWords.{policies_inverse}
-use Rattle.kube_types.specs.declared.key.Key.{Key}
+use Rattle.kube_parts.specs.Words.{policy_word}
+use Rattle.kube_parts.proofs.NamedWords.{policies_inverse}
+use Rattle.kube_objects.specs.declared.key.Key.{Key}
 use Rattle.call_types.specs.declared.edit.Edit.{Edit}
 use Rattle.call_types.specs.declared.edit.Edit.TheVariants as edits
 use Rattle.object_text.specs.declared.errors.Member.TheVariants as manifests
@@ -16,7 +16,18 @@ use Rattle.history_text.specs.Requests.{two_texts, label_data, claim_name_data, 
 use Rattle.script_lines.specs.declared.line_member.LineMember.{LineMember}
 use Rattle.script_lines.specs.declared.line_member.LineMember.TheVariants as members
 use Rattle.script_lines.specs.declared.edit_members.EditMember.{EditMember}
-use Rattle.script_lines.specs.declared.edit_members.EditMember.TheVariants.{AddFinalizer, DropFinalizer, DropLabel, DropAnnotation, SetLabel, SetAnnotation, SetVolumeName, SetPolicy, SetClaimRef, ClearClaimRef}
+use Rattle.script_lines.specs.declared.edit_members.EditMember.TheVariants.{
+  AddFinalizer,
+  DropFinalizer,
+  DropLabel,
+  DropAnnotation,
+  SetLabel,
+  SetAnnotation,
+  SetVolumeName,
+  SetPolicy,
+  SetClaimRef,
+  ClearClaimRef,
+}
 use Rattle.script_lines.specs.MemberWords.{line_word}
 use Rattle.script_lines.specs.Answers.{◌>>=◌}
 use Rattle.script_lines.specs.Members.{at, edit_member, all_edits, stands, the_one, edit_member_at, two_texts_in, policy_from, edit_of, edit_from, edit_at}
@@ -37,7 +48,11 @@ unfolding two_texts_in
 claim_back m namespace name =
     let ps : MemberList = two_texts (codes "name") name (codes "namespace") namespace in
     let good = good_object_of 1 ps (good_string, (good_string, tt)) in
-    rw (text_back (members.Of manifests.Namespace) (object_of ps) namespace (has (codes "namespace") ps), text_back (members.Of manifests.Name) (object_of ps) name (has (codes "name") ps), no_float_good good) refl
+    rw (
+      text_back (members.Of manifests.Namespace) (object_of ps) namespace (has (codes "namespace") ps),
+      text_back (members.Of manifests.Name) (object_of ps) name (has (codes "name") ps),
+      no_float_good good,
+    ) refl
 
 -- ---- the one edit member
 
@@ -57,7 +72,8 @@ filter_same f g (e ∷ es) h = by (f e) (g e) (h e) (filter_same f g es h)
 abbrev shown : MemberList → EditMember → Bool
 shown ps e = is_some (pick (line_word (edit_member e)) ps None)
 
-at_back : (ps : MemberList) (e : EditMember) (d : Data) (edit : Edit) → the_one (filter (shown ps) all_edits) ≡ Ok e → pick (line_word (edit_member e)) ps None ≡ Some d → edit_of e d ≡ Ok edit → edit_at (object_of ps) ≡ Ok edit
+at_back : (ps : MemberList) (e : EditMember) (d : Data) (edit : Edit) → the_one (filter (shown ps) all_edits) ≡ Ok e
+    → pick (line_word (edit_member e)) ps None ≡ Some d → edit_of e d ≡ Ok edit → edit_at (object_of ps) ≡ Ok edit
 unfolding edit_at
 at_back ps e d edit one there is =
     let found : edit_member_at (object_of ps) ≡ Ok e = ap the_one (filter_same (stands (object_of ps)) (shown ps) all_edits (stands_in ps)) ∙ one in
@@ -72,14 +88,17 @@ edit_back key (edits.DropFinalizer s) user = at_back (edit_line_pairs key (edits
 edit_back key (edits.DropLabel s) user = at_back (edit_line_pairs key (edits.DropLabel s) user) DropLabel (string s) (edits.DropLabel s) refl refl refl
 edit_back key (edits.DropAnnotation s) user = at_back (edit_line_pairs key (edits.DropAnnotation s) user) DropAnnotation (string s) (edits.DropAnnotation s) refl refl refl
 edit_back key (edits.SetLabel k v) user =
-    at_back (edit_line_pairs key (edits.SetLabel k v) user) SetLabel (label_data k v) (edits.SetLabel k v) refl refl (ap (λ r. r >>= λ p. Ok (edits.SetLabel p.0 p.1)) (label_back members.SetLabel k v))
+    at_back (edit_line_pairs key (edits.SetLabel k v) user) SetLabel (label_data k v) (edits.SetLabel k v) refl refl
+    (ap (λ r. r >>= λ p. Ok (edits.SetLabel p.0 p.1)) (label_back members.SetLabel k v))
 edit_back key (edits.SetAnnotation k v) user =
-    at_back (edit_line_pairs key (edits.SetAnnotation k v) user) SetAnnotation (label_data k v) (edits.SetAnnotation k v) refl refl (ap (λ r. r >>= λ p. Ok (edits.SetAnnotation p.0 p.1)) (label_back members.SetAnnotation k v))
+    at_back (edit_line_pairs key (edits.SetAnnotation k v) user) SetAnnotation (label_data k v) (edits.SetAnnotation k v) refl refl
+    (ap (λ r. r >>= λ p. Ok (edits.SetAnnotation p.0 p.1)) (label_back members.SetAnnotation k v))
 edit_back key (edits.SetVolumeName s) user = at_back (edit_line_pairs key (edits.SetVolumeName s) user) SetVolumeName (string s) (edits.SetVolumeName s) refl refl refl
 edit_back key (edits.SetPolicy p) user =
     at_back (edit_line_pairs key (edits.SetPolicy p) user) SetPolicy (string (policy_word p)) (edits.SetPolicy p) refl refl (ap policy_from (policies_inverse.back p))
 edit_back key (edits.SetClaimRef namespace name) user =
-    at_back (edit_line_pairs key (edits.SetClaimRef namespace name) user) SetClaimRef (claim_name_data namespace name) (edits.SetClaimRef namespace name) refl refl (ap (λ r. r >>= λ p. Ok (edits.SetClaimRef p.0 p.1)) (claim_back members.SetClaimRef namespace name))
+    at_back (edit_line_pairs key (edits.SetClaimRef namespace name) user) SetClaimRef (claim_name_data namespace name)
+    (edits.SetClaimRef namespace name) refl refl (ap (λ r. r >>= λ p. Ok (edits.SetClaimRef p.0 p.1)) (claim_back members.SetClaimRef namespace name))
 edit_back key edits.ClearClaimRef user = at_back (edit_line_pairs key edits.ClearClaimRef user) ClearClaimRef (boolean true) edits.ClearClaimRef refl refl refl
 
 -- ---- the other members of the line

@@ -7,15 +7,15 @@ use Rattle.json_text.specs.Build.{Good, GoodMembers}
 use Rattle.json_text.specs.Members.{extra_members}
 use Rattle.json_text.proofs.Good.{good_others}
 use Rattle.json_text.proofs.PutAll.{others_are}
-use Rattle.kube_types.specs.declared.parts.Kind.{Kind}
-use Rattle.kube_types.specs.declared.parts.Kind.TheVariants as kinds
-use Rattle.kube_types.specs.declared.objects.Volume.{Volume}
-use Rattle.kube_types.specs.declared.objects.Claim.{Claim}
-use Rattle.kube_types.specs.declared.objects.Class.{Class}
-use Rattle.kube_types.specs.declared.objects.Node.{Node}
-use Rattle.kube_types.specs.declared.objects.Pod.{Pod}
-use Rattle.kube_types.specs.declared.objects.Object.{Object}
-use Rattle.kube_types.specs.declared.objects.Object.TheVariants as objects
+use Rattle.kube_parts.specs.declared.parts.Kind.{Kind}
+use Rattle.kube_parts.specs.declared.parts.Kind.TheVariants as kinds
+use Rattle.kube_objects.specs.declared.objects.Volume.{Volume}
+use Rattle.kube_objects.specs.declared.objects.Claim.{Claim}
+use Rattle.kube_objects.specs.declared.objects.Class.{Class}
+use Rattle.kube_objects.specs.declared.objects.Node.{Node}
+use Rattle.kube_objects.specs.declared.objects.Pod.{Pod}
+use Rattle.kube_objects.specs.declared.objects.Object.{Object}
+use Rattle.kube_objects.specs.declared.objects.Object.TheVariants as objects
 use Rattle.object_text.specs.declared.errors.Member.TheVariants as members
 use Rattle.object_text.specs.declared.errors.ObjectError.TheVariants.{NotObject, NotWhole}
 use Rattle.object_text.specs.declared.extra.Listed.{Listed}

@@ -10,7 +10,7 @@ use Rattle.serde_json.proofs.OnLiterals.{serde_json_on_literals}
 use Rattle.json_text.specs.Build.{put_some}
 use Rattle.json_text.specs.Members.{text, whole, object_of}
 use Rattle.plain_data.specs.Pairs.{Pair}
-use Rattle.kube_types.specs.declared.objects.Object.{Object}
+use Rattle.kube_objects.specs.declared.objects.Object.{Object}
 use Rattle.call_types.specs.declared.request.Request.{Request}
 use Rattle.call_types.specs.declared.request.Request.TheVariants as asks
 use Rattle.object_print.specs.Objects.{object_data, object_line}
@@ -30,12 +30,14 @@ count_small most n is = leb-true n most (and_parts (nat_le 1 n) (nat_le n most) 
 
 -- ---- objects
 
-alone_short : (word d : Data) → length (compact_text word) ≤ 16 → length (compact_text d) ≤ most_bytes → length (compact_text (object_of ((codes "do", Some word) ∷ (codes "object", Some d) ∷ (codes "user", None) ∷ []))) ≤ most_line_bytes
+alone_short : (word d : Data) → length (compact_text word) ≤ 16 → length (compact_text d) ≤ most_bytes
+    → length (compact_text (object_of ((codes "do", Some word) ∷ (codes "object", Some d) ∷ (codes "user", None) ∷ []))) ≤ most_line_bytes
 unfolding put_some serde_json_on_literals
 alone_short word d w h =
     omega (arith, length-append (compact_text word) (44 ∷ 34 ∷ 111 ∷ 98 ∷ 106 ∷ 101 ∷ 99 ∷ 116 ∷ 34 ∷ 58 ∷ (compact_text d ++ 125 ∷ [])), length-append (compact_text d) (125 ∷ []))
 
-user_short : (word d : Data) (n : ℕ) → n ≤ 4 → length (compact_text word) ≤ 16 → length (compact_text d) ≤ most_bytes → length (compact_text (object_of ((codes "do", Some word) ∷ (codes "object", Some d) ∷ (codes "user", whole n) ∷ []))) ≤ most_line_bytes
+user_short : (word d : Data) (n : ℕ) → n ≤ 4 → length (compact_text word) ≤ 16 → length (compact_text d) ≤ most_bytes
+    → length (compact_text (object_of ((codes "do", Some word) ∷ (codes "object", Some d) ∷ (codes "user", whole n) ∷ []))) ≤ most_line_bytes
 unfolding put_some serde_json_on_literals
 user_short word d n small w h =
     let digits = length-decimal-le 1 n (omega arith) (omega arith) (omega arith) in
@@ -132,7 +134,8 @@ lines_objects (line ∷ lines) h = All-cons LineHasShortObject line lines (line_
 lines_short : (imports : List Object) (agents : List Pair) (before lines : List Line) → AreLinesAfter imports agents before lines → All LineFits lines → All IsShort (map line_text lines)
 lines_short imports agents before [] is h = All-nil IsShort
 lines_short imports agents before (line ∷ lines) is h =
-    All-cons IsShort (line_text line) (map line_text lines) (line_short agents before line is.0 (All-head LineFits line lines h)) (lines_short imports agents (before ++ line ∷ []) lines is.2 (All-tail LineFits line lines h))
+    All-cons IsShort (line_text line) (map line_text lines) (line_short agents before line is.0 (All-head LineFits line lines h))
+    (lines_short imports agents (before ++ line ∷ []) lines is.2 (All-tail LineFits line lines h))
 
 -- ---- faults
 
@@ -148,11 +151,13 @@ fault_short call is = number_short call (count_small most_call call is)
 
 faults_short : (calls : List ℕ) → All (IsCount most_call) calls → All IsShort (map fault_text calls)
 faults_short [] h = All-nil IsShort
-faults_short (call ∷ calls) h = All-cons IsShort (fault_text call) (map fault_text calls) (fault_short call (All-head (IsCount most_call) call calls h)) (faults_short calls (All-tail (IsCount most_call) call calls h))
+faults_short (call ∷ calls) h = All-cons IsShort (fault_text call) (map fault_text calls) (fault_short call
+    (All-head (IsCount most_call) call calls h)) (faults_short calls (All-tail (IsCount most_call) call calls h))
 
 -- ---- imported objects
 
-import_alone : (word d : Data) → length (compact_text word) ≤ 16 → length (compact_text d) ≤ most_bytes → length (compact_text (object_of ((codes "do", Some word) ∷ (codes "object", Some d) ∷ []))) ≤ most_line_bytes
+import_alone : (word d : Data) → length (compact_text word) ≤ 16 → length (compact_text d) ≤ most_bytes
+    → length (compact_text (object_of ((codes "do", Some word) ∷ (codes "object", Some d) ∷ []))) ≤ most_line_bytes
 unfolding put_some serde_json_on_literals
 import_alone word d w h =
     omega (arith, length-append (compact_text word) (44 ∷ 34 ∷ 111 ∷ 98 ∷ 106 ∷ 101 ∷ 99 ∷ 116 ∷ 34 ∷ 58 ∷ (compact_text d ++ 125 ∷ [])), length-append (compact_text d) (125 ∷ []))

@@ -5,10 +5,10 @@ use Rattle.json_text.specs.Build.{pick}
 use Rattle.json_text.specs.Members.{MemberList, text, whole, object_of}
 use Rattle.plain_data.specs.Pairs.{Pair}
 use Rattle.quantity_text.specs.Quantity.{amount_of}
-use Rattle.kube_types.specs.declared.parts.Kind.{Kind}
-use Rattle.kube_types.specs.declared.key.Key.{Key}
-use Rattle.kube_types.specs.declared.uid.Uid.{Uid}
-use Rattle.kube_types.specs.declared.objects.Object.{Object}
+use Rattle.kube_parts.specs.declared.parts.Kind.{Kind}
+use Rattle.kube_objects.specs.declared.key.Key.{Key}
+use Rattle.kube_parts.specs.declared.uid.Uid.{Uid}
+use Rattle.kube_objects.specs.declared.objects.Object.{Object}
 use Rattle.binder_model.specs.Imports.{import_fault}
 use Rattle.call_types.specs.declared.edit.Edit.{Edit}
 use Rattle.call_types.specs.declared.request.Request.{Request}
@@ -28,7 +28,26 @@ use Rattle.script_text.specs.declared.script.Line.{Line}
 use Rattle.script_text.specs.declared.script.Line.TheVariants.{Call, Lose, Restart, Turn, Drain}
 use Rattle.script_text.specs.declared.script.Meaning.TheVariants as meanings
 use Rattle.script_text.specs.Said.{Said, has_begun, losses_of, restarts_of}
-use Rattle.script_text.specs.LineReaders.{create_line, update_line, edit_line, delete_line, get_line, list_line, time_line, pool_line, fault_line, import_line, lose_line, restart_line, turn_line, verb_from, verb_at, as_line, meaning_by, meaning_of}
+use Rattle.script_text.specs.LineReaders.{
+  create_line,
+  update_line,
+  edit_line,
+  delete_line,
+  get_line,
+  list_line,
+  time_line,
+  pool_line,
+  fault_line,
+  import_line,
+  lose_line,
+  restart_line,
+  turn_line,
+  verb_from,
+  verb_at,
+  as_line,
+  meaning_by,
+  meaning_of,
+}
 use Rattle.script_print.specs.Printing.{line_pairs, line_data, pool_pairs, pool_data, fault_data, import_pairs, import_data}
 use Rattle.script_laws.specs.Read.Given.{IsCount, IsNewCall, IsLineObject, IsUsersCall, IsActor, IsLineAfter}
 use Rattle.script_laws.specs.Read.Limits.{IsShortObject, HasShortObject, LineHasShortObject}
@@ -40,7 +59,8 @@ use Rattle.script_laws.proofs.Read.EditsBack.{edit_line_pairs, edit_back, no_edi
 pub verb_back : (line : Data) (word : List ℕ) (verb : Verb) → at members.Do line ≡ text word → verb_named word ≡ Some verb → verb_at line ≡ Ok verb
 verb_back line word verb e named = ap (λ r. r >>= λ w. verb_from (verb_named w)) (text_back members.Do line word e) ∙ ap verb_from named
 
-pub meaning_back : (agents : List Pair) (said : Said) (line : Data) (word : List ℕ) (verb : Verb) → at members.Do line ≡ text word → verb_named word ≡ Some verb → meaning_of agents said line ≡ meaning_by verb agents said line
+pub meaning_back : (agents : List Pair) (said : Said) (line : Data) (word : List ℕ) (verb : Verb) → at members.Do line ≡ text word
+    → verb_named word ≡ Some verb → meaning_of agents said line ≡ meaning_by verb agents said line
 unfolding meaning_of
 meaning_back agents said line word verb e named = ap (λ r. r >>= λ v. meaning_by v agents said line) (verb_back line word verb e named)
 
@@ -64,7 +84,8 @@ means_create agents said user o u is short =
     meaning_back agents said line (codes "create") verbs.Create (has (codes "do") ps) refl
     ∙ ap as_line (create_back line user o (object_at_back line o is.given short (has (codes "object") ps)) (user_back line user u (has (codes "user") ps)))
 
-means_update : (agents : List Pair) (said : Said) (user : ℕ) (o : Object) (version : Option ℕ) → IsCount 4 user → IsUsersCall (asks.Update o version) → IsShortObject o → Means agents said (Call user (asks.Update o version))
+means_update : (agents : List Pair) (said : Said) (user : ℕ) (o : Object) (version : Option ℕ) → IsCount 4 user → IsUsersCall (asks.Update o version)
+    → IsShortObject o → Means agents said (Call user (asks.Update o version))
 unfolding line_data update_line
 means_update agents said user o version u is short =
     let ps : MemberList = pairs_of user (asks.Update o version) in
@@ -78,7 +99,12 @@ means_edit agents said user key edit u is =
     let line : Data = object_of (edit_line_pairs key edit user) in
     let no = no_edits edit in
     meaning_back agents said line (codes "edit") verbs.Edit (edit_has (codes "do") key edit user no.verb) refl
-    ∙ rw (key_back line key is (edit_has (codes "kind") key edit user no.kind) (edit_has (codes "name") key edit user no.name) (edit_has (codes "namespace") key edit user no.namespace), edit_back key edit user, user_back line user u (edit_has (codes "user") key edit user no.user)) refl
+    ∙ rw (
+      key_back line key is (edit_has (codes "kind") key edit user no.kind) (edit_has (codes "name") key edit user no.name)
+          (edit_has (codes "namespace") key edit user no.namespace),
+      edit_back key edit user,
+      user_back line user u (edit_has (codes "user") key edit user no.user),
+    ) refl
 
 means_delete : (agents : List Pair) (said : Said) (user : ℕ) (key : Key) (uid : Option Uid) → IsCount 4 user → IsUsersCall (asks.Delete key uid) → Means agents said (Call user (asks.Delete key uid))
 unfolding line_data delete_line
@@ -86,7 +112,11 @@ means_delete agents said user key uid u is =
     let ps : MemberList = pairs_of user (asks.Delete key uid) in
     let line : Data = object_of ps in
     meaning_back agents said line (codes "delete") verbs.Delete (has (codes "do") ps) refl
-    ∙ rw (key_back line key is.0 (has (codes "kind") ps) (has (codes "name") ps) (has (codes "namespace") ps), condition_back line uid is.1 (has (codes "uid") ps), user_back line user u (has (codes "user") ps)) refl
+    ∙ rw (
+      key_back line key is.0 (has (codes "kind") ps) (has (codes "name") ps) (has (codes "namespace") ps),
+      condition_back line uid is.1 (has (codes "uid") ps),
+      user_back line user u (has (codes "user") ps),
+    ) refl
 
 means_get : (agents : List Pair) (said : Said) (user : ℕ) (key : Key) → IsCount 4 user → IsUsersCall (asks.Get key) → Means agents said (Call user (asks.Get key))
 unfolding line_data get_line
@@ -96,7 +126,8 @@ means_get agents said user key u is =
     meaning_back agents said line (codes "get") verbs.Get (has (codes "do") ps) refl
     ∙ rw (key_back line key is (has (codes "kind") ps) (has (codes "name") ps) (has (codes "namespace") ps), user_back line user u (has (codes "user") ps)) refl
 
-means_list : (agents : List Pair) (said : Said) (user : ℕ) (kind : Kind) (namespace : Option (List ℕ)) → IsCount 4 user → IsUsersCall (asks.List kind namespace) → Means agents said (Call user (asks.List kind namespace))
+means_list : (agents : List Pair) (said : Said) (user : ℕ) (kind : Kind) (namespace : Option (List ℕ)) → IsCount 4 user
+    → IsUsersCall (asks.List kind namespace) → Means agents said (Call user (asks.List kind namespace))
 unfolding line_data list_line
 means_list agents said user kind namespace u is =
     let ps : MemberList = pairs_of user (asks.List kind namespace) in
@@ -133,15 +164,21 @@ means_call agents said user (asks.SetTime moment) u is short = means_time agents
 
 -- ---- actors
 
-means_lose : (agents : List Pair) (said : Said) (actor : Actor) (call : ℕ) (after : Bool) → IsActor agents actor → IsNewCall (losses_of (actor_word actor) said.lines) call → Means agents said (Lose actor call after)
+means_lose : (agents : List Pair) (said : Said) (actor : Actor) (call : ℕ) (after : Bool) → IsActor agents actor
+    → IsNewCall (losses_of (actor_word actor) said.lines) call → Means agents said (Lose actor call after)
 unfolding line_data lose_line
 means_lose agents said actor call after a is =
     let ps : MemberList = line_pairs (Lose actor call after) in
     let line : Data = object_of ps in
     meaning_back agents said line (codes "lose") verbs.Lose (has (codes "do") ps) refl
-    ∙ rw (actor_back agents line actor a (has (codes "actor") ps), new_call_back members.Call (losses_of (actor_word actor) said.lines) line call is (has (codes "call") ps), when_back line after (has (codes "when") ps)) refl
+    ∙ rw (
+      actor_back agents line actor a (has (codes "actor") ps),
+      new_call_back members.Call (losses_of (actor_word actor) said.lines) line call is (has (codes "call") ps),
+      when_back line after (has (codes "when") ps),
+    ) refl
 
-means_restart : (agents : List Pair) (said : Said) (actor : Actor) (after : ℕ) → IsActor agents actor → IsNewCall (restarts_of (actor_word actor) said.lines) after → Means agents said (Restart actor after)
+means_restart : (agents : List Pair) (said : Said) (actor : Actor) (after : ℕ) → IsActor agents actor
+    → IsNewCall (restarts_of (actor_word actor) said.lines) after → Means agents said (Restart actor after)
 unfolding line_data restart_line
 means_restart agents said actor after a is =
     let ps : MemberList = line_pairs (Restart actor after) in
@@ -190,7 +227,13 @@ pool_means agents said pool size is =
     let line : Data = object_of ps in
     let t = pool.topology in
     meaning_back agents said line (codes "pool") verbs.Pool (has (codes "do") ps ∙ no_topology (codes "do") t _ (λ u. refl)) refl
-    ∙ rw (text_back (members.Of manifests.Name) line pool.name (has (codes "name") ps ∙ no_topology (codes "name") t _ (λ u. refl)), text_back (members.Of manifests.Provisioner) line pool.provisioner (has (codes "provisioner") ps ∙ no_topology (codes "provisioner") t _ (λ u. refl)), size_back line size pool.bytes is (has (codes "bytes") ps ∙ no_topology (codes "bytes") t _ (λ u. refl)), topology_back pool size) refl
+    ∙ rw (
+      text_back (members.Of manifests.Name) line pool.name (has (codes "name") ps ∙ no_topology (codes "name") t _ (λ u. refl)),
+      text_back (members.Of manifests.Provisioner) line pool.provisioner
+          (has (codes "provisioner") ps ∙ no_topology (codes "provisioner") t _ (λ u. refl)),
+      size_back line size pool.bytes is (has (codes "bytes") ps ∙ no_topology (codes "bytes") t _ (λ u. refl)),
+      topology_back pool size,
+    ) refl
 
 pub fault_means : (agents : List Pair) (said : Said) (call : ℕ) → IsNewCall said.faults call → meaning_of agents said (fault_data call) ≡ Ok (meanings.Fault call)
 unfolding fault_data fault_line
@@ -200,7 +243,8 @@ fault_means agents said call is =
     meaning_back agents said line (codes "fault") verbs.Fault (has (codes "do") ps) refl
     ∙ rw (new_call_back members.Call said.faults line call is (has (codes "call") ps)) refl
 
-pub import_means : (agents : List Pair) (said : Said) (o : Object) → IsLineObject o → IsShortObject o → has_begun said.lines ≡ false → import_fault said.imports o ≡ None → meaning_of agents said (import_data o) ≡ Ok (meanings.Import o)
+pub import_means : (agents : List Pair) (said : Said) (o : Object) → IsLineObject o → IsShortObject o → has_begun said.lines ≡ false
+    → import_fault said.imports o ≡ None → meaning_of agents said (import_data o) ≡ Ok (meanings.Import o)
 unfolding import_data import_line
 import_means agents said o is short early passes =
     let ps : MemberList = import_pairs o in

@@ -1,5 +1,33 @@
 -- What the readers of lines give are lines that a text can give, and their JSON is UTF-8.
-use Rattle.std.proofs.Common.{ℕ, ◌<◌, ◌≤◌, ◌^◌, ◌==◌, nat_le, List, [], ◌∷◌, ◌++◌, Bool, true, false, if◌then◌else◌, Option, Some, None, IfSome, Result, Ok, IfOk, IsUtf8, codes, decimal, option_map, refl, arith}
+use Rattle.std.proofs.Common.{
+  ℕ,
+  ◌<◌,
+  ◌≤◌,
+  ◌^◌,
+  ◌==◌,
+  nat_le,
+  List,
+  [],
+  ◌∷◌,
+  ◌++◌,
+  Bool,
+  true,
+  false,
+  if◌then◌else◌,
+  Option,
+  Some,
+  None,
+  IfSome,
+  Result,
+  Ok,
+  IfOk,
+  IsUtf8,
+  codes,
+  decimal,
+  option_map,
+  refl,
+  arith,
+}
 use Rattle.std.specs.Bool.{⊤}
 use Rattle.std.proofs.lemmas.Bool.{and_parts, leb-true}
 use Rattle.std.proofs.lemmas.Str.{IsUtf8-from_ascii}
@@ -10,14 +38,14 @@ use Rattle.serde_json.specs.Data.{Data, null, boolean, number, string, array, ob
 use Rattle.json_text.specs.Build.{number_data, put_some, put_all}
 use Rattle.json_text.specs.Members.{MemberList, text, whole, object_of}
 use Rattle.plain_data.specs.Pairs.{Pair}
-use Rattle.kube_types.specs.Named.{policy_named}
-use Rattle.kube_types.specs.Words.{kind_word}
-use Rattle.kube_types.specs.declared.parts.Kind.{Kind}
-use Rattle.kube_types.specs.declared.parts.Kind.TheVariants as kinds
-use Rattle.kube_types.specs.declared.parts.Policy.{Policy}
-use Rattle.kube_types.specs.declared.parts.Policy.TheVariants as policies
-use Rattle.kube_types.specs.declared.key.Key.{Key}
-use Rattle.kube_types.specs.declared.objects.Object.{Object}
+use Rattle.kube_parts.specs.Named.{policy_named}
+use Rattle.kube_parts.specs.Words.{kind_word}
+use Rattle.kube_parts.specs.declared.parts.Kind.{Kind}
+use Rattle.kube_parts.specs.declared.parts.Kind.TheVariants as kinds
+use Rattle.kube_parts.specs.declared.parts.Policy.{Policy}
+use Rattle.kube_parts.specs.declared.parts.Policy.TheVariants as policies
+use Rattle.kube_objects.specs.declared.key.Key.{Key}
+use Rattle.kube_objects.specs.declared.objects.Object.{Object}
 use Rattle.call_types.specs.declared.edit.Edit.{Edit}
 use Rattle.call_types.specs.declared.edit.Edit.TheVariants as edits
 use Rattle.call_types.specs.declared.request.Request.TheVariants as asks
@@ -38,10 +66,46 @@ use Rattle.script_lines.specs.declared.line_member.LineMember.{LineMember}
 use Rattle.script_lines.specs.declared.line_member.LineMember.TheVariants as members
 use Rattle.script_lines.specs.declared.errors.Reason.TheVariants.{NotWhole}
 use Rattle.script_lines.specs.declared.edit_members.EditMember.{EditMember}
-use Rattle.script_lines.specs.declared.edit_members.EditMember.TheVariants.{AddFinalizer, DropFinalizer, DropLabel, DropAnnotation, SetLabel, SetAnnotation, SetVolumeName, SetPolicy, SetClaimRef, ClearClaimRef}
+use Rattle.script_lines.specs.declared.edit_members.EditMember.TheVariants.{
+  AddFinalizer,
+  DropFinalizer,
+  DropLabel,
+  DropAnnotation,
+  SetLabel,
+  SetAnnotation,
+  SetVolumeName,
+  SetPolicy,
+  SetClaimRef,
+  ClearClaimRef,
+}
 use Rattle.script_lines.specs.Answers.{◌>>=◌}
 use Rattle.script_lines.specs.Actors.{actor_word}
-use Rattle.script_lines.specs.Members.{at, text_of, text_at, count_at, object_value_of, is_namespaced, most_call, most_turn, new_call_at, user_at, kind_at, key_at, condition_at, object_at, actor_at, when_at, edit_member, edit_member_at, two_texts_in, policy_from, cleared, edit_of, edit_from, edit_at}
+use Rattle.script_lines.specs.Members.{
+  at,
+  text_of,
+  text_at,
+  count_at,
+  object_value_of,
+  is_namespaced,
+  most_call,
+  most_turn,
+  new_call_at,
+  user_at,
+  kind_at,
+  key_at,
+  condition_at,
+  object_at,
+  actor_at,
+  when_at,
+  edit_member,
+  edit_member_at,
+  two_texts_in,
+  policy_from,
+  cleared,
+  edit_of,
+  edit_from,
+  edit_at,
+}
 use Rattle.script_text.specs.LineReaders.{condition_of, create_line, update_line, edit_line, delete_line, get_line, list_line, time_line, lose_line, restart_line, turn_line}
 use Rattle.script_text.specs.Said.{losses_of, restarts_of}
 use Rattle.script_text.specs.declared.script.Line.{Line}
@@ -49,7 +113,21 @@ use Rattle.script_text.specs.declared.script.Line.TheVariants.{Call, Lose, Resta
 use Rattle.script_print.specs.Printing.{user_pairs, line_key_pairs, when_word, line_pairs, line_data}
 use Rattle.script_laws.specs.Read.Given.{IsCount, IsNewCall, IsLineAfter}
 use Rattle.script_laws.proofs.Read.Values.{step, past, unless_gives, WasRead, at_read}
-use Rattle.script_laws.proofs.Read.MembersGive.{text_of_gives, text_gives, count_gives, new_call_gives, user_gives, KeyGiven, key_gives, condition_gives, ObjectGiven, object_gives, AreAgents, ActorGiven, actor_gives}
+use Rattle.script_laws.proofs.Read.MembersGive.{
+  text_of_gives,
+  text_gives,
+  count_gives,
+  new_call_gives,
+  user_gives,
+  KeyGiven,
+  key_gives,
+  condition_gives,
+  ObjectGiven,
+  object_gives,
+  AreAgents,
+  ActorGiven,
+  actor_gives,
+}
 
 -- ---- members that are UTF-8
 
@@ -117,14 +195,16 @@ edit_utf8 (edits.SetLabel k v) h = (IsUtf8-are_ascii _ refl, object_of_utf8 (two
 edit_utf8 (edits.SetAnnotation k v) h = (IsUtf8-are_ascii _ refl, object_of_utf8 (two_texts (codes "key") k (codes "value") v) (IsUtf8-are_ascii _ refl, h.0, (IsUtf8-are_ascii _ refl, h.1, tt)), tt)
 edit_utf8 (edits.SetVolumeName s) h = (IsUtf8-are_ascii _ refl, h, tt)
 edit_utf8 (edits.SetPolicy p) h = (IsUtf8-are_ascii _ refl, policy_utf8 p, tt)
-edit_utf8 (edits.SetClaimRef namespace name) h = (IsUtf8-are_ascii _ refl, object_of_utf8 (two_texts (codes "name") name (codes "namespace") namespace) (IsUtf8-are_ascii _ refl, h.1, (IsUtf8-are_ascii _ refl, h.0, tt)), tt)
+edit_utf8 (edits.SetClaimRef namespace name) h =
+    (IsUtf8-are_ascii _ refl, object_of_utf8 (two_texts (codes "name") name (codes "namespace") namespace) (IsUtf8-are_ascii _ refl, h.1, (IsUtf8-are_ascii _ refl, h.0, tt)), tt)
 edit_utf8 edits.ClearClaimRef h = (IsUtf8-are_ascii _ refl, tt, tt)
 
 pub object_utf8 : (o : Object) → ObjectGiven o → HasUtf8 (object_data o)
 unfolding object_line
 object_utf8 o h =
     let good = object_good o h.given.given in
-    of_ok HasUtf8 (value_of (object_line o)) (object_data o) (value_read_utf8 (object_line o)) (rw (line_utf8 o h.given.given h.utf8, read-compact_text (object_data o) good.canonical good.shallow) refl)
+    of_ok HasUtf8 (value_of (object_line o)) (object_data o) (value_read_utf8 (object_line o))
+    (rw (line_utf8 o h.given.given h.utf8, read-compact_text (object_data o) good.canonical good.shallow) refl)
 
 -- ---- edits
 
@@ -168,11 +248,14 @@ edit_of_gives AddFinalizer d h = text_edit members.AddFinalizer (λ s. edits.Add
 edit_of_gives DropFinalizer d h = text_edit members.DropFinalizer (λ s. edits.DropFinalizer s) d (λ s u. u) h
 edit_of_gives DropLabel d h = text_edit members.DropLabel (λ s. edits.DropLabel s) d (λ s u. u) h
 edit_of_gives DropAnnotation d h = text_edit members.DropAnnotation (λ s. edits.DropAnnotation s) d (λ s u. u) h
-edit_of_gives SetLabel d h = step BothUtf8 EditUtf8 (two_texts_in members.SetLabel (members.Of manifests.Key) members.Value d) _ (two_texts_give members.SetLabel (members.Of manifests.Key) members.Value d h) (λ p u. u)
-edit_of_gives SetAnnotation d h = step BothUtf8 EditUtf8 (two_texts_in members.SetAnnotation (members.Of manifests.Key) members.Value d) _ (two_texts_give members.SetAnnotation (members.Of manifests.Key) members.Value d h) (λ p u. u)
+edit_of_gives SetLabel d h = step BothUtf8 EditUtf8 (two_texts_in members.SetLabel (members.Of manifests.Key) members.Value d) _ (two_texts_give
+    members.SetLabel (members.Of manifests.Key) members.Value d h) (λ p u. u)
+edit_of_gives SetAnnotation d h = step BothUtf8 EditUtf8 (two_texts_in members.SetAnnotation (members.Of manifests.Key) members.Value d) _
+    (two_texts_give members.SetAnnotation (members.Of manifests.Key) members.Value d h) (λ p u. u)
 edit_of_gives SetVolumeName d h = text_edit members.SetVolumeName (λ s. edits.SetVolumeName s) d (λ s u. u) h
 edit_of_gives SetPolicy d h = past EditUtf8 (text_of members.SetPolicy d) _ (λ s. policy_edit (policy_named s))
-edit_of_gives SetClaimRef d h = step BothUtf8 EditUtf8 (two_texts_in members.SetClaimRef (members.Of manifests.Namespace) (members.Of manifests.Name) d) _ (two_texts_give members.SetClaimRef (members.Of manifests.Namespace) (members.Of manifests.Name) d h) (λ p u. u)
+edit_of_gives SetClaimRef d h = step BothUtf8 EditUtf8 (two_texts_in members.SetClaimRef (members.Of manifests.Namespace) (members.Of manifests.Name)
+    d) _ (two_texts_give members.SetClaimRef (members.Of manifests.Namespace) (members.Of manifests.Name) d h) (λ p u. u)
 edit_of_gives ClearClaimRef d h = clear_edit d
 
 edit_read : (d : Data) → WasRead 127 d → IfOk (edit_at d) EditUtf8
@@ -208,7 +291,11 @@ unfolding update_line line_data
 update_gives agents before d h =
     step ObjectGiven (LineGiven agents before) (object_at d) _ (object_gives d h) (λ o is.
     step (IsCount 4) (LineGiven agents before) (user_at d) _ (user_gives d) (λ user u.
-    record { given = (u, (is.given, refl)); utf8 = object_of_utf8 (line_pairs (Call user (asks.Update o (condition_of o)))) (IsUtf8-are_ascii _ refl, IsUtf8-are_ascii _ refl, object_values user o u is) }))
+    record {
+      given = (u, (is.given, refl));
+      utf8 =
+          object_of_utf8 (line_pairs (Call user (asks.Update o (condition_of o)))) (IsUtf8-are_ascii _ refl, IsUtf8-are_ascii _ refl, object_values user o u is);
+    }))
 
 pub edit_gives : (agents : List Pair) (before : List Line) (d : Data) → WasRead 127 d → Gives agents before (edit_line d)
 unfolding edit_line line_data
@@ -216,7 +303,15 @@ edit_gives agents before d h =
     step KeyGiven (LineGiven agents before) (key_at d) _ (key_gives 126 d h) (λ key is.
     step EditUtf8 (LineGiven agents before) (edit_at d) _ (edit_read d h) (λ edit e.
     step (IsCount 4) (LineGiven agents before) (user_at d) _ (user_gives d) (λ user u.
-    record { given = (u, is.named); utf8 = object_of_utf8 (line_pairs (Call user (asks.Edit key edit))) (IsUtf8-are_ascii _ refl, IsUtf8-are_ascii _ refl, append_utf8 (line_key_pairs key ++ edit_pairs edit) (user_pairs user) (append_utf8 (line_key_pairs key) (edit_pairs edit) (key_utf8 key is) (edit_utf8 edit e)) (user_utf8 user u)) })))
+    record {
+      given = (u, is.named);
+      utf8 = object_of_utf8 (line_pairs (Call user (asks.Edit key edit))) (
+        IsUtf8-are_ascii _ refl,
+        IsUtf8-are_ascii _
+            refl,
+        append_utf8 (line_key_pairs key ++ edit_pairs edit) (user_pairs user) (append_utf8 (line_key_pairs key) (edit_pairs edit) (key_utf8 key is) (edit_utf8 edit e)) (user_utf8 user u),
+      );
+    })))
 
 pub delete_gives : (agents : List Pair) (before : List Line) (d : Data) → WasRead 127 d → Gives agents before (delete_line d)
 unfolding delete_line line_data
@@ -224,28 +319,59 @@ delete_gives agents before d h =
     step KeyGiven (LineGiven agents before) (key_at d) _ (key_gives 126 d h) (λ key is.
     step (λ o. IfSome o IsUid) (LineGiven agents before) (condition_at d) _ (condition_gives d) (λ uid are.
     step (IsCount 4) (LineGiven agents before) (user_at d) _ (user_gives d) (λ user u.
-    record { given = (u, (is.named, are)); utf8 = object_of_utf8 (line_pairs (Call user (asks.Delete key uid))) (IsUtf8-are_ascii _ refl, IsUtf8-are_ascii _ refl, append_utf8 (line_key_pairs key ++ (codes "uid", option_map uid_data uid) ∷ []) (user_pairs user) (append_utf8 (line_key_pairs key) ((codes "uid", option_map uid_data uid) ∷ []) (key_utf8 key is) (IsUtf8-are_ascii _ refl, uid_option_utf8 uid, tt)) (user_utf8 user u)) })))
+    record {
+      given = (u, (is.named, are));
+      utf8 =
+          object_of_utf8 (line_pairs (Call user (asks.Delete key uid))) (
+            IsUtf8-are_ascii _ refl,
+            IsUtf8-are_ascii _ refl,
+            append_utf8 (line_key_pairs key ++ (codes "uid", option_map uid_data uid) ∷ []) (user_pairs user)
+                (append_utf8 (line_key_pairs key) ((codes "uid", option_map uid_data uid) ∷ []) (key_utf8 key is) (IsUtf8-are_ascii _ refl, uid_option_utf8 uid, tt)) (user_utf8 user u),
+          );
+    })))
 
 pub get_gives : (agents : List Pair) (before : List Line) (d : Data) → WasRead 127 d → Gives agents before (get_line d)
 unfolding get_line line_data
 get_gives agents before d h =
     step KeyGiven (LineGiven agents before) (key_at d) _ (key_gives 126 d h) (λ key is.
     step (IsCount 4) (LineGiven agents before) (user_at d) _ (user_gives d) (λ user u.
-    record { given = (u, is.named); utf8 = object_of_utf8 (line_pairs (Call user (asks.Get key))) (IsUtf8-are_ascii _ refl, IsUtf8-are_ascii _ refl, append_utf8 (line_key_pairs key) (user_pairs user) (key_utf8 key is) (user_utf8 user u)) }))
+    record {
+      given = (u, is.named);
+      utf8 = object_of_utf8 (line_pairs (Call user (asks.Get key))) (
+        IsUtf8-are_ascii _ refl,
+        IsUtf8-are_ascii _ refl,
+        append_utf8 (line_key_pairs key) (user_pairs user) (key_utf8 key is) (user_utf8 user u),
+      );
+    }))
 
 pub list_gives : (agents : List Pair) (before : List Line) (d : Data) → WasRead 127 d → Gives agents before (list_line d)
 unfolding list_line line_data
 list_gives agents before d h =
     past (LineGiven agents before) (kind_at d) _ (λ kind.
     step (IsCount 4) (LineGiven agents before) (user_at d) _ (user_gives d) (λ user u.
-    record { given = (u, refl); utf8 = object_of_utf8 (line_pairs (Call user (asks.List kind None))) (IsUtf8-are_ascii _ refl, IsUtf8-are_ascii _ refl, (IsUtf8-are_ascii _ refl, kind_utf8 kind, (IsUtf8-are_ascii _ refl, tt, user_utf8 user u))) }))
+    record {
+      given = (u, refl);
+      utf8 = object_of_utf8 (line_pairs (Call user (asks.List kind None))) (
+        IsUtf8-are_ascii _ refl,
+        IsUtf8-are_ascii _
+            refl,
+        (IsUtf8-are_ascii _ refl, kind_utf8 kind, (IsUtf8-are_ascii _ refl, tt, user_utf8 user u)),
+      );
+    }))
 
 pub time_gives : (agents : List Pair) (before : List Line) (d : Data) → WasRead 127 d → Gives agents before (time_line d)
 unfolding time_line line_data
 time_gives agents before d h =
     step IsUtf8 (LineGiven agents before) (text_at members.At d) _ (text_gives 126 members.At d h) (λ moment m.
     step (IsCount 4) (LineGiven agents before) (user_at d) _ (user_gives d) (λ user u.
-    record { given = (u, tt); utf8 = object_of_utf8 (line_pairs (Call user (asks.SetTime moment))) (IsUtf8-are_ascii _ refl, IsUtf8-are_ascii _ refl, (IsUtf8-are_ascii _ refl, m, user_utf8 user u)) }))
+    record {
+      given = (u, tt);
+      utf8 = object_of_utf8 (line_pairs (Call user (asks.SetTime moment))) (
+        IsUtf8-are_ascii _ refl,
+        IsUtf8-are_ascii _ refl,
+        (IsUtf8-are_ascii _ refl, m, user_utf8 user u),
+      );
+    }))
 
 when_utf8 : (after : Bool) → IsUtf8 (when_word after)
 when_utf8 false = IsUtf8-are_ascii _ refl
@@ -255,23 +381,46 @@ pub lose_gives : (agents : List Pair) (before : List Line) (d : Data) → AreAge
 unfolding lose_line line_data
 lose_gives agents before d are h =
     step (ActorGiven agents) (LineGiven agents before) (actor_at agents d) _ (actor_gives 126 agents d are h) (λ actor a.
-    step (IsNewCall (losses_of (actor_word actor) before)) (LineGiven agents before) (new_call_at members.Call (losses_of (actor_word actor) before) d) _ (new_call_gives members.Call (losses_of (actor_word actor) before) d) (λ call is.
+    step (IsNewCall (losses_of (actor_word actor) before)) (LineGiven agents before)
+    (new_call_at members.Call (losses_of (actor_word actor) before) d) _ (new_call_gives members.Call (losses_of (actor_word actor) before) d) (λ call is.
     past (LineGiven agents before) (when_at d) _ (λ after.
-    record { given = (a.named, is); utf8 = object_of_utf8 (line_pairs (Lose actor call after)) (IsUtf8-are_ascii _ refl, IsUtf8-are_ascii _ refl, (IsUtf8-are_ascii _ refl, a.utf8, (IsUtf8-are_ascii _ refl, count_utf8 most_call call (omega arith) is.counted, (IsUtf8-are_ascii _ refl, when_utf8 after, tt)))) })))
+    record {
+      given = (a.named, is);
+      utf8 = object_of_utf8 (line_pairs (Lose actor call after)) (
+        IsUtf8-are_ascii _ refl,
+        IsUtf8-are_ascii _ refl,
+        (IsUtf8-are_ascii _ refl, a.utf8, (IsUtf8-are_ascii _ refl, count_utf8 most_call call (omega arith) is.counted, (IsUtf8-are_ascii _ refl, when_utf8 after, tt))),
+      );
+    })))
 
 pub restart_gives : (agents : List Pair) (before : List Line) (d : Data) → AreAgents agents → WasRead 127 d → Gives agents before (restart_line agents before d)
 unfolding restart_line line_data
 restart_gives agents before d are h =
     step (ActorGiven agents) (LineGiven agents before) (actor_at agents d) _ (actor_gives 126 agents d are h) (λ actor a.
-    step (IsNewCall (restarts_of (actor_word actor) before)) (LineGiven agents before) (new_call_at members.After (restarts_of (actor_word actor) before) d) _ (new_call_gives members.After (restarts_of (actor_word actor) before) d) (λ after is.
-    record { given = (a.named, is); utf8 = object_of_utf8 (line_pairs (Restart actor after)) (IsUtf8-are_ascii _ refl, IsUtf8-are_ascii _ refl, (IsUtf8-are_ascii _ refl, a.utf8, (IsUtf8-are_ascii _ refl, count_utf8 most_call after (omega arith) is.counted, tt))) }))
+    step (IsNewCall (restarts_of (actor_word actor) before)) (LineGiven agents before)
+    (new_call_at members.After (restarts_of (actor_word actor) before) d) _ (new_call_gives members.After (restarts_of (actor_word actor) before) d) (λ after is.
+    record {
+      given = (a.named, is);
+      utf8 = object_of_utf8 (line_pairs (Restart actor after)) (
+        IsUtf8-are_ascii _ refl,
+        IsUtf8-are_ascii _ refl,
+        (IsUtf8-are_ascii _ refl, a.utf8, (IsUtf8-are_ascii _ refl, count_utf8 most_call after (omega arith) is.counted, tt)),
+      );
+    }))
 
 pub turn_gives : (agents : List Pair) (before : List Line) (d : Data) → AreAgents agents → WasRead 127 d → Gives agents before (turn_line agents d)
 unfolding turn_line line_data
 turn_gives agents before d are h =
     step (ActorGiven agents) (LineGiven agents before) (actor_at agents d) _ (actor_gives 126 agents d are h) (λ actor a.
     step (IsCount most_turn) (LineGiven agents before) (count_at members.Calls most_turn d) _ (count_gives members.Calls most_turn d) (λ calls is.
-    record { given = (a.named, is); utf8 = object_of_utf8 (line_pairs (Turn actor calls)) (IsUtf8-are_ascii _ refl, IsUtf8-are_ascii _ refl, (IsUtf8-are_ascii _ refl, a.utf8, (IsUtf8-are_ascii _ refl, count_utf8 most_turn calls (omega arith) is, tt))) }))
+    record {
+      given = (a.named, is);
+      utf8 = object_of_utf8 (line_pairs (Turn actor calls)) (
+        IsUtf8-are_ascii _ refl,
+        IsUtf8-are_ascii _ refl,
+        (IsUtf8-are_ascii _ refl, a.utf8, (IsUtf8-are_ascii _ refl, count_utf8 most_turn calls (omega arith) is, tt)),
+      );
+    }))
 
 pub drain_given : (agents : List Pair) (before : List Line) → LineGiven agents before Drain
 unfolding line_data

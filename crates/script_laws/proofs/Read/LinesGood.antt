@@ -5,8 +5,8 @@ use Rattle.json_text.specs.Build.{number_data, Good, GoodOption, GoodPairs}
 use Rattle.json_text.specs.Members.{text, whole}
 use Rattle.json_text.proofs.Good.{good_append, good_number, good_object_of, good_string}
 use Rattle.plain_data.specs.Pairs.{Pair}
-use Rattle.kube_types.specs.declared.key.Key.{Key}
-use Rattle.kube_types.specs.declared.objects.Object.{Object}
+use Rattle.kube_objects.specs.declared.key.Key.{Key}
+use Rattle.kube_objects.specs.declared.objects.Object.{Object}
 use Rattle.call_types.specs.declared.request.Request.{Request}
 use Rattle.call_types.specs.declared.request.Request.TheVariants as asks
 use Rattle.call_types.specs.declared.setup.Pool.{Pool}
@@ -70,7 +70,8 @@ pub line_good : (agents : List Pair) (before : List Line) (line : Line) → IsLi
 unfolding line_data
 line_good agents before (Call user request) is =
     good_object_of 126 (line_pairs (Call user request)) (good_string, good_append 126 (call_pairs request) (user_pairs user) (good_call request is.1) (good_user 126 user is.0))
-line_good agents before (Lose actor call after) is = good_object_of 126 (line_pairs (Lose actor call after)) (good_string, (good_string, (good_count most_call call (omega arith) is.1.counted, (good_string, tt))))
+line_good agents before (Lose actor call after) is =
+    good_object_of 126 (line_pairs (Lose actor call after)) (good_string, (good_string, (good_count most_call call (omega arith) is.1.counted, (good_string, tt))))
 line_good agents before (Restart actor after) is = good_object_of 126 (line_pairs (Restart actor after)) (good_string, (good_string, (good_count most_call after (omega arith) is.1.counted, tt)))
 line_good agents before (Turn actor calls) is = good_object_of 126 (line_pairs (Turn actor calls)) (good_string, (good_string, (good_count most_turn calls (omega arith) is.1, tt)))
 line_good agents before Drain is = good_object_of 126 (line_pairs Drain) (good_string, tt)

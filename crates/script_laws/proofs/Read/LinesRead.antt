@@ -39,7 +39,8 @@ not_blank (object ms) h = refl
 value_read : (d : Data) → IsRead d → line_value (compact_text d) ≡ Ok d
 value_read d h = rw (h.utf8, read-compact_text d h.good.canonical h.good.shallow, h.members) refl
 
-pub line_read : (agents : List Pair) (said : Said) (n : ℕ) (d : Data) (meaning : Meaning) → IsRead d → n ≤ most_lines → meaning_of agents said d ≡ Ok meaning → limit_of (and_said said n meaning) meaning ≡ None
+pub line_read : (agents : List Pair) (said : Said) (n : ℕ) (d : Data) (meaning : Meaning) → IsRead d → n ≤ most_lines
+    → meaning_of agents said d ≡ Ok meaning → limit_of (and_said said n meaning) meaning ≡ None
     → and_line agents said n (compact_text d) ≡ Ok (and_said said n meaning)
 unfolding and_line and_filled
 line_read agents said n d meaning h few means limit =
@@ -77,7 +78,8 @@ unfolding serde_json_on_literals
 no_tokens = refl
 
 blank_value : (xs : List ℕ) → list_all is_blank xs ≡ true → read xs ≡ None
-blank_value xs e = ap (λ ls. option_and_then of_json (option_and_then (λ (p : json.Json × List Token). json.if_last p.0 p.1) (json.value max_depth (punctuate fresh ls)))) (blank_lexemes xs e) ∙ no_tokens
+blank_value xs e = ap (λ ls. option_and_then of_json
+    (option_and_then (λ (p : json.Json × List Token). json.if_last p.0 p.1) (json.value max_depth (punctuate fresh ls)))) (blank_lexemes xs e) ∙ no_tokens
 
 blank_line_value : (line : List ℕ) → list_all is_blank line ≡ true → line_value line ≡ Err NotJson
 blank_line_value line e = by (is_utf8 line) (read line) (blank_value line e)

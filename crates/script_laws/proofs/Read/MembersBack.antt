@@ -12,13 +12,13 @@ use Rattle.json_text.proofs.Good.{no_float_good}
 use Rattle.json_text.proofs.PutAll.{get-put_all}
 use Rattle.plain_data.specs.Pairs.{Pair}
 use Rattle.quantity_text.specs.Quantity.{amount_of}
-use Rattle.kube_types.specs.Words.{kind_word}
-use Rattle.kube_types.specs.Named.{kind_named}
-use Rattle.kube_types.proofs.NamedWords.{kinds_inverse}
-use Rattle.kube_types.specs.declared.key.Key.{Key}
-use Rattle.kube_types.specs.declared.uid.Uid.{Uid}
-use Rattle.kube_types.specs.declared.parts.Kind.{Kind}
-use Rattle.kube_types.specs.declared.objects.Object.{Object}
+use Rattle.kube_parts.specs.Words.{kind_word}
+use Rattle.kube_parts.specs.Named.{kind_named}
+use Rattle.kube_parts.proofs.NamedWords.{kinds_inverse}
+use Rattle.kube_objects.specs.declared.key.Key.{Key}
+use Rattle.kube_parts.specs.declared.uid.Uid.{Uid}
+use Rattle.kube_parts.specs.declared.parts.Kind.{Kind}
+use Rattle.kube_objects.specs.declared.objects.Object.{Object}
 use Rattle.object_print.specs.Metadata.{uid_data}
 use Rattle.object_print.specs.Objects.{object_data, object_line}
 use Rattle.object_text.specs.declared.errors.Member.TheVariants as manifests
@@ -38,7 +38,33 @@ use Rattle.script_lines.specs.declared.line_member.LineMember.TheVariants as mem
 use Rattle.script_lines.specs.declared.errors.Reason.TheVariants.{BadValue}
 use Rattle.script_lines.specs.Answers.{◌>>=◌, taken_in_line, unless}
 use Rattle.script_lines.specs.Actors.{actor_word, actor_named}
-use Rattle.script_lines.specs.Members.{at, needed_from, text_of, text_at, count_of, count_at, most_call, is_given, new_call_at, user_from, user_at, kind_from, kind_at, is_namespaced, namespace_at, condition_at, key_at, object_taken, object_at, actor_from, actor_at, when_named, when_at, size_taken, size_at}
+use Rattle.script_lines.specs.Members.{
+  at,
+  needed_from,
+  text_of,
+  text_at,
+  count_of,
+  count_at,
+  most_call,
+  is_given,
+  new_call_at,
+  user_from,
+  user_at,
+  kind_from,
+  kind_at,
+  is_namespaced,
+  namespace_at,
+  condition_at,
+  key_at,
+  object_taken,
+  object_at,
+  actor_from,
+  actor_at,
+  when_named,
+  when_at,
+  size_taken,
+  size_at,
+}
 use Rattle.script_print.specs.Printing.{when_word}
 use Rattle.script_laws.specs.Read.Given.{IsCount, IsNewCall, IsLineKey, IsActor}
 
@@ -69,7 +95,8 @@ user_back line user is e = ap user_from e ∙ by (user == 1) refl
 kind_back : (line : Data) (kind : Kind) → at (members.Of manifests.Kind) line ≡ text (kind_word kind) → kind_at line ≡ Ok kind
 kind_back line kind e = ap (λ r. r >>= λ s. kind_from (kind_named s)) (text_back (members.Of manifests.Kind) line (kind_word kind) e) ∙ ap kind_from (kinds_inverse.back kind)
 
-namespace_back : (namespaced : Bool) (line : Data) (s : List ℕ) → IsNamespace namespaced s → at (members.Of manifests.Namespace) line ≡ (if namespaced then text s else None) → namespace_at namespaced line ≡ Ok s
+namespace_back : (namespaced : Bool) (line : Data) (s : List ℕ) → IsNamespace namespaced s
+    → at (members.Of manifests.Namespace) line ≡ (if namespaced then text s else None) → namespace_at namespaced line ≡ Ok s
 namespace_back true line s is e = ap (λ o. taken_in_line (text_from manifests.Namespace (codes "default") o) >>= λ t. Ok (kept_namespace true t)) e
 namespace_back false line s is e = ap (λ o. taken_in_line (text_from manifests.Namespace (codes "default") o) >>= λ t. Ok (kept_namespace false t)) e ∙ ap Ok (sym is)
 

@@ -1,5 +1,37 @@
 -- What the readers of members give meets what is asked of lines that a text can give.
-use Rattle.std.proofs.Common.{◌≡◌, ℕ, suc, ◌&&◌, nat_le, List, [], ◌∷◌, Bool, true, false, not, if◌then◌else◌, Option, Some, None, IfSome, Result, Ok, Err, IfOk, IsUtf8, bytes_eq, codes, option_map, refl, sym, ap, ◌∙◌, subst, arith}
+use Rattle.std.proofs.Common.{
+  ◌≡◌,
+  ℕ,
+  suc,
+  ◌&&◌,
+  nat_le,
+  List,
+  [],
+  ◌∷◌,
+  Bool,
+  true,
+  false,
+  not,
+  if◌then◌else◌,
+  Option,
+  Some,
+  None,
+  IfSome,
+  Result,
+  Ok,
+  Err,
+  IfOk,
+  IsUtf8,
+  bytes_eq,
+  codes,
+  option_map,
+  refl,
+  sym,
+  ap,
+  ◌∙◌,
+  subst,
+  arith,
+}
 use Rattle.std.proofs.lemmas.Slice.Eq.{bytes_eq-Decides}
 use Rattle.std.proofs.lemmas.Map.Text.{is_eq-slice_cmp}
 use Rattle.std.specs.Bool.{⊤}
@@ -9,12 +41,12 @@ use Rattle.serde_json.specs.Data.{unsigned, negative, float, Data, null, boolean
 use Rattle.json.proofs.Printed.Utf8.{IsUtf8-are_ascii}
 use Rattle.plain_data.specs.Pairs.{Pair, text_cmp, pair_key}
 use Rattle.plain_data.specs.Rows.{find}
-use Rattle.kube_types.specs.Uids.{uid_of_text}
-use Rattle.kube_types.proofs.UidFits.{uid_fits}
-use Rattle.kube_types.specs.Named.{value_named}
-use Rattle.kube_types.specs.declared.key.Key.{Key}
-use Rattle.kube_types.specs.declared.uid.Uid.{Uid}
-use Rattle.kube_types.specs.declared.objects.Object.{Object}
+use Rattle.kube_parts.specs.Uids.{uid_of_text}
+use Rattle.kube_parts.proofs.UidFits.{uid_fits}
+use Rattle.kube_parts.specs.Named.{value_named}
+use Rattle.kube_objects.specs.declared.key.Key.{Key}
+use Rattle.kube_parts.specs.declared.uid.Uid.{Uid}
+use Rattle.kube_objects.specs.declared.objects.Object.{Object}
 use Rattle.object_text.specs.declared.errors.ObjectError.{ObjectError}
 use Rattle.object_text.specs.declared.errors.ObjectError.TheVariants.{TooLong}
 use Rattle.object_text.specs.declared.errors.Member.TheVariants as manifests
@@ -36,7 +68,28 @@ use Rattle.script_lines.specs.declared.line_member.LineMember.TheVariants as mem
 use Rattle.script_lines.specs.declared.errors.Reason.TheVariants.{BadValue}
 use Rattle.script_lines.specs.Answers.{taken_in_line}
 use Rattle.script_lines.specs.Actors.{worker_word, agent_word, actor_word, all_workers, agent_named, worker_or, actor_named}
-use Rattle.script_lines.specs.Members.{at, needed, text_of, text_at, count_of, count_at, most_call, is_given, new_call_at, user_from, user_at, kind_at, is_namespaced, namespace_at, condition_at, key_at, object_taken, object_at, actor_from, actor_at}
+use Rattle.script_lines.specs.Members.{
+  at,
+  needed,
+  text_of,
+  text_at,
+  count_of,
+  count_at,
+  most_call,
+  is_given,
+  new_call_at,
+  user_from,
+  user_at,
+  kind_at,
+  is_namespaced,
+  namespace_at,
+  condition_at,
+  key_at,
+  object_taken,
+  object_at,
+  actor_from,
+  actor_at,
+}
 use Rattle.script_laws.specs.Read.Given.{IsCount, IsNewCall, IsLineObject, IsLineKey, IsActor}
 use Rattle.script_laws.proofs.Read.Values.{step, past, unless_gives, WasRead, sound, sound_less, needed_read}
 use Rattle.script_laws.proofs.Read.Kept.{KeepsLess, object_keeps}
@@ -88,7 +141,9 @@ taken_gives P (Err e) h = tt
 
 namespace_gives : (namespaced : Bool) (d : Data) → HasUtf8 d → IfOk (namespace_at namespaced d) (λ s. IsNamespace namespaced s × IsUtf8 s)
 namespace_gives true d u =
-    step IsUtf8 (λ s. IsNamespace true s × IsUtf8 s) (taken_in_line (text_or manifests.Namespace (codes "default") (Some d))) _ (taken_gives IsUtf8 (text_or manifests.Namespace (codes "default") (Some d)) (text_or_read_utf8 manifests.Namespace (codes "default") (Some d) (IsUtf8-are_ascii (codes "default") refl) u)) (λ s k. (tt, k))
+    step IsUtf8 (λ s. IsNamespace true s × IsUtf8 s) (taken_in_line (text_or manifests.Namespace (codes "default") (Some d))) _
+    (taken_gives IsUtf8 (text_or manifests.Namespace (codes "default") (Some d))
+    (text_or_read_utf8 manifests.Namespace (codes "default") (Some d) (IsUtf8-are_ascii (codes "default") refl) u)) (λ s k. (tt, k))
 namespace_gives false d u =
     past (λ s. IsNamespace false s × IsUtf8 s) (taken_in_line (text_or manifests.Namespace (codes "default") (Some d))) _ (λ s. (refl, IsUtf8-are_ascii [] refl))
 
@@ -154,7 +209,8 @@ worker_named : (ws : List Worker) (s : List ℕ) → IfSome (value_named worker_
 worker_named [] s = tt
 worker_named (w ∷ ws) s = by (bytes_eq s (worker_word w)) refl (worker_named ws s)
   where
-    by : (b : Bool) → bytes_eq s (worker_word w) ≡ b → IfSome (value_named worker_word ws s) (λ v. worker_word v ≡ s) → IfSome (if b then Some w else value_named worker_word ws s) (λ v. worker_word v ≡ s)
+    by : (b : Bool) → bytes_eq s (worker_word w) ≡ b → IfSome (value_named worker_word ws s) (λ v. worker_word v ≡ s)
+        → IfSome (if b then Some w else value_named worker_word ws s) (λ v. worker_word v ≡ s)
     by true e rest = sym ((bytes_eq-Decides s (worker_word w)).0 e)
     by false e rest = rest
 
@@ -162,7 +218,8 @@ agent_found : (ps : List Pair) (s : List ℕ) → AreAgents ps → IfSome (agent
 agent_found [] s h = tt
 agent_found (p ∷ ps) s h = by (is_eq (text_cmp p.0 s)) (is_eq-slice_cmp p.0 s) (agent_found ps s h.1)
   where
-    by : (b : Bool) → b ≡ bytes_eq p.0 s → IfSome (agent_named ps s) (λ a. actor_word a ≡ s) → IfSome (option_map (λ node. actors.Agent node) (option_map (λ (q : Pair). q.1) (if b then Some p else find text_cmp pair_key s ps))) (λ a. actor_word a ≡ s)
+    by : (b : Bool) → b ≡ bytes_eq p.0 s → IfSome (agent_named ps s) (λ a. actor_word a ≡ s)
+        → IfSome (option_map (λ node. actors.Agent node) (option_map (λ (q : Pair). q.1) (if b then Some p else find text_cmp pair_key s ps))) (λ a. actor_word a ≡ s)
     by true e rest = sym h.0 ∙ (bytes_eq-Decides p.0 s).0 (sym e)
     by false e rest = rest
 

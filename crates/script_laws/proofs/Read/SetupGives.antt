@@ -5,7 +5,7 @@ use Rattle.json.proofs.Printed.Utf8.{IsUtf8-are_ascii}
 use Rattle.serde_json.specs.Data.{unsigned, negative, float, Data, null, boolean, number, string, array, object}
 use Rattle.quantity_text.specs.Quantity.{amount_of}
 use Rattle.quantity_text.specs.declared.errors.AmountError.{AmountError}
-use Rattle.kube_types.specs.declared.objects.Amount.{Amount}
+use Rattle.kube_objects.specs.declared.objects.Amount.{Amount}
 use Rattle.call_types.specs.declared.setup.Pool.{Pool}
 use Rattle.history_text.specs.Replies.{topology_pairs}
 use Rattle.object_text.specs.declared.errors.Member.TheVariants as manifests
@@ -15,8 +15,8 @@ use Rattle.object_laws.proofs.GivesParts.{step as object_step}
 use Rattle.object_laws.proofs.Utf8Texts.{HasUtf8}
 use Rattle.script_lines.specs.declared.line_member.LineMember.TheVariants as members
 use Rattle.script_lines.specs.Members.{at, needed, text_of, text_at, new_call_at, object_at, size_taken, size_at, value_from, topology_from, topology_at}
-use Rattle.kube_types.specs.declared.names.ImportFault.{ImportFault}
-use Rattle.kube_types.specs.declared.objects.Object.{Object}
+use Rattle.kube_parts.specs.declared.names.ImportFault.{ImportFault}
+use Rattle.kube_objects.specs.declared.objects.Object.{Object}
 use Rattle.binder_model.specs.Imports.{import_fault}
 use Rattle.script_lines.specs.declared.errors.Reason.TheVariants.{BadValue}
 use Rattle.script_lines.specs.Answers.{unless}
@@ -102,7 +102,12 @@ pool_gives d h =
     step IsUtf8 IsPool (text_at (members.Of manifests.Provisioner) d) _ (text_gives 126 (members.Of manifests.Provisioner) d h) (λ provisioner b.
     step SizeGiven IsPool (size_at d) _ (size_gives d h) (λ size s.
     step TopologyUtf8 IsPool (topology_at d) _ (topology_gives d h) (λ topology t.
-    record { sized = s.sized; utf8 = object_of_utf8 (pool_pairs (record { name = name; provisioner = provisioner; bytes = size.bytes; topology = topology }) size.text) (IsUtf8-are_ascii _ refl, IsUtf8-are_ascii _ refl, (IsUtf8-are_ascii _ refl, s.utf8, (IsUtf8-are_ascii _ refl, a, (IsUtf8-are_ascii _ refl, b, topology_utf8 topology t)))) }))))
+    record {
+      sized = s.sized;
+      utf8 = object_of_utf8 (pool_pairs
+          (record { name = name; provisioner = provisioner; bytes = size.bytes; topology = topology }) size.text)
+          (IsUtf8-are_ascii _ refl, IsUtf8-are_ascii _ refl, (IsUtf8-are_ascii _ refl, s.utf8, (IsUtf8-are_ascii _ refl, a, (IsUtf8-are_ascii _ refl, b, topology_utf8 topology t))));
+    }))))
 
 -- the number of a call that none of these is
 abbrev pub IsFault : List ℕ → Meaning → Type 0
@@ -137,7 +142,8 @@ record IsEarly (lines : List Line) (o early : Object) : Type 0 where
   pub same : early ≡ o
   pub none : has_begun lines ≡ false
 
-passed_import : (lines : List Line) (before : List Object) (o : Object) (fault : Option ImportFault) → ObjectGiven o → has_begun lines ≡ false → import_fault before o ≡ fault → IfOk (unless_fault fault o) (IsImport lines before)
+passed_import : (lines : List Line) (before : List Object) (o : Object) (fault : Option ImportFault) → ObjectGiven o → has_begun lines ≡ false
+    → import_fault before o ≡ fault → IfOk (unless_fault fault o) (IsImport lines before)
 passed_import lines before o None is early e = record { object = is.given; early = early; passes = e; utf8 = import_utf8 o is }
 passed_import lines before o (Some fault) is early e = tt
 
@@ -145,5 +151,6 @@ pub import_gives : (lines : List Line) (before : List Object) (d : Data) → Was
 unfolding import_line
 import_gives lines before d h =
     step ObjectGiven (IsImport lines before) (object_at d) _ (object_gives d h) (λ o is.
-    step (IsEarly lines o) (IsImport lines before) (unless (has_begun lines) (BadValue members.Do) o) _ (unless_gives (IsEarly lines o) (has_begun lines) (BadValue members.Do) o (λ e. record { same = refl; none = e })) (λ early k.
+    step (IsEarly lines o) (IsImport lines before) (unless (has_begun lines) (BadValue members.Do) o) _
+    (unless_gives (IsEarly lines o) (has_begun lines) (BadValue members.Do) o (λ e. record { same = refl; none = e })) (λ early k.
     passed_import lines before early (import_fault before early) (subst ObjectGiven (sym k.same) is) k.none refl))

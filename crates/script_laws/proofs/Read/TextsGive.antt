@@ -1,5 +1,38 @@
 -- What the text of a script gives is a script that a text can give.
-use Rattle.std.proofs.Common.{◌≡◌, ℕ, suc, ◌+◌, ◌<◌, ◌≤◌, nat_lt, List, [], ◌∷◌, ◌++◌, length, map, Bool, true, false, Option, Some, None, Result, Ok, Err, IfOk, refl, sym, ap, ◌∙◌, subst, append_assoc, append-nil, arith, length-append}
+use Rattle.std.proofs.Common.{
+  ◌≡◌,
+  ℕ,
+  suc,
+  ◌+◌,
+  ◌<◌,
+  ◌≤◌,
+  nat_lt,
+  List,
+  [],
+  ◌∷◌,
+  ◌++◌,
+  length,
+  map,
+  Bool,
+  true,
+  false,
+  Option,
+  Some,
+  None,
+  Result,
+  Ok,
+  Err,
+  IfOk,
+  refl,
+  sym,
+  ap,
+  ◌∙◌,
+  subst,
+  append_assoc,
+  append-nil,
+  arith,
+  length-append,
+}
 use Rattle.std.specs.List.{All, list_all}
 use Rattle.std.specs.Ordering.{nat_cmp, match_ordering}
 use Rattle.std.specs.declared.cmp.Ordering.{Ordering}
@@ -26,8 +59,8 @@ use Rattle.script_lines.specs.Answers.{◌>>=◌, unless}
 use Rattle.script_lines.specs.Actors.{actor_word, agent_word, with_node}
 use Rattle.script_lines.specs.declared.line_member.LineMember.TheVariants as members
 use Rattle.script_lines.specs.Members.{most_call, most_turn, text_at, count_at, new_call_at, user_at, kind_at, key_at, condition_at, object_at, actor_at, when_at, edit_at}
-use Rattle.kube_types.specs.declared.names.ImportFault.{ImportFault}
-use Rattle.kube_types.specs.declared.objects.Object.{Object}
+use Rattle.kube_parts.specs.declared.names.ImportFault.{ImportFault}
+use Rattle.kube_objects.specs.declared.objects.Object.{Object}
 use Rattle.binder_model.specs.Imports.{import_fault}
 use Rattle.script_text.specs.declared.script.Line.{Line}
 use Rattle.script_text.specs.declared.script.Line.TheVariants.{Call, Lose, Restart, Turn, Drain}
@@ -36,8 +69,57 @@ use Rattle.script_text.specs.declared.script.Meaning.TheVariants as meanings
 use Rattle.script_text.specs.declared.script.Script.{Script}
 use Rattle.script_text.specs.Said.{Said, nothing_said, and_said, and_node, created_node, meaning_node, has_begun, creates, imported_after, agents_of, losses_of, restarts_of, numbered_of}
 use Rattle.script_text.specs.Steps.Indexed.{AreFaults, CanTake}
-use Rattle.script_text.specs.LineReaders.{create_line, update_line, edit_line, delete_line, get_line, list_line, time_line, pool_line, fault_line, unless_fault, import_line, lose_line, restart_line, turn_line, verb_at, as_line, as_import, meaning_by, meaning_of}
-use Rattle.script_text.specs.Grammar.{most_line_bytes, most_lines, most_objects, most_nodes, most_pools, most_faults, passed, first_of, object_limit, limit_of, line_limit, unless_passed, is_blank, line_value, and_filled, and_line, object_by, own_object, node_from, agents_beside, agents_in, lines_of, at_line, said_from, numbered_from, read_numbered_of, script_from, script_of}
+use Rattle.script_text.specs.LineReaders.{
+  create_line,
+  update_line,
+  edit_line,
+  delete_line,
+  get_line,
+  list_line,
+  time_line,
+  pool_line,
+  fault_line,
+  unless_fault,
+  import_line,
+  lose_line,
+  restart_line,
+  turn_line,
+  verb_at,
+  as_line,
+  as_import,
+  meaning_by,
+  meaning_of,
+}
+use Rattle.script_text.specs.Grammar.{
+  most_line_bytes,
+  most_lines,
+  most_objects,
+  most_nodes,
+  most_pools,
+  most_faults,
+  passed,
+  first_of,
+  object_limit,
+  limit_of,
+  line_limit,
+  unless_passed,
+  is_blank,
+  line_value,
+  and_filled,
+  and_line,
+  object_by,
+  own_object,
+  node_from,
+  agents_beside,
+  agents_in,
+  lines_of,
+  at_line,
+  said_from,
+  numbered_from,
+  read_numbered_of,
+  script_from,
+  script_of,
+}
 use Rattle.script_print.specs.Printing.{line_data, line_text, pool_data, pool_text, pool_lines, import_data, import_text}
 use Rattle.script_laws.specs.Read.Given.{IsCount, IsNewCall, IsLineAfter}
 use Rattle.script_laws.specs.Read.Scripts.{IsImportAfter, AreImportsAfter, AreLinesAfter, AreSized, IsScript}
@@ -159,7 +241,8 @@ sized_more [] (s ∷ ss) pool size h is = absurd h
 sized_more (p ∷ ps) [] pool size h is = absurd h
 sized_more (p ∷ ps) (s ∷ ss) pool size h is = (h.0, sized_more ps ss pool size h.1 is)
 
-pool_lines_more : (pools : List Pool) (sizes : List (List ℕ)) (pool : Pool) (size : List ℕ) → AreSized pools sizes → pool_lines (pools ++ pool ∷ []) (sizes ++ size ∷ []) ≡ pool_lines pools sizes ++ pool_text pool size ∷ []
+pool_lines_more : (pools : List Pool) (sizes : List (List ℕ)) (pool : Pool) (size : List ℕ) → AreSized pools sizes
+    → pool_lines (pools ++ pool ∷ []) (sizes ++ size ∷ []) ≡ pool_lines pools sizes ++ pool_text pool size ∷ []
 pool_lines_more [] [] pool size h = refl
 pool_lines_more [] (s ∷ ss) pool size h = absurd h
 pool_lines_more (p ∷ ps) [] pool size h = absurd h
@@ -169,14 +252,19 @@ texts_more : (lines : List Line) (line : Line) → map line_text (lines ++ line 
 texts_more [] line = refl
 texts_more (l ∷ ls) line = ap (λ ts. line_text l ∷ ts) (texts_more ls line)
 
-lines_more : (imports : List Object) (agents : List Pair) (before lines : List Line) (line : Line) → AreLinesAfter imports agents before lines → IsLineAfter agents (before ++ lines) line → line_limit imports ((before ++ lines) ++ line ∷ []) line ≡ None
+lines_more : (imports : List Object) (agents : List Pair) (before lines : List Line) (line : Line) → AreLinesAfter imports agents before lines
+    → IsLineAfter agents (before ++ lines) line → line_limit imports ((before ++ lines) ++ line ∷ []) line ≡ None
     → AreLinesAfter imports agents before (lines ++ line ∷ [])
 lines_more imports agents before [] line h is limit =
     let none = append-nil before in
     (subst (λ (b : List Line). IsLineAfter agents b line) none is, subst (λ (b : List Line). line_limit imports (b ++ line ∷ []) line ≡ None) none limit, tt)
 lines_more imports agents before (l ∷ ls) line h is limit =
-    let same = sym (append_assoc before (l ∷ []) ls) in
-    (h.0, h.1, lines_more imports agents (before ++ l ∷ []) ls line h.2 (subst (λ (b : List Line). IsLineAfter agents b line) same is) (subst (λ (b : List Line). line_limit imports (b ++ line ∷ []) line ≡ None) same limit))
+    let same = sym (append_assoc before (l ∷ []) ls) in (
+      h.0,
+      h.1,
+      lines_more imports agents (before ++ l ∷ []) ls line h.2 (subst (λ (b : List Line). IsLineAfter agents b line) same is)
+          (subst (λ (b : List Line). line_limit imports (b ++ line ∷ []) line ≡ None) same limit),
+    )
 
 imports_more : (before imports : List Object) (o : Object) → AreImportsAfter before imports → IsImportAfter (before ++ imports) o → AreImportsAfter before (imports ++ o ∷ [])
 imports_more before [] o h is = (subst (λ (b : List Object). IsImportAfter b o) (append-nil before) is, tt)
@@ -254,13 +342,15 @@ pool_text_is pool size u = text_is (pool_data pool size) u
 one_text : (t : List ℕ) → IsText t → All IsText (t ∷ [])
 one_text t h = All-cons IsText t [] h (All-nil IsText)
 
-said_more : (agents : List Pair) (n : ℕ) (said : Said) (meaning : Meaning) → SaidGiven agents n said → MeaningGiven agents said meaning → n ≤ most_lines → limit_of (and_said said n meaning) meaning ≡ None → SaidGiven agents (n + 1) (and_said said n meaning)
+said_more : (agents : List Pair) (n : ℕ) (said : Said) (meaning : Meaning) → SaidGiven agents n said → MeaningGiven agents said meaning
+    → n ≤ most_lines → limit_of (and_said said n meaning) meaning ≡ None → SaidGiven agents (n + 1) (and_said said n meaning)
 said_more agents n said (meanings.Pool pool size) h m few limit =
     let b = h.below in
     let more = length-append said.pools (pool ∷ []) in
     record {
       pools = sized_more said.pools said.sizes pool size h.pools m.sized;
-      pool_texts = subst (λ (l : List (List ℕ)). All IsText l) (sym (pool_lines_more said.pools said.sizes pool size h.pools)) (All-append IsText (pool_lines said.pools said.sizes) (pool_text pool size ∷ []) h.pool_texts (one_text (pool_text pool size) (pool_text_is pool size m.utf8)));
+      pool_texts = subst (λ (l : List (List ℕ)). All IsText l) (sym (pool_lines_more said.pools said.sizes pool size h.pools))
+          (All-append IsText (pool_lines said.pools said.sizes) (pool_text pool size ∷ []) h.pool_texts (one_text (pool_text pool size) (pool_text_is pool size m.utf8)));
       few_pools = within most_pools (length (said.pools ++ pool ∷ [])) TooManyPools limit;
       faults = h.faults;
       fault_numbers = h.fault_numbers;
@@ -300,7 +390,8 @@ said_more agents n said (meanings.Import o) h m few limit =
       fault_numbers = h.fault_numbers;
       few_faults = h.few_faults;
       imports = imports_more [] said.imports o h.imports (record { object = m.object; passes = m.passes; few = sym (early_limit (said.imports ++ o ∷ []) said.lines m.early) ∙ limit });
-      import_texts = subst (λ (l : List (List ℕ)). All IsText l) (sym (import_texts_more said.imports o)) (All-append IsText (map import_text said.imports) (import_text o ∷ []) h.import_texts (one_text (import_text o) (import_text_is o m.utf8)));
+      import_texts = subst (λ (l : List (List ℕ)). All IsText l) (sym (import_texts_more said.imports o))
+          (All-append IsText (map import_text said.imports) (import_text o ∷ []) h.import_texts (one_text (import_text o) (import_text_is o m.utf8)));
       lines = lines_early said.imports (said.imports ++ o ∷ []) agents [] said.lines m.early h.lines;
       line_texts = h.line_texts;
       below = omega arith;
@@ -319,7 +410,8 @@ said_more agents n said (meanings.Line line) h m few limit =
       imports = h.imports;
       import_texts = h.import_texts;
       lines = lines_more said.imports agents [] said.lines line h.lines m.given limit;
-      line_texts = subst (λ (l : List (List ℕ)). All IsText l) (sym (texts_more said.lines line)) (All-append IsText (map line_text said.lines) (line_text line ∷ []) h.line_texts (one_text (line_text line) (line_text_is line m.utf8)));
+      line_texts = subst (λ (l : List (List ℕ)). All IsText l) (sym (texts_more said.lines line))
+          (All-append IsText (map line_text said.lines) (line_text line ∷ []) h.line_texts (one_text (line_text line) (line_text_is line m.utf8)));
       below = omega arith;
       few_lines = omega arith;
     }
@@ -329,8 +421,10 @@ said_more agents n said (meanings.Line line) h m few limit =
 abbrev IsNow : Said → ℕ → Meaning → Said → Type 0
 IsNow said n meaning now = (now ≡ and_said said n meaning) × (n ≤ most_lines)
 
-passed_gives : (agents : List Pair) (n : ℕ) (said : Said) (meaning : Meaning) (now : Said) → SaidGiven agents n said → MeaningGiven agents said meaning → IsNow said n meaning now → IfOk (unless_passed (limit_of now meaning) now) (SaidGiven agents (n + 1))
-passed_gives agents n said meaning now h m is = subst (λ (s : Said). IfOk (unless_passed (limit_of s meaning) s) (SaidGiven agents (n + 1))) (sym is.0) (by (limit_of (and_said said n meaning) meaning) refl)
+passed_gives : (agents : List Pair) (n : ℕ) (said : Said) (meaning : Meaning) (now : Said) → SaidGiven agents n said
+    → MeaningGiven agents said meaning → IsNow said n meaning now → IfOk (unless_passed (limit_of now meaning) now) (SaidGiven agents (n + 1))
+passed_gives agents n said meaning now h m is =
+    subst (λ (s : Said). IfOk (unless_passed (limit_of s meaning) s) (SaidGiven agents (n + 1))) (sym is.0) (by (limit_of (and_said said n meaning) meaning) refl)
   where
     by : (o : Option Reason) → limit_of (and_said said n meaning) meaning ≡ o → IfOk (unless_passed o (and_said said n meaning)) (SaidGiven agents (n + 1))
     by None e = said_more agents n said meaning h m is.1 e
@@ -341,7 +435,8 @@ unfolding and_filled
 filled_gives agents n said line are h =
     step (WasRead 127) (SaidGiven agents (n + 1)) (line_value line) _ (line_was_read line) (λ value read.
     step (MeaningGiven agents said) (SaidGiven agents (n + 1)) (meaning_of agents said value) _ (meaning_gives agents said value are read) (λ meaning m.
-    step (IsNow said n meaning) (SaidGiven agents (n + 1)) (unless (nat_lt most_lines n) TooManyLines (and_said said n meaning)) _ (unless_gives (IsNow said n meaning) (nat_lt most_lines n) TooManyLines (and_said said n meaning) (λ e. (refl, ltb-false most_lines n e))) (λ now is.
+    step (IsNow said n meaning) (SaidGiven agents (n + 1)) (unless (nat_lt most_lines n) TooManyLines (and_said said n meaning)) _
+    (unless_gives (IsNow said n meaning) (nat_lt most_lines n) TooManyLines (and_said said n meaning) (λ e. (refl, ltb-false most_lines n e))) (λ now is.
     passed_gives agents n said meaning now h m is)))
 
 line_gives : (agents : List Pair) (n : ℕ) (said : Said) (line : List ℕ) → AreAgents agents → SaidGiven agents n said → IfOk (and_line agents said n line) (SaidGiven agents (n + 1))
@@ -354,13 +449,15 @@ line_gives agents n said line are h =
 abbrev Given : List Pair → Said → Type 0
 Given agents said = (n : ℕ) × SaidGiven agents n said
 
-at_gives : (Q : Said → Type 0) (P : Said → Type 0) (n : ℕ) (r : Result Said Reason) (next : Said → Result Said BadLine) → IfOk r P → ((now : Said) → P now → IfOk (next now) Q) → IfOk (at_line n r next) Q
+at_gives : (Q : Said → Type 0) (P : Said → Type 0) (n : ℕ) (r : Result Said Reason) (next : Said → Result Said BadLine) → IfOk r P
+    → ((now : Said) → P now → IfOk (next now) Q) → IfOk (at_line n r next) Q
 at_gives Q P n (Ok now) next h k = k now h
 at_gives Q P n (Err e) next h k = tt
 
 lines_give : (agents : List Pair) (n : ℕ) (lines : List (List ℕ)) (said : Said) → AreAgents agents → SaidGiven agents n said → IfOk (said_from agents n lines said) (Given agents)
 lines_give agents n [] said are h = (n, h)
-lines_give agents n (line ∷ lines) said are h = at_gives (Given agents) (SaidGiven agents (n + 1)) n (and_line agents said n line) _ (line_gives agents n said line are h) (λ now k. lines_give agents (n + 1) lines now are k)
+lines_give agents n (line ∷ lines) said are h =
+    at_gives (Given agents) (SaidGiven agents (n + 1)) n (and_line agents said n line) _ (line_gives agents n said line are h) (λ now k. lines_give agents (n + 1) lines now are k)
 
 -- ---- agents
 
@@ -459,7 +556,8 @@ import_node lines before d = by (object_at d) (has_begun lines)
     last o None = refl
     last o (Some fault) = tt
 
-    by : (r : Result Object Reason) (b : Bool) → IfOk (r >>= λ object. unless b (BadValue members.Do) object >>= λ early. unless_fault (import_fault before early) early) (λ m. node_from (as_import r) ≡ meaning_node m)
+    by : (r : Result Object Reason) (b : Bool)
+        → IfOk (r >>= λ object. unless b (BadValue members.Do) object >>= λ early. unless_fault (import_fault before early) early) (λ m. node_from (as_import r) ≡ meaning_node m)
     by (Ok o) true = tt
     by (Ok o) false = last o (import_fault before o)
     by (Err e) b = tt
@@ -484,7 +582,8 @@ own_node verbs.Drain agents said d h = refl
 abbrev ValueNode : Data → Meaning → Type 0
 ValueNode d meaning = node_from (verb_at d >>= λ verb. object_by verb d) ≡ meaning_node meaning
 
-verb_step : (agents : List Pair) (said : Said) (d : Data) (r : Result Verb Reason) → WasRead 127 d → IfOk (r >>= λ verb. meaning_by verb agents said d) (λ m. node_from (r >>= λ verb. object_by verb d) ≡ meaning_node m)
+verb_step : (agents : List Pair) (said : Said) (d : Data) (r : Result Verb Reason) → WasRead 127 d
+    → IfOk (r >>= λ verb. meaning_by verb agents said d) (λ m. node_from (r >>= λ verb. object_by verb d) ≡ meaning_node m)
 verb_step agents said d (Ok verb) h = own_node verb agents said d h
 verb_step agents said d (Err e) h = tt
 
@@ -514,7 +613,8 @@ meaning_agents said n (meanings.Fault call) h = refl
 meaning_agents said n (meanings.Import o) h = sym (agents_imported said.imports said.lines o h)
 meaning_agents said n (meanings.Line line) h = sym (agents_more (imported_after [] said.imports) said.lines line)
 
-passed_agents : (said : Said) (n : ℕ) (meaning : Meaning) (now : Said) → CanTake said.lines meaning → now ≡ and_said said n meaning → IfOk (unless_passed (limit_of now meaning) now) (StillAgents said (meaning_node meaning))
+passed_agents : (said : Said) (n : ℕ) (meaning : Meaning) (now : Said) → CanTake said.lines meaning → now ≡ and_said said n meaning
+    → IfOk (unless_passed (limit_of now meaning) now) (StillAgents said (meaning_node meaning))
 passed_agents said n meaning now can is = by (limit_of now meaning)
   where
     by : (o : Option Reason) → IfOk (unless_passed o now) (StillAgents said (meaning_node meaning))
@@ -526,19 +626,24 @@ abbrev made_node : Data → Option (List ℕ)
 made_node value = node_from (verb_at value >>= λ verb. object_by verb value)
 
 read_agents : (agents : List Pair) (n : ℕ) (said : Said) (value : Data) → WasRead 127 value
-    → IfOk (meaning_of agents said value >>= λ meaning. unless (nat_lt most_lines n) TooManyLines (and_said said n meaning) >>= λ now. unless_passed (limit_of now meaning) now) (StillAgents said (made_node value))
+    → IfOk (meaning_of agents said value >>= λ meaning. unless (nat_lt most_lines n) TooManyLines (and_said said n meaning) >>= λ now. unless_passed
+    (limit_of now meaning) now) (StillAgents said (made_node value))
 read_agents agents n said value h =
     step (IsKnown said value) (StillAgents said (made_node value)) (meaning_of agents said value) _ (value_known agents said value h) (λ meaning k.
-    step (λ now. now ≡ and_said said n meaning) (StillAgents said (made_node value)) (unless (nat_lt most_lines n) TooManyLines (and_said said n meaning)) _ (unless_gives (λ now. now ≡ and_said said n meaning) (nat_lt most_lines n) TooManyLines (and_said said n meaning) (λ f. refl)) (λ now is.
+    step (λ now. now ≡ and_said said n meaning) (StillAgents said (made_node value))
+    (unless (nat_lt most_lines n) TooManyLines (and_said said n meaning)) _
+    (unless_gives (λ now. now ≡ and_said said n meaning) (nat_lt most_lines n) TooManyLines (and_said said n meaning) (λ f. refl)) (λ now is.
     subst (λ (o : Option (List ℕ)). IfOk (unless_passed (limit_of now meaning) now) (StillAgents said o)) (sym k.node) (passed_agents said n meaning now k.can is)))
 
 -- the same of a line whose value is this
 line_agents : (agents : List Pair) (n : ℕ) (said : Said) (r : Result Data Reason) → IfOk r (WasRead 127)
-    → IfOk (r >>= λ value. meaning_of agents said value >>= λ meaning. unless (nat_lt most_lines n) TooManyLines (and_said said n meaning) >>= λ now. unless_passed (limit_of now meaning) now) (StillAgents said (node_from (r >>= λ value. verb_at value >>= λ verb. object_by verb value)))
+    → IfOk (r >>= λ value. meaning_of agents said value >>= λ meaning. unless (nat_lt most_lines n) TooManyLines
+    (and_said said n meaning) >>= λ now. unless_passed (limit_of now meaning) now) (StillAgents said (node_from (r >>= λ value. verb_at value >>= λ verb. object_by verb value)))
 line_agents agents n said (Ok value) h = read_agents agents n said value h
 line_agents agents n said (Err e) h = tt
 
-filled_agents : (agents : List Pair) (n : ℕ) (said : Said) (line : List ℕ) → nat_lt most_line_bytes (length line) ≡ false → IfOk (and_filled agents said n line) (StillAgents said (node_from (own_object line)))
+filled_agents : (agents : List Pair) (n : ℕ) (said : Said) (line : List ℕ) → nat_lt most_line_bytes (length line) ≡ false
+    → IfOk (and_filled agents said n line) (StillAgents said (node_from (own_object line)))
 unfolding and_filled own_object
 filled_agents agents n said line short = rw short (line_agents agents n said (line_value line) (line_was_read line))
 
@@ -546,7 +651,8 @@ one_agents : (agents : List Pair) (n : ℕ) (said : Said) (line : List ℕ) → 
 unfolding and_line
 one_agents agents n said line =
     if_ok (StillAgents said (node_from (own_object line))) (nat_lt most_line_bytes (length line)) (Err TooLong) _ (λ e. tt) (λ e.
-    if_ok (StillAgents said (node_from (own_object line))) (list_all is_blank line) (Ok said) (and_filled agents said n line) (λ f. ap (and_node (agents_of said.imports said.lines)) (blank_node line f)) (λ f. filled_agents agents n said line e))
+    if_ok (StillAgents said (node_from (own_object line))) (list_all is_blank line) (Ok said) (and_filled agents said n line)
+    (λ f. ap (and_node (agents_of said.imports said.lines)) (blank_node line f)) (λ f. filled_agents agents n said line e))
 
 abbrev AllAgents : Said → List (List ℕ) → Said → Type 0
 AllAgents said lines last = agents_beside (agents_of said.imports said.lines) lines ≡ agents_of last.imports last.lines
@@ -557,7 +663,8 @@ all_agents agents n (line ∷ lines) said =
     at_gives (AllAgents said (line ∷ lines)) (StillAgents said (node_from (own_object line))) n (and_line agents said n line) _ (one_agents agents n said line) (λ now k.
     moved agents (n + 1) lines now (and_node (agents_of said.imports said.lines) (node_from (own_object line))) k (all_agents agents (n + 1) lines now))
   where
-    moved : (known : List Pair) (m : ℕ) (rest : List (List ℕ)) (now : Said) (beside : List Pair) → beside ≡ agents_of now.imports now.lines → IfOk (said_from known m rest now) (AllAgents now rest) → IfOk (said_from known m rest now) (λ last. agents_beside beside rest ≡ agents_of last.imports last.lines)
+    moved : (known : List Pair) (m : ℕ) (rest : List (List ℕ)) (now : Said) (beside : List Pair) → beside ≡ agents_of now.imports now.lines
+        → IfOk (said_from known m rest now) (AllAgents now rest) → IfOk (said_from known m rest now) (λ last. agents_beside beside rest ≡ agents_of last.imports last.lines)
     moved known m rest now beside e h = subst (λ (b : List Pair). IfOk (said_from known m rest now) (λ last. agents_beside b rest ≡ agents_of last.imports last.lines)) (sym e) h
 
 -- ---- the script

@@ -1,5 +1,33 @@
 -- The text of a script is read, line by line, as the script.
-use Rattle.std.proofs.Common.{◌≡◌, ℕ, suc, ◌+◌, ◌<◌, ◌≤◌, List, [], ◌∷◌, ◌++◌, length, map, Bool, false, None, Result, Ok, refl, sym, ap, ◌∙◌, subst, append_assoc, append-nil, arith, length-append, eqb}
+use Rattle.std.proofs.Common.{
+  ◌≡◌,
+  ℕ,
+  suc,
+  ◌+◌,
+  ◌<◌,
+  ◌≤◌,
+  List,
+  [],
+  ◌∷◌,
+  ◌++◌,
+  length,
+  map,
+  Bool,
+  false,
+  None,
+  Result,
+  Ok,
+  refl,
+  sym,
+  ap,
+  ◌∙◌,
+  subst,
+  append_assoc,
+  append-nil,
+  arith,
+  length-append,
+  eqb,
+}
 use Rattle.std.specs.List.{All}
 use Rattle.std.specs.Ordering.{nat_cmp}
 use Rattle.std.specs.declared.cmp.Ordering.TheVariants.{Less}
@@ -12,7 +40,7 @@ use Rattle.json_text.proofs.Lines.{text_line}
 use Rattle.plain_data.specs.Pairs.{Pair}
 use Rattle.plain_data.specs.Rows.{put, IsAfter}
 use Rattle.quantity_text.specs.Quantity.{amount_of}
-use Rattle.kube_types.specs.declared.objects.Object.{Object}
+use Rattle.kube_objects.specs.declared.objects.Object.{Object}
 use Rattle.call_types.specs.declared.setup.Pool.{Pool}
 use Rattle.history_text.specs.Output.{with_line, with_lines}
 use Rattle.script_lines.specs.declared.errors.BadLine.{BadLine}
@@ -22,7 +50,23 @@ use Rattle.script_text.specs.declared.script.Meaning.TheVariants as meanings
 use Rattle.script_text.specs.declared.script.Script.{Script}
 use Rattle.script_text.specs.Said.{Said, nothing_said, and_said, and_node, created_node, imported_node, has_begun, agents_after, imported_after, agents_of, nodes_of, numbered_of}
 use Rattle.script_text.specs.Steps.Indexed.{AreFaults}
-use Rattle.script_text.specs.Grammar.{most_lines, most_pools, most_faults, line_limit, object_limit, and_line, agents_beside, agents_in, lines_of, at_line, said_from, said_in, numbered_from, read_numbered_of, script_from}
+use Rattle.script_text.specs.Grammar.{
+  most_lines,
+  most_pools,
+  most_faults,
+  line_limit,
+  object_limit,
+  and_line,
+  agents_beside,
+  agents_in,
+  lines_of,
+  at_line,
+  said_from,
+  said_in,
+  numbered_from,
+  read_numbered_of,
+  script_from,
+}
 use Rattle.script_print.specs.Printing.{line_data, line_text, pool_data, pool_text, pool_lines, fault_data, fault_text, import_data, import_text, script_lines, script_text}
 use Rattle.script_laws.specs.Read.Given.{IsCount, IsLineAfter, IsLineObject}
 use Rattle.script_laws.specs.Read.Limits.{IsShort, IsShortObject, LineHasShortObject, ScriptFits}
@@ -91,7 +135,8 @@ past_is n (x ∷ xs) = let e : (n + 1) + length xs ≡ n + suc (length xs) = ome
 abbrev next_lines : List Pair → ℕ → List (List ℕ) → Said → Result Said BadLine
 next_lines agents n lines said = said_from agents n lines said
 
-go_on : (agents : List Pair) (n : ℕ) (line : List ℕ) (lines : List (List ℕ)) (said now : Said) → and_line agents said n line ≡ Ok now → said_from agents n (line ∷ lines) said ≡ said_from agents (n + 1) lines now
+go_on : (agents : List Pair) (n : ℕ) (line : List ℕ) (lines : List (List ℕ)) (said now : Said) → and_line agents said n line ≡ Ok now
+    → said_from agents n (line ∷ lines) said ≡ said_from agents (n + 1) lines now
 go_on agents n line lines said now e = ap (λ r. at_line n r (λ s. said_from agents (n + 1) lines s)) e
 
 -- ---- pools
@@ -101,20 +146,25 @@ and_pools n said [] sizes = said
 and_pools n said (pool ∷ pools) [] = said
 and_pools n said (pool ∷ pools) (size ∷ sizes) = and_pools (n + 1) (and_said said n (meanings.Pool pool size)) pools sizes
 
-pool_step : (agents : List Pair) (said : Said) (n : ℕ) (pool : Pool) (size : List ℕ) → amount_of size ≡ Ok pool.bytes → IsFine (pool_text pool size) → n ≤ most_lines → length said.pools + 1 ≤ most_pools
+pool_step : (agents : List Pair) (said : Said) (n : ℕ) (pool : Pool) (size : List ℕ) → amount_of size ≡ Ok pool.bytes → IsFine (pool_text pool size)
+    → n ≤ most_lines → length said.pools + 1 ≤ most_pools
     → and_line agents said n (pool_text pool size) ≡ Ok (and_said said n (meanings.Pool pool size))
 unfolding pool_text
 pool_step agents said n pool size is fine few room =
     let le : length (said.pools ++ pool ∷ []) ≤ most_pools = omega (arith, length-append said.pools (pool ∷ [])) in
-    line_read agents said n (pool_data pool size) (meanings.Pool pool size) (pool_is_read pool size fine) few (pool_means agents said pool size is) (rw (le-ltb most_pools (length (said.pools ++ pool ∷ [])) le) refl)
+    line_read agents said n (pool_data pool size) (meanings.Pool pool size) (pool_is_read pool size fine) few (pool_means agents said pool size is)
+    (rw (le-ltb most_pools (length (said.pools ++ pool ∷ [])) le) refl)
 
-pools_read : (agents : List Pair) (pools : List Pool) (sizes rest : List (List ℕ)) (n : ℕ) (said : Said) → AreSized pools sizes → All IsFine (pool_lines pools sizes) → n + length pools ≤ 4097 → length said.pools + length pools ≤ most_pools
+pools_read : (agents : List Pair) (pools : List Pool) (sizes rest : List (List ℕ)) (n : ℕ) (said : Said) → AreSized pools sizes
+    → All IsFine (pool_lines pools sizes) → n + length pools ≤ 4097 → length said.pools + length pools ≤ most_pools
     → said_from agents n (pool_lines pools sizes ++ rest) said ≡ said_from agents (past n pools) rest (and_pools n said pools sizes)
 pools_read agents [] sizes rest n said h fine few room = refl
 pools_read agents (pool ∷ pools) [] rest n said h fine few room = absurd h
 pools_read agents (pool ∷ pools) (size ∷ sizes) rest n said h fine few room =
-    go_on agents n (pool_text pool size) (pool_lines pools sizes ++ rest) said _ (pool_step agents said n pool size h.0 (All-head IsFine (pool_text pool size) (pool_lines pools sizes) fine) (omega arith) (omega arith))
-    ∙ pools_read agents pools sizes rest (n + 1) (and_said said n (meanings.Pool pool size)) h.1 (All-tail IsFine (pool_text pool size) (pool_lines pools sizes) fine) (omega arith) (omega (arith, length-append said.pools (pool ∷ [])))
+    go_on agents n (pool_text pool size) (pool_lines pools sizes ++ rest) said _
+    (pool_step agents said n pool size h.0 (All-head IsFine (pool_text pool size) (pool_lines pools sizes) fine) (omega arith) (omega arith))
+    ∙ pools_read agents pools sizes rest (n + 1) (and_said said n (meanings.Pool pool size)) h.1
+    (All-tail IsFine (pool_text pool size) (pool_lines pools sizes) fine) (omega arith) (omega (arith, length-append said.pools (pool ∷ [])))
 
 record SamePools (a b : Said) (pools : List Pool) (sizes : List (List ℕ)) : Type 0 where
   pub pools_are : b.pools ≡ a.pools ++ pools
@@ -129,7 +179,14 @@ pools_kept [] (size ∷ sizes) n said h = absurd h
 pools_kept (pool ∷ pools) [] n said h = absurd h
 pools_kept (pool ∷ pools) (size ∷ sizes) n said h =
     let k = pools_kept pools sizes (n + 1) (and_said said n (meanings.Pool pool size)) h.1 in
-    record { pools_are = k.pools_are ∙ append_assoc said.pools (pool ∷ []) pools; sizes_are = k.sizes_are ∙ append_assoc said.sizes (size ∷ []) sizes; faults_are = k.faults_are; imports_are = k.imports_are; lines_are = k.lines_are }
+    record {
+      pools_are = k.pools_are ∙ append_assoc said.pools (pool ∷ []) pools;
+      sizes_are = k.sizes_are
+          ∙ append_assoc said.sizes (size ∷ []) sizes;
+      faults_are = k.faults_are;
+      imports_are = k.imports_are;
+      lines_are = k.lines_are;
+    }
 
 -- ---- faults: each is put behind those that are there
 
@@ -158,13 +215,15 @@ abbrev and_faults : ℕ → Said → List ℕ → Said
 and_faults n said [] = said
 and_faults n said (call ∷ calls) = and_faults (n + 1) (and_said said n (meanings.Fault call)) calls
 
-fault_step : (agents : List Pair) (said : Said) (n : ℕ) (call : ℕ) (calls : List ℕ) → AreFaults (said.faults ++ call ∷ calls) → IsCount most_call call → IsFine (fault_text call) → n ≤ most_lines → length said.faults + 1 ≤ most_faults
+fault_step : (agents : List Pair) (said : Said) (n : ℕ) (call : ℕ) (calls : List ℕ) → AreFaults (said.faults ++ call ∷ calls)
+    → IsCount most_call call → IsFine (fault_text call) → n ≤ most_lines → length said.faults + 1 ≤ most_faults
     → and_line agents said n (fault_text call) ≡ Ok (and_said said n (meanings.Fault call))
 unfolding fault_text
 fault_step agents said n call calls rising is fine few room =
     let new = put_last said.faults call calls rising in
     let le : length (said.faults ++ call ∷ []) ≤ most_faults = omega (arith, length-append said.faults (call ∷ [])) in
-    line_read agents said n (fault_data call) (meanings.Fault call) (fault_is_read call is fine) few (fault_means agents said call (record { counted = is; fresh = is_fresh said.faults call calls rising })) (rw (new, le-ltb most_faults (length (said.faults ++ call ∷ [])) le) refl)
+    line_read agents said n (fault_data call) (meanings.Fault call) (fault_is_read call is fine) few
+    (fault_means agents said call (record { counted = is; fresh = is_fresh said.faults call calls rising })) (rw (new, le-ltb most_faults (length (said.faults ++ call ∷ [])) le) refl)
 
 still_rising : (xs : List ℕ) (x : ℕ) (ys : List ℕ) → AreFaults (xs ++ x ∷ ys) → AreFaults (put nat_cmp (λ m. m) x xs ++ ys)
 still_rising xs x ys h = subst (λ (l : List ℕ). AreFaults l) (sym (ap (λ l. l ++ ys) (put_last xs x ys h) ∙ append_assoc xs (x ∷ []) ys)) h
@@ -172,13 +231,16 @@ still_rising xs x ys h = subst (λ (l : List ℕ). AreFaults l) (sym (ap (λ l. 
 one_longer : (xs : List ℕ) (x : ℕ) (ys : List ℕ) → AreFaults (xs ++ x ∷ ys) → length (put nat_cmp (λ m. m) x xs) ≡ length xs + 1
 one_longer xs x ys h = ap length (put_last xs x ys h) ∙ length-append xs (x ∷ [])
 
-faults_read : (agents : List Pair) (calls : List ℕ) (rest : List (List ℕ)) (n : ℕ) (said : Said) → AreFaults (said.faults ++ calls) → All (IsCount most_call) calls → All IsFine (map fault_text calls) → n + length calls ≤ 4097 → length said.faults + length calls ≤ most_faults
+faults_read : (agents : List Pair) (calls : List ℕ) (rest : List (List ℕ)) (n : ℕ) (said : Said) → AreFaults (said.faults ++ calls)
+    → All (IsCount most_call) calls → All IsFine (map fault_text calls) → n + length calls ≤ 4097 → length said.faults + length calls ≤ most_faults
     → said_from agents n (map fault_text calls ++ rest) said ≡ said_from agents (past n calls) rest (and_faults n said calls)
 faults_read agents [] rest n said rising is fine few room = refl
 faults_read agents (call ∷ calls) rest n said rising is fine few room =
     let longer = one_longer said.faults call calls rising in
-    go_on agents n (fault_text call) (map fault_text calls ++ rest) said _ (fault_step agents said n call calls rising (All-head (IsCount most_call) call calls is) (All-head IsFine (fault_text call) (map fault_text calls) fine) (omega arith) (omega arith))
-    ∙ faults_read agents calls rest (n + 1) (and_said said n (meanings.Fault call)) (still_rising said.faults call calls rising) (All-tail (IsCount most_call) call calls is) (All-tail IsFine (fault_text call) (map fault_text calls) fine) (omega arith) (omega (arith, longer))
+    go_on agents n (fault_text call) (map fault_text calls ++ rest) said _
+    (fault_step agents said n call calls rising (All-head (IsCount most_call) call calls is) (All-head IsFine (fault_text call) (map fault_text calls) fine) (omega arith) (omega arith))
+    ∙ faults_read agents calls rest (n + 1) (and_said said n (meanings.Fault call)) (still_rising said.faults call calls rising)
+    (All-tail (IsCount most_call) call calls is) (All-tail IsFine (fault_text call) (map fault_text calls) fine) (omega arith) (omega (arith, longer))
 
 record SameFaults (a b : Said) (calls : List ℕ) : Type 0 where
   pub pools_are : b.pools ≡ a.pools
@@ -191,7 +253,14 @@ faults_kept : (calls : List ℕ) (n : ℕ) (said : Said) → AreFaults (said.fau
 faults_kept [] n said h = record { pools_are = refl; sizes_are = refl; faults_are = sym (append-nil said.faults); imports_are = refl; lines_are = refl }
 faults_kept (call ∷ calls) n said h =
     let k = faults_kept calls (n + 1) (and_said said n (meanings.Fault call)) (still_rising said.faults call calls h) in
-    record { pools_are = k.pools_are; sizes_are = k.sizes_are; faults_are = k.faults_are ∙ ap (λ l. l ++ calls) (put_last said.faults call calls h) ∙ append_assoc said.faults (call ∷ []) calls; imports_are = k.imports_are; lines_are = k.lines_are }
+    record {
+      pools_are = k.pools_are;
+      sizes_are = k.sizes_are;
+      faults_are = k.faults_are ∙ ap (λ l. l ++ calls) (put_last said.faults call calls h)
+          ∙ append_assoc said.faults (call ∷ []) calls;
+      imports_are = k.imports_are;
+      lines_are = k.lines_are;
+    }
 
 -- ---- imported objects
 
@@ -203,13 +272,16 @@ import_step : (agents : List Pair) (said : Said) (n : ℕ) (o : Object) → IsIm
     → and_line agents said n (import_text o) ≡ Ok (and_said said n (meanings.Import o))
 unfolding import_text
 import_step agents said n o is none short fine few =
-    line_read agents said n (import_data o) (meanings.Import o) (import_is_read o is.object fine) few (import_means agents said o is.object short (ap has_begun none) is.passes) (ap (λ lines. object_limit (said.imports ++ o ∷ []) lines) none ∙ is.few)
+    line_read agents said n (import_data o) (meanings.Import o) (import_is_read o is.object fine) few
+    (import_means agents said o is.object short (ap has_begun none) is.passes) (ap (λ lines. object_limit (said.imports ++ o ∷ []) lines) none ∙ is.few)
 
-imports_read : (agents : List Pair) (imports : List Object) (rest : List (List ℕ)) (n : ℕ) (said : Said) → AreImportsAfter said.imports imports → said.lines ≡ [] → All IsShortObject imports → All IsFine (map import_text imports) → n + length imports ≤ 4097
+imports_read : (agents : List Pair) (imports : List Object) (rest : List (List ℕ)) (n : ℕ) (said : Said) → AreImportsAfter said.imports imports
+    → said.lines ≡ [] → All IsShortObject imports → All IsFine (map import_text imports) → n + length imports ≤ 4097
     → said_from agents n (map import_text imports ++ rest) said ≡ said_from agents (past n imports) rest (and_imports n said imports)
 imports_read agents [] rest n said is none short fine few = refl
 imports_read agents (o ∷ os) rest n said is none short fine few =
-    go_on agents n (import_text o) (map import_text os ++ rest) said _ (import_step agents said n o is.0 none (All-head IsShortObject o os short) (All-head IsFine (import_text o) (map import_text os) fine) (omega arith))
+    go_on agents n (import_text o) (map import_text os ++ rest) said _
+    (import_step agents said n o is.0 none (All-head IsShortObject o os short) (All-head IsFine (import_text o) (map import_text os) fine) (omega arith))
     ∙ imports_read agents os rest (n + 1) (and_said said n (meanings.Import o)) is.1 none (All-tail IsShortObject o os short) (All-tail IsFine (import_text o) (map import_text os) fine) (omega arith)
 
 record SameImports (a b : Said) (imports : List Object) : Type 0 where
@@ -231,17 +303,22 @@ abbrev and_lines : ℕ → Said → List Line → Said
 and_lines n said [] = said
 and_lines n said (line ∷ lines) = and_lines (n + 1) (and_said said n (meanings.Line line)) lines
 
-line_step : (agents : List Pair) (said : Said) (n : ℕ) (line : Line) → IsLineAfter agents said.lines line → line_limit said.imports (said.lines ++ line ∷ []) line ≡ None → LineHasShortObject line → IsFine (line_text line) → n ≤ most_lines
+line_step : (agents : List Pair) (said : Said) (n : ℕ) (line : Line) → IsLineAfter agents said.lines line
+    → line_limit said.imports (said.lines ++ line ∷ []) line ≡ None → LineHasShortObject line → IsFine (line_text line) → n ≤ most_lines
     → and_line agents said n (line_text line) ≡ Ok (and_said said n (meanings.Line line))
 unfolding line_text
-line_step agents said n line is limit fits fine few = line_read agents said n (line_data line) (meanings.Line line) (line_is_read agents said.lines line is fine) few (line_means agents said line is fits) limit
+line_step agents said n line is limit fits fine few =
+    line_read agents said n (line_data line) (meanings.Line line) (line_is_read agents said.lines line is fine) few (line_means agents said line is fits) limit
 
-lines_read : (agents : List Pair) (lines : List Line) (rest : List (List ℕ)) (n : ℕ) (said : Said) → AreLinesAfter said.imports agents said.lines lines → All LineHasShortObject lines → All IsFine (map line_text lines) → n + length lines ≤ 4097
+lines_read : (agents : List Pair) (lines : List Line) (rest : List (List ℕ)) (n : ℕ) (said : Said)
+    → AreLinesAfter said.imports agents said.lines lines → All LineHasShortObject lines → All IsFine (map line_text lines) → n + length lines ≤ 4097
     → said_from agents n (map line_text lines ++ rest) said ≡ said_from agents (past n lines) rest (and_lines n said lines)
 lines_read agents [] rest n said h fits fine few = refl
 lines_read agents (line ∷ lines) rest n said h fits fine few =
-    go_on agents n (line_text line) (map line_text lines ++ rest) said _ (line_step agents said n line h.0 h.1 (All-head LineHasShortObject line lines fits) (All-head IsFine (line_text line) (map line_text lines) fine) (omega arith))
-    ∙ lines_read agents lines rest (n + 1) (and_said said n (meanings.Line line)) h.2 (All-tail LineHasShortObject line lines fits) (All-tail IsFine (line_text line) (map line_text lines) fine) (omega arith)
+    go_on agents n (line_text line) (map line_text lines ++ rest) said _
+    (line_step agents said n line h.0 h.1 (All-head LineHasShortObject line lines fits) (All-head IsFine (line_text line) (map line_text lines) fine) (omega arith))
+    ∙ lines_read agents lines rest (n + 1) (and_said said n (meanings.Line line)) h.2 (All-tail LineHasShortObject line lines fits)
+    (All-tail IsFine (line_text line) (map line_text lines) fine) (omega arith)
 
 record SameLines (a b : Said) (lines : List Line) : Type 0 where
   pub pools_are : b.pools ≡ a.pools
@@ -258,17 +335,20 @@ lines_kept (line ∷ lines) n said =
 
 -- ---- agents
 
-pools_beside : (agents : List Pair) (pools : List Pool) (sizes rest : List (List ℕ)) → AreSized pools sizes → All IsFine (pool_lines pools sizes) → agents_beside agents (pool_lines pools sizes ++ rest) ≡ agents_beside agents rest
+pools_beside : (agents : List Pair) (pools : List Pool) (sizes rest : List (List ℕ)) → AreSized pools sizes → All IsFine (pool_lines pools sizes)
+    → agents_beside agents (pool_lines pools sizes ++ rest) ≡ agents_beside agents rest
 pools_beside agents [] sizes rest h fine = refl
 pools_beside agents (pool ∷ pools) [] rest h fine = absurd h
 pools_beside agents (pool ∷ pools) (size ∷ sizes) rest h fine =
     ap (λ o. agents_beside (and_node agents o) (pool_lines pools sizes ++ rest)) (pool_node pool size (pool_is_read pool size (All-head IsFine (pool_text pool size) (pool_lines pools sizes) fine)))
     ∙ pools_beside agents pools sizes rest h.1 (All-tail IsFine (pool_text pool size) (pool_lines pools sizes) fine)
 
-faults_beside : (agents : List Pair) (calls : List ℕ) (rest : List (List ℕ)) → All (IsCount most_call) calls → All IsFine (map fault_text calls) → agents_beside agents (map fault_text calls ++ rest) ≡ agents_beside agents rest
+faults_beside : (agents : List Pair) (calls : List ℕ) (rest : List (List ℕ)) → All (IsCount most_call) calls → All IsFine (map fault_text calls)
+    → agents_beside agents (map fault_text calls ++ rest) ≡ agents_beside agents rest
 faults_beside agents [] rest is fine = refl
 faults_beside agents (call ∷ calls) rest is fine =
-    ap (λ o. agents_beside (and_node agents o) (map fault_text calls ++ rest)) (fault_node call (fault_is_read call (All-head (IsCount most_call) call calls is) (All-head IsFine (fault_text call) (map fault_text calls) fine)))
+    ap (λ o. agents_beside (and_node agents o) (map fault_text calls ++ rest))
+    (fault_node call (fault_is_read call (All-head (IsCount most_call) call calls is) (All-head IsFine (fault_text call) (map fault_text calls) fine)))
     ∙ faults_beside agents calls rest (All-tail (IsCount most_call) call calls is) (All-tail IsFine (fault_text call) (map fault_text calls) fine)
 
 imports_beside : (agents : List Pair) (before imports : List Object) (rest : List (List ℕ)) → AreImportsAfter before imports → All IsShortObject imports → All IsFine (map import_text imports)
@@ -276,17 +356,20 @@ imports_beside : (agents : List Pair) (before imports : List Object) (rest : Lis
 imports_beside agents before [] rest is short fine = refl
 imports_beside agents before (o ∷ os) rest is short fine =
     let object = is.0.object in
-    ap (λ n. agents_beside (and_node agents n) (map import_text os ++ rest)) (import_node o object (All-head IsShortObject o os short) (import_is_read o object (All-head IsFine (import_text o) (map import_text os) fine)))
+    ap (λ n. agents_beside (and_node agents n) (map import_text os ++ rest))
+    (import_node o object (All-head IsShortObject o os short) (import_is_read o object (All-head IsFine (import_text o) (map import_text os) fine)))
     ∙ imports_beside (and_node agents (imported_node o)) (before ++ o ∷ []) os rest is.1 (All-tail IsShortObject o os short) (All-tail IsFine (import_text o) (map import_text os) fine)
 
-lines_beside : (imports : List Object) (known : List Pair) (agents : List Pair) (before lines : List Line) (rest : List (List ℕ)) → AreLinesAfter imports known before lines → All LineHasShortObject lines → All IsFine (map line_text lines)
+lines_beside : (imports : List Object) (known : List Pair) (agents : List Pair) (before lines : List Line) (rest : List (List ℕ))
+    → AreLinesAfter imports known before lines → All LineHasShortObject lines → All IsFine (map line_text lines)
     → agents_beside agents (map line_text lines ++ rest) ≡ agents_beside (agents_after agents lines) rest
 lines_beside imports known agents before [] rest h fits fine = refl
 lines_beside imports known agents before (line ∷ lines) rest h fits fine =
     let own_fits = All-head LineHasShortObject line lines fits in
     let own_fine = All-head IsFine (line_text line) (map line_text lines) fine in
     ap (λ o. agents_beside (and_node agents o) (map line_text lines ++ rest)) (own_node known before line h.0 own_fits (line_is_read known before line h.0 own_fine))
-    ∙ lines_beside imports known (and_node agents (created_node line)) (before ++ line ∷ []) lines rest h.2 (All-tail LineHasShortObject line lines fits) (All-tail IsFine (line_text line) (map line_text lines) fine)
+    ∙ lines_beside imports known (and_node agents (created_node line)) (before ++ line ∷ []) lines rest h.2
+    (All-tail LineHasShortObject line lines fits) (All-tail IsFine (line_text line) (map line_text lines) fine)
 
 -- ---- lines and line feeds
 
@@ -369,7 +452,8 @@ parts_of : (s : Script) → IsScript s → lines_of (script_text s) ≡ pools_of
 unfolding script_lines
 parts_of s is =
     let all_texts = All-append IsLine (imports_of s) (texts_of s) (import_lines_are_lines [] s.setup.imports is.imports) (line_lines_are_lines s.setup.imports (script_agents s) [] s.lines is.lines) in
-    let all_lines = All-append IsLine (pools_of s) (after_pool_lines s) (pool_lines_are_lines s.setup.pools s.sizes is.pools) (All-append IsLine (faults_of s) (imports_of s ++ texts_of s) (fault_lines_are_lines s.setup.faults is.fault_numbers) all_texts) in
+    let all_lines = All-append IsLine (pools_of s) (after_pool_lines s) (pool_lines_are_lines s.setup.pools s.sizes is.pools)
+    (All-append IsLine (faults_of s) (imports_of s ++ texts_of s) (fault_lines_are_lines s.setup.faults is.fault_numbers) all_texts) in
     ap lines_of (with_joined [] (pools_of s ++ after_pool_lines s))
     ∙ split_joined (pools_of s ++ after_pool_lines s) all_lines
     ∙ append_assoc (pools_of s) (after_pool_lines s) last_part
@@ -467,7 +551,8 @@ same_script s f is said =
     ∙ ap (λ x. made s.setup.pools s.setup.faults s.setup.imports s.lines (nodes_of (script_agents s)) x) said.sizes
     ∙ ap (λ x. made s.setup.pools s.setup.faults s.setup.imports s.lines x s.sizes) (sym is.nodes)
 
-said_read : (s : Script) → IsScript s → Fits s → AllFine s → said_from (script_agents s) 1 (pools_of s ++ (faults_of s ++ (imports_of s ++ (texts_of s ++ last_part)))) nothing_said ≡ Ok (after_lines s)
+said_read : (s : Script) → IsScript s → Fits s → AllFine s
+    → said_from (script_agents s) 1 (pools_of s ++ (faults_of s ++ (imports_of s ++ (texts_of s ++ last_part)))) nothing_said ≡ Ok (after_lines s)
 said_read s is fits fine =
     let agents : List Pair = script_agents s in
     let few = is.few_lines in
@@ -480,10 +565,13 @@ said_read s is fits fine =
     let no_imports : (after_faults s).imports ≡ [] = are.two.imports_are ∙ are.one.imports_are in
     let before : (after_imports s).lines ≡ [] = are.three.lines_are ∙ early in
     let imported : (after_imports s).imports ≡ s.setup.imports = are.three.imports_are ∙ ap (λ l. l ++ s.setup.imports) no_imports in
-    let lines : AreLinesAfter (after_imports s).imports agents (after_imports s).lines s.lines = subst (λ (b : List Line). AreLinesAfter (after_imports s).imports agents b s.lines) (sym before) (subst (λ (i : List Object). AreLinesAfter i agents [] s.lines) (sym imported) is.lines) in
+    let lines : AreLinesAfter (after_imports s).imports agents (after_imports s).lines s.lines =
+    subst (λ (b : List Line). AreLinesAfter (after_imports s).imports agents b s.lines) (sym before) (subst (λ (i : List Object). AreLinesAfter i agents [] s.lines) (sym imported) is.lines) in
     pools_read agents s.setup.pools s.sizes (faults_of s ++ (imports_of s ++ (texts_of s ++ last_part))) 1 nothing_said is.pools fine.pools (omega arith) (omega (arith, is.few_pools))
-    ∙ faults_read agents s.setup.faults (imports_of s ++ (texts_of s ++ last_part)) (past 1 s.setup.pools) (after_pools s) are.rising is.fault_numbers fine.faults (omega arith) (omega (arith, is.few_faults))
-    ∙ imports_read agents s.setup.imports (texts_of s ++ last_part) (past (past 1 s.setup.pools) s.setup.faults) (after_faults s) (subst (λ (b : List Object). AreImportsAfter b s.setup.imports) (sym no_imports) is.imports) early fits.imports fine.imports (omega arith)
+    ∙ faults_read agents s.setup.faults (imports_of s ++ (texts_of s ++ last_part)) (past 1 s.setup.pools)
+    (after_pools s) are.rising is.fault_numbers fine.faults (omega arith) (omega (arith, is.few_faults))
+    ∙ imports_read agents s.setup.imports (texts_of s ++ last_part) (past (past 1 s.setup.pools) s.setup.faults) (after_faults s)
+    (subst (λ (b : List Object). AreImportsAfter b s.setup.imports) (sym no_imports) is.imports) early fits.imports fine.imports (omega arith)
     ∙ lines_read agents s.lines last_part (past (past (past 1 s.setup.pools) s.setup.faults) s.setup.imports) (after_imports s) lines fits.objects fine.texts (omega arith)
     ∙ go_on agents (past (past (past (past 1 s.setup.pools) s.setup.faults) s.setup.imports) s.lines) [] [] (after_lines s) (after_lines s) (none_read agents (after_lines s) _)
 

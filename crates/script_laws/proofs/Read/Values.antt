@@ -71,7 +71,8 @@ pub line_was_read : (text : List ℕ) → IfOk (line_value text) (WasRead 127)
 line_was_read text = by (value_of text) (taken_value text) (value_read_utf8 text)
   where
     by : (r : Result Data ObjectError) → IfOk r (IsTaken 127) → IfOk r HasUtf8 → IfOk (taken_in_line r >>= object_value) (WasRead 127)
-    by (Ok d) t u = if_ok (WasRead 127) (is_object d) (Ok d) (Err NotObject) (λ e. let own = taken_reads 127 d (omega arith) t in record { source = t; shallow = depth-read own.0 d own.1; utf8 = u }) (λ e. tt)
+    by (Ok d) t u = if_ok (WasRead 127) (is_object d) (Ok d) (Err NotObject)
+        (λ e. let own = taken_reads 127 d (omega arith) t in record { source = t; shallow = depth-read own.0 d own.1; utf8 = u }) (λ e. tt)
     by (Err e) t u = tt
 
 -- ---- members

@@ -2,7 +2,7 @@
 -- the line that was read did not.
 -- A choice of this project: the script format, and its limits.
 use Rattle.std.specs.Prelude.{ℕ, ◌≤◌, List, length, All, ⊤}
-use Rattle.kube_types.specs.declared.objects.Object.{Object}
+use Rattle.kube_objects.specs.declared.objects.Object.{Object}
 use Rattle.call_types.specs.declared.request.Request.{Request}
 use Rattle.call_types.specs.declared.request.Request.TheVariants as asks
 use Rattle.object_print.specs.Objects.{object_line}

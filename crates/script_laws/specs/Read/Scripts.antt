@@ -3,7 +3,7 @@
 use Rattle.std.specs.Prelude.{◌≡◌, ℕ, ◌+◌, ◌≤◌, List, [], ◌∷◌, ◌++◌, length, None, Ok, All, ⊤}
 use Rattle.plain_data.specs.Pairs.{Pair}
 use Rattle.quantity_text.specs.Quantity.{amount_of}
-use Rattle.kube_types.specs.declared.objects.Object.{Object}
+use Rattle.kube_objects.specs.declared.objects.Object.{Object}
 use Rattle.binder_model.specs.Imports.{import_fault}
 use Rattle.call_types.specs.declared.setup.Pool.{Pool}
 use Rattle.script_text.specs.declared.script.Line.{Line}

@@ -92,7 +92,8 @@ parts_in players = map (λ (x : Player). x.part) players
 abbrev pub AreNewPlayers : List Line → List Actor → ℕ → List Player → Type 0
 AreNewPlayers lines [] first players = players ≡ []
 AreNewPlayers lines (actor ∷ actors) first [] = ⊥
-AreNewPlayers lines (actor ∷ actors) first (x ∷ players) = (x.part ≡ part_from lines actor first) × IsNewPlayer (role_of actor) x × AreNewPlayers lines actors (end_of (part_from lines actor first)) players
+AreNewPlayers lines (actor ∷ actors) first (x ∷ players) = (x.part ≡ part_from lines actor first) × IsNewPlayer (role_of actor) x
+    × AreNewPlayers lines actors (end_of (part_from lines actor first)) players
 
 -- such players stand behind those before, and this seat is the one after those of their lives
 pub record HasAdded (lines : List Line) (actors : List Actor) (first next : ℕ) (before after : List Player) : Type 0 where

@@ -7,7 +7,7 @@ use Rattle.script_lines.specs.declared.errors.Reason.{Reason}
 use Rattle.script_lines.specs.declared.errors.LineError.{LineError}
 use Rattle.script_lines.specs.declared.errors.LineError.TheVariants.{OutOfMemory, Refused}
 use Rattle.script_text.specs.declared.numbers.NumberRow.{NumberRow}
-use Rattle.kube_types.specs.declared.objects.Object.{Object}
+use Rattle.kube_objects.specs.declared.objects.Object.{Object}
 use Rattle.script_text.specs.declared.script.Line.{Line}
 use Rattle.script_text.specs.declared.script.Meaning.{Meaning}
 use Rattle.script_text.specs.declared.script.Meaning.TheVariants as meanings

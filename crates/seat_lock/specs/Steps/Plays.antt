@@ -18,12 +18,14 @@ module _ {X A R B : Type 0} where
   -- where its ticket is served the seat has the turn and the value
   abbrev pub ReadsServing : (X → List (Entry A R)) → (X → B) → Step (Option X) → SeatState X A R B → ℕ → SeatState X A R B → Type 0
   ReadsServing history base st m n m' = (t : ℕ) → m.0.stage ≡ Waits t
-      → (n ≡ t % 2 ^ 64 → (x : X) × (m' ≡ (record m.0 { stage = Turn t (history x) }, (0, Some x) ∷ m.1)) × StartsWith (history x) m.0.front × (m.0.own ≡ calls_of m.0.number (history x)) × (m.0.base ≡ Some (base x)))
+      → (n ≡ t % 2 ^ 64 → (x : X) × (m' ≡ (record m.0 { stage = Turn t (history x) }, (0, Some x) ∷ m.1)) × StartsWith (history x) m.0.front
+      × (m.0.own ≡ calls_of m.0.number (history x)) × (m.0.base ≡ Some (base x)))
       × (n ≢ t % 2 ^ 64 → m' ≡ m)
 
   -- the entries of the value in hand are counted
   abbrev pub CountsEntry : (X → List (Entry A R)) → Step (Option X) → SeatState X A R B → ℕ → SeatState X A R B → Type 0
-  CountsEntry history st m n m' = (x : X) (t : ℕ) (l : List (Entry A R)) → m.1 ≡ (0, Some x) ∷ [] → m.0.stage ≡ Turn t l → m' ≡ (record m.0 { stage = Turn t (history x); own = calls_of m.0.number (history x); front = history x }, m.1)
+  CountsEntry history st m n m' = (x : X) (t : ℕ) (l : List (Entry A R)) → m.1 ≡ (0, Some x) ∷ [] → m.0.stage ≡ Turn t l
+      → m' ≡ (record m.0 { stage = Turn t (history x); own = calls_of m.0.number (history x); front = history x }, m.1)
 
   -- the turn is over, and the value is at home
   abbrev pub EndsTurn : Step (Option X) → SeatState X A R B → ℕ → SeatState X A R B → Type 0
@@ -33,9 +35,11 @@ module _ {X A R B : Type 0} where
   abbrev pub RingsBell : Step (Option X) → SeatState X A R B → ℕ → SeatState X A R B → Type 0
   RingsBell st m n m' = m' ≡ m
 
-  -- The next number is held for a seat to come, at the price of a fork. It is above those that the seat has and those that it knew of. A seat that accounts for all that it knew of is the only one, so that none was drawn since
+  -- The next number is held for a seat to come, at the price of a fork. It is above those that the seat has and those that it knew of. A seat that
+  -- accounts for all that it knew of is the only one, so that none was drawn since
   abbrev pub DrawsNumber : Step (Option X) → SeatState X A R B → ℕ → SeatState X A R B → Type 0
-  DrawsNumber st m n m' = (n < 2 ^ 49) × (m' ≡ (record m.0 { forks = m.0.forks - 1; share = m.0.share + 1; made = n + 1; from = n + 1; upto = n + 2 }, m.1)) × (m.0.number ≤ n) × All (λ (p : ℕ × List (Entry A R)). p.0 ≤ n) m.0.met
+  DrawsNumber st m n m' = (n < 2 ^ 49) × (m' ≡
+      (record m.0 { forks = m.0.forks - 1; share = m.0.share + 1; made = n + 1; from = n + 1; upto = n + 2 }, m.1)) × (m.0.number ≤ n) × All (λ (p : ℕ × List (Entry A R)). p.0 ≤ n) m.0.met
       × (m.0.made ≤ n)
       × (m.0.share ≤ n)
       × (m.0.made ≡ m.0.share → n ≡ m.0.share)
@@ -88,7 +92,14 @@ module _ {A R B : Type 0} where
 
   -- the first view, which has seen the longer front, and accounts for the numbers of the second
   abbrev pub joint_view : Known A R B → Known A R B → Known A R B
-  joint_view v w = record v { share = v.share + w.share; made = max v.made w.made; front = longer v.front w.front; fronts = v.front ∷ w.front ∷ (w.fronts ++ v.fronts); met = (w.number, w.own) ∷ (w.met ++ v.met) }
+  joint_view v w = record v {
+    share = v.share + w.share;
+    made = max v.made w.made;
+    front = longer v.front w.front;
+    fronts = v.front ∷ w.front ∷
+        (w.fronts ++ v.fronts);
+    met = (w.number, w.own) ∷ (w.met ++ v.met);
+  }
 
   -- the view without its share
   abbrev pub without_share : Known A R B → Known A R B

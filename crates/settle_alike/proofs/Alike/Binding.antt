@@ -2,17 +2,39 @@
 use Rattle.std.proofs.Common.{◌≡◌, ◌∙◌, ℕ, List, Bool, true, false, Option, Some, None, refl, sym, ap, if◌then◌else◌}
 use Rattle.std.specs.Prelude.{◌&&◌, ◌||◌, not, is_none, is_some, option_map}
 use Rattle.plain_data.specs.Pairs.{value_at}
-use Rattle.kube_types.specs.declared.uid.Uid.{Uid}
-use Rattle.kube_types.specs.declared.names.Due.TheVariants as dues
-use Rattle.kube_types.specs.declared.objects.Class.{Class as ClassData}
-use Rattle.kube_types.specs.declared.objects.Ref.{Ref}
-use Rattle.kube_types.specs.declared.objects.Claim.{Claim as ClaimData}
-use Rattle.kube_types.specs.declared.objects.Node.{Node as NodeData}
-use Rattle.kube_types.specs.declared.objects.Volume.{Volume as VolumeData}
-use Rattle.kube_types.specs.declared.objects.Object.{Object}
-use Rattle.kube_types.specs.declared.objects.Object.TheVariants.{Class, Node, Volume, Claim, Pod}
-use Rattle.kube_types.specs.Bindings.{carries, class_of_claim, is_available, is_bound, is_completed, is_deleting, is_empty, is_ended, is_for, is_protected_claim, is_protected_volume, is_uid, lacks_class, names_claim, ref_uid, refers_carrying, refers_for, selected_node, uid_carries, uid_fits, uses}
-use Rattle.kube_types.specs.Keys.{row_at}
+use Rattle.kube_parts.specs.declared.uid.Uid.{Uid}
+use Rattle.kube_parts.specs.declared.names.Due.TheVariants as dues
+use Rattle.kube_objects.specs.declared.objects.Class.{Class as ClassData}
+use Rattle.kube_objects.specs.declared.objects.Ref.{Ref}
+use Rattle.kube_objects.specs.declared.objects.Claim.{Claim as ClaimData}
+use Rattle.kube_objects.specs.declared.objects.Node.{Node as NodeData}
+use Rattle.kube_objects.specs.declared.objects.Volume.{Volume as VolumeData}
+use Rattle.kube_objects.specs.declared.objects.Object.{Object}
+use Rattle.kube_objects.specs.declared.objects.Object.TheVariants.{Class, Node, Volume, Claim, Pod}
+use Rattle.kube_objects.specs.Bindings.{
+  carries,
+  class_of_claim,
+  is_available,
+  is_bound,
+  is_completed,
+  is_deleting,
+  is_empty,
+  is_ended,
+  is_for,
+  is_protected_claim,
+  is_protected_volume,
+  is_uid,
+  lacks_class,
+  names_claim,
+  ref_uid,
+  refers_carrying,
+  refers_for,
+  selected_node,
+  uid_carries,
+  uid_fits,
+  uses,
+}
+use Rattle.kube_objects.specs.Keys.{row_at}
 use Rattle.call_types.specs.declared.setup.Setup.{Setup}
 use Rattle.binder_model.specs.BinderDue.{claim_due, claim_with, completed_due, has_other_uid, is_default_row, is_uid_of_other, lost_due, named_due, reference_due, referred_due, uid_due, volume_due}
 use Rattle.binder_model.specs.BindWrites.{claim_write, is_completed_with, next_write, shows_bound, write_bound, write_claim_status, write_completion, write_reference}
@@ -62,11 +84,13 @@ own_plain true v c = for_plain v c
 own_plain false v c = refl
 
 pub eligible_plain : (v : VolumeData) (c : ClaimData) → eligible (plain_volume v) (plain_claim c) None ≡ eligible v c None
-eligible_plain v c = ap (λ b. not (is_deleting v.meta) && is_protected_volume v && fits v c && is_selected c.selector v.meta.labels && true && ((b && not (is_ended v.phase)) || (is_available v.phase && is_none v.claim_ref))) (for_plain v c)
+eligible_plain v c = ap (λ b. not (is_deleting v.meta) && is_protected_volume v && fits v c && is_selected c.selector v.meta.labels && true &&
+    ((b && not (is_ended v.phase)) || (is_available v.phase && is_none v.claim_ref))) (for_plain v c)
 
 pub eligible_on_plain : (v : VolumeData) (c : ClaimData) (n : NodeData) → eligible (plain_volume v) (plain_claim c) (Some (plain_node n)) ≡ eligible v c (Some n)
 eligible_on_plain v c n =
-    ap (λ b. not (is_deleting v.meta) && is_protected_volume v && fits v c && is_selected c.selector v.meta.labels && admits v.terms n.meta.labels && ((b && not (is_ended v.phase)) || (is_available v.phase && is_none v.claim_ref))) (for_plain v c)
+    ap (λ b. not (is_deleting v.meta) && is_protected_volume v && fits v c && is_selected c.selector v.meta.labels && admits v.terms n.meta.labels &&
+    ((b && not (is_ended v.phase)) || (is_available v.phase && is_none v.claim_ref))) (for_plain v c)
 
 -- a volume
 
@@ -89,7 +113,8 @@ volume_due_plain rows v = by v.claim_ref
   where
     by_uid : (r : Ref) (u : Option Uid) → uid_due (contents_of rows) (plain_volume v) r u ≡ uid_due rows v r u
     by_uid r None = refl
-    by_uid r (Some uid) = ap (λ x. if is_ended v.phase then None else x) (ap (λ x. referred_due (plain_volume v) (claim_with uid x)) (row_plain (claim_key r.namespace r.name) rows) ∙ referred_plain v uid (row_at (claim_key r.namespace r.name) rows))
+    by_uid r (Some uid) = ap (λ x. if is_ended v.phase then None else x) (ap (λ x. referred_due (plain_volume v) (claim_with uid x))
+        (row_plain (claim_key r.namespace r.name) rows) ∙ referred_plain v uid (row_at (claim_key r.namespace r.name) rows))
 
     by : (r : Option Ref) → reference_due (contents_of rows) (plain_volume v) r ≡ reference_due rows v r
     by None = refl
@@ -153,7 +178,8 @@ named_due_plain c (Some (Node x)) = refl
 named_due_plain c (Some (Claim x)) = refl
 named_due_plain c (Some (Pod x)) = refl
 named_due_plain c (Some (Volume v)) =
-    ap (λ b. if is_deleting v.meta || not (is_protected_volume v) || is_ended v.phase then None else if is_none v.claim_ref then (if fits v c then Some dues.Bind else None) else if b then Some dues.Bind else None) (for_plain v c)
+    ap (λ b. if is_deleting v.meta || not (is_protected_volume v) || is_ended v.phase then None else if is_none v.claim_ref then
+    (if fits v c then Some dues.Bind else None) else if b then Some dues.Bind else None) (for_plain v c)
 
 delayed_plain : (x : Option Object) → is_delayed (option_map content_of x) ≡ is_delayed x
 delayed_plain None = refl
@@ -229,7 +255,8 @@ module _ (setup : Setup) (w : World) (c : ClaimData) where
 
   delayed_due_plain : (uid : Uid) (x : ClassData) (node : Option (List ℕ)) → delayed_due setup (plain_world w) (plain_claim c) uid (plain_class x) node ≡ delayed_due setup w c uid x node
   delayed_due_plain uid x None = refl
-  delayed_due_plain uid x (Some node) = ap (on_node_due setup (plain_world w) (plain_claim c) uid (plain_class x)) (row_plain (node_key node) w.store.rows) ∙ on_node_plain uid x (row_at (node_key node) w.store.rows)
+  delayed_due_plain uid x (Some node) = ap (on_node_due setup (plain_world w) (plain_claim c) uid (plain_class x)) (row_plain (node_key node)
+      w.store.rows) ∙ on_node_plain uid x (row_at (node_key node) w.store.rows)
 
   by_class_plain : (u : Option Uid) (o : Option Object) → by_class_due setup (plain_world w) (plain_claim c) u (option_map content_of o) ≡ by_class_due setup w c u o
   by_class_plain None o = refl
@@ -246,5 +273,6 @@ module _ (setup : Setup) (w : World) (c : ClaimData) where
   pub provision_plain : provision_due setup (plain_world w) (plain_claim c) ≡ provision_due setup w c
   provision_plain =
       let found = match_plain w.store.rows c in
-      let due = ap (by_class_due setup (plain_world w) (plain_claim c) c.meta.uid) (row_plain (class_key (class_of_claim c)) w.store.rows) ∙ by_class_plain c.meta.uid (row_at (class_key (class_of_claim c)) w.store.rows) in
+      let due = ap (by_class_due setup (plain_world w) (plain_claim c) c.meta.uid) (row_plain (class_key (class_of_claim c)) w.store.rows)
+      ∙ by_class_plain c.meta.uid (row_at (class_key (class_of_claim c)) w.store.rows) in
       λ i. if is_wanting c && not (found i) then due i else None

@@ -5,9 +5,9 @@ use Rattle.std.specs.declared.cmp.Ordering.{Ordering}
 use Rattle.std.specs.declared.cmp.Ordering.TheVariants.{Less, Equal, Greater}
 use Rattle.std.specs.Ordering.{is_eq, match_ordering}
 use Rattle.plain_data.proofs.RowFacts.{find_gap}
-use Rattle.kube_types.specs.declared.objects.Object.{Object}
-use Rattle.kube_types.specs.Keys.{AreRows, key_cmp, key_of, put_row, row_at}
-use Rattle.kube_types.proofs.KeyOrder.{key_cmp_total}
+use Rattle.kube_objects.specs.declared.objects.Object.{Object}
+use Rattle.kube_objects.specs.Keys.{AreRows, key_cmp, key_of, put_row, row_at}
+use Rattle.kube_objects.proofs.KeyOrder.{key_cmp_total}
 use Rattle.binder_model.specs.Answers.{Removes, Says, Stores, after, reply_of}
 use Rattle.binder_model.specs.Devices.{Devices}
 use Rattle.binder_model.specs.World.{Effect, OnDevices, OnStore, SetsMoment, World, effect, log_after, reply_to, world, world_after}
@@ -33,7 +33,8 @@ abbrev pub LastsOrAlike : World → Effect → Type 0
 LastsOrAlike w x = LastsBetween w (world_after w x) (reply_to x) ⊎ AreAlike w (world_after w x)
 
 module _ (w : World) (order : AreRows w.store.rows) where
-  stores_so : (x : Effect) (o : Object) (row : Option Object) → row_at (key_of o) w.store.rows ≡ row → (IsChanged row o → LastsBetween w (world_after w x) (reply_to x)) → ((old : Object) → row ≡ Some old → content_of old ≡ content_of o → AreAlike w (world_after w x)) → LastsOrAlike w x
+  stores_so : (x : Effect) (o : Object) (row : Option Object) → row_at (key_of o) w.store.rows ≡ row
+      → (IsChanged row o → LastsBetween w (world_after w x) (reply_to x)) → ((old : Object) → row ≡ Some old → content_of old ≡ content_of o → AreAlike w (world_after w x)) → LastsOrAlike w x
   stores_so x o None there lasts alike = inl (lasts tt)
   stores_so x o (Some old) there lasts alike = by (object_known (content_of old) (content_of o))
     where
@@ -41,7 +42,8 @@ module _ (w : World) (order : AreRows w.store.rows) where
       by (inl same) = inr (alike old refl same)
       by (inr differs) = inl (lasts differs)
 
-  devices_so : (d : Devices) → Known (d.stored ≡ w.devices.stored) → Known (d.mounts ≡ w.devices.mounts) → ((d.stored ≢ w.devices.stored) ⊎ (d.mounts ≢ w.devices.mounts)) ⊎ ((w.devices.stored ≡ d.stored) × (w.devices.mounts ≡ d.mounts))
+  devices_so : (d : Devices) → Known (d.stored ≡ w.devices.stored) → Known (d.mounts ≡ w.devices.mounts)
+      → ((d.stored ≢ w.devices.stored) ⊎ (d.mounts ≢ w.devices.mounts)) ⊎ ((w.devices.stored ≡ d.stored) × (w.devices.mounts ≡ d.mounts))
   devices_so d (inl stored) (inl mounts) = inr (sym stored, sym mounts)
   devices_so d (inr stored) k = inl (inl stored)
   devices_so d (inl stored) (inr mounts) = inl (inr mounts)
@@ -55,7 +57,8 @@ module _ (w : World) (order : AreRows w.store.rows) where
       (λ old there same. record { rows = sym (put_same o old w.store.rows order there same); stored = refl; mounts = refl })
   effect_so (OnDevices a) = by (devices_so a.devices (list_known datum_known a.devices.stored w.devices.stored) (list_known mount_known a.devices.mounts w.devices.mounts))
     where
-      by : ((a.devices.stored ≢ w.devices.stored) ⊎ (a.devices.mounts ≢ w.devices.mounts)) ⊎ ((w.devices.stored ≡ a.devices.stored) × (w.devices.mounts ≡ a.devices.mounts)) → LastsOrAlike w (OnDevices a)
+      by : ((a.devices.stored ≢ w.devices.stored) ⊎ (a.devices.mounts ≢ w.devices.mounts))
+          ⊎ ((w.devices.stored ≡ a.devices.stored) × (w.devices.mounts ≡ a.devices.mounts)) → LastsOrAlike w (OnDevices a)
       by (inl differs) = inl (inr (inl differs))
       by (inr same) = inr (record { rows = refl; stored = same.0; mounts = same.1 })
   effect_so (SetsMoment at) = inr (record { rows = refl; stored = refl; mounts = refl })
@@ -77,9 +80,11 @@ entries_last_or_leave_alike setup (e ∷ newer) past history = by (entries_last_
 
     by_this : AreAlike (world setup past) (world setup (newer ++ past)) → LastsOrAlike (world setup (newer ++ past)) (effect setup (world setup (newer ++ past)) e.kind e.request)
         → HasLasting setup past (e ∷ newer ++ past) ⊎ AreAlike (world setup past) (world setup (e ∷ newer ++ past))
-    by_this before (inl lasts) = inl (record { entry = e; newer = []; older = newer; are = refl; lasts = subst (λ reply. LastsBetween (world setup (newer ++ past)) (world setup (e ∷ newer ++ past)) reply) (sym history.1) lasts })
+    by_this before (inl lasts) = inl (record
+        { entry = e; newer = []; older = newer; are = refl; lasts = subst (λ reply. LastsBetween (world setup (newer ++ past)) (world setup (e ∷ newer ++ past)) reply) (sym history.1) lasts })
     by_this before (inr alike) = inr (then_alike _ _ _ before alike)
 
-    by : HasLasting setup past (newer ++ past) ⊎ AreAlike (world setup past) (world setup (newer ++ past)) → HasLasting setup past (e ∷ newer ++ past) ⊎ AreAlike (world setup past) (world setup (e ∷ newer ++ past))
+    by : HasLasting setup past (newer ++ past) ⊎ AreAlike (world setup past) (world setup (newer ++ past))
+        → HasLasting setup past (e ∷ newer ++ past) ⊎ AreAlike (world setup past) (world setup (e ∷ newer ++ past))
     by (inl l) = inl (record { entry = l.entry; newer = e ∷ l.newer; older = l.older; are = ap (λ es. e ∷ es) l.are; lasts = l.lasts })
     by (inr alike) = by_this alike here

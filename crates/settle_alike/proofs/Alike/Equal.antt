@@ -5,23 +5,35 @@ use Rattle.std.specs.Bool.{Decides}
 use Rattle.std.specs.Cmp.{booleans_Decides}
 use Rattle.std.proofs.lemmas.Bool.Decides.{Decides-eqb}
 use Rattle.std.proofs.lemmas.Slice.Eq.{bytes_eq-Decides}
-use Rattle.kube_types.specs.declared.parts.ClaimPhase.{ClaimPhase}
-use Rattle.kube_types.specs.declared.parts.ClaimPhase.TheVariants as claims
-use Rattle.kube_types.specs.declared.parts.VolumePhase.{VolumePhase}
-use Rattle.kube_types.specs.declared.parts.VolumePhase.TheVariants as volumes
-use Rattle.kube_types.specs.declared.objects.DataId.{DataId}
-use Rattle.kube_types.specs.declared.objects.Meta.{Meta}
-use Rattle.kube_types.specs.declared.objects.Class.{Class as ClassData}
-use Rattle.kube_types.specs.declared.objects.Node.{Node as NodeData}
-use Rattle.kube_types.specs.declared.objects.Claim.{Claim as ClaimData}
-use Rattle.kube_types.specs.declared.objects.Volume.{Volume as VolumeData}
-use Rattle.kube_types.specs.declared.objects.Pod.{Pod as PodData}
-use Rattle.kube_types.specs.declared.objects.Object.{Object}
-use Rattle.kube_types.specs.declared.objects.Object.TheVariants.{Class, Node, Volume, Claim, Pod}
+use Rattle.kube_parts.specs.declared.parts.ClaimPhase.{ClaimPhase}
+use Rattle.kube_parts.specs.declared.parts.ClaimPhase.TheVariants as claims
+use Rattle.kube_parts.specs.declared.parts.VolumePhase.{VolumePhase}
+use Rattle.kube_parts.specs.declared.parts.VolumePhase.TheVariants as volumes
+use Rattle.kube_objects.specs.declared.objects.DataId.{DataId}
+use Rattle.kube_objects.specs.declared.objects.Meta.{Meta}
+use Rattle.kube_objects.specs.declared.objects.Class.{Class as ClassData}
+use Rattle.kube_objects.specs.declared.objects.Node.{Node as NodeData}
+use Rattle.kube_objects.specs.declared.objects.Claim.{Claim as ClaimData}
+use Rattle.kube_objects.specs.declared.objects.Volume.{Volume as VolumeData}
+use Rattle.kube_objects.specs.declared.objects.Pod.{Pod as PodData}
+use Rattle.kube_objects.specs.declared.objects.Object.{Object}
+use Rattle.kube_objects.specs.declared.objects.Object.TheVariants.{Class, Node, Volume, Claim, Pod}
 use Rattle.call_types.specs.declared.reply.MountRow.{MountRow}
 use Rattle.binder_model.specs.Devices.{Data, MountAt}
 use Rattle.binder_model.specs.Same.{same_amount, same_ref, same_selector, same_terms, same_uid}
-use Rattle.field_rules.proofs.Equalities.{same_amount-Decides, same_modes-Decides, same_names-Decides, same_option-Decides, same_pairs-Decides, same_policy-Decides, same_ref-Decides, same_selector-Decides, same_source-Decides, same_terms-Decides, same_uid-Decides}
+use Rattle.field_rules.proofs.Equalities.{
+  same_amount-Decides,
+  same_modes-Decides,
+  same_names-Decides,
+  same_option-Decides,
+  same_pairs-Decides,
+  same_policy-Decides,
+  same_ref-Decides,
+  same_selector-Decides,
+  same_source-Decides,
+  same_terms-Decides,
+  same_uid-Decides,
+}
 
 -- it holds, or it does not
 abbrev pub Known : Type 0 → Type 0
@@ -106,15 +118,56 @@ claim_phase_known a b = alike (λ e. sym (claim_back a) ∙ (ap claim_at e ∙ c
 
 pub meta_known : (a b : Meta) → Known (a ≡ b)
 meta_known a b =
-    alike (λ e i. record { namespace = e.0.0.0.0.0.0.0.0 i; name = e.0.0.0.0.0.0.0.1 i; uid = e.0.0.0.0.0.0.1 i; version = e.0.0.0.0.0.1 i; created = e.0.0.0.0.1 i; deleted = e.0.0.0.1 i; labels = e.0.0.1 i; annotations = e.0.1 i; finalizers = e.1 i })
-    (λ e. ((((((((ap (λ (x : Meta). x.namespace) e, ap (λ (x : Meta). x.name) e), ap (λ (x : Meta). x.uid) e), ap (λ (x : Meta). x.version) e), ap (λ (x : Meta). x.created) e), ap (λ (x : Meta). x.deleted) e), ap (λ (x : Meta). x.labels) e), ap (λ (x : Meta). x.annotations) e), ap (λ (x : Meta). x.finalizers) e))
-    (both (both (both (both (both (both (both (both (known (bytes_eq-Decides a.namespace b.namespace)) (known (bytes_eq-Decides a.name b.name))) (known (same_option-Decides same_uid same_uid-Decides a.uid b.uid))) (known (Decides-eqb a.version b.version))) (known (bytes_eq-Decides a.created b.created))) (known (same_option-Decides bytes_eq bytes_eq-Decides a.deleted b.deleted))) (known (same_pairs-Decides a.labels b.labels))) (known (same_pairs-Decides a.annotations b.annotations))) (known (same_names-Decides a.finalizers b.finalizers)))
+    alike (λ e i. record {
+      namespace = e.0.0.0.0.0.0.0.0 i;
+      name = e.0.0.0.0.0.0.0.1 i;
+      uid = e.0.0.0.0.0.0.1 i;
+      version = e.0.0.0.0.0.1 i;
+      created =
+          e.0.0.0.0.1 i;
+      deleted = e.0.0.0.1 i;
+      labels = e.0.0.1 i;
+      annotations = e.0.1 i;
+      finalizers = e.1 i;
+    })
+    (λ e. (
+      (
+        (
+          (
+            (
+              (((ap (λ (x : Meta). x.namespace) e, ap (λ (x : Meta). x.name) e), ap (λ (x : Meta). x.uid) e), ap (λ (x : Meta). x.version) e),
+              ap (λ (x : Meta). x.created) e,
+            ),
+            ap (λ (x : Meta). x.deleted) e,
+          ),
+          ap (λ (x : Meta). x.labels) e,
+        ),
+        ap (λ (x : Meta). x.annotations) e,
+      ),
+      ap (λ (x : Meta). x.finalizers) e,
+    ))
+    (both (both (both (both (both
+    (both (both (both (known (bytes_eq-Decides a.namespace b.namespace)) (known (bytes_eq-Decides a.name b.name)))
+    (known (same_option-Decides same_uid same_uid-Decides a.uid b.uid))) (known (Decides-eqb a.version b.version)))
+    (known (bytes_eq-Decides a.created b.created))) (known (same_option-Decides bytes_eq bytes_eq-Decides a.deleted b.deleted)))
+    (known (same_pairs-Decides a.labels b.labels))) (known (same_pairs-Decides a.annotations b.annotations))) (known (same_names-Decides a.finalizers b.finalizers)))
 
 pub class_known : (a b : ClassData) → Known (a ≡ b)
 class_known a b =
     alike (λ e i. record { meta = e.0.0.0.0.0 i; provisioner = e.0.0.0.0.1 i; policy = e.0.0.0.1 i; delayed = e.0.0.1 i; parameters = e.0.1 i; extra = e.1 i })
-    (λ e. (((((ap (λ (x : ClassData). x.meta) e, ap (λ (x : ClassData). x.provisioner) e), ap (λ (x : ClassData). x.policy) e), ap (λ (x : ClassData). x.delayed) e), ap (λ (x : ClassData). x.parameters) e), ap (λ (x : ClassData). x.extra) e))
-    (both (both (both (both (both (meta_known a.meta b.meta) (known (bytes_eq-Decides a.provisioner b.provisioner))) (known (same_policy-Decides a.policy b.policy))) (known (booleans_Decides a.delayed b.delayed))) (known (same_pairs-Decides a.parameters b.parameters))) (known (bytes_eq-Decides a.extra b.extra)))
+    (λ e. (
+      (
+        (
+          ((ap (λ (x : ClassData). x.meta) e, ap (λ (x : ClassData). x.provisioner) e), ap (λ (x : ClassData). x.policy) e),
+          ap (λ (x : ClassData). x.delayed) e,
+        ),
+        ap (λ (x : ClassData). x.parameters) e,
+      ),
+      ap (λ (x : ClassData). x.extra) e,
+    ))
+    (both (both (both (both (both (meta_known a.meta b.meta) (known (bytes_eq-Decides a.provisioner b.provisioner)))
+    (known (same_policy-Decides a.policy b.policy))) (known (booleans_Decides a.delayed b.delayed)))
+    (known (same_pairs-Decides a.parameters b.parameters))) (known (bytes_eq-Decides a.extra b.extra)))
 
 pub node_known : (a b : NodeData) → Known (a ≡ b)
 node_known a b =
@@ -124,15 +177,100 @@ node_known a b =
 
 pub volume_known : (a b : VolumeData) → Known (a ≡ b)
 volume_known a b =
-    alike (λ e i. record { meta = e.0.0.0.0.0.0.0.0.0.0 i; amount = e.0.0.0.0.0.0.0.0.0.1 i; modes = e.0.0.0.0.0.0.0.0.1 i; block = e.0.0.0.0.0.0.0.1 i; class = e.0.0.0.0.0.0.1 i; policy = e.0.0.0.0.0.1 i; claim_ref = e.0.0.0.0.1 i; source = e.0.0.0.1 i; terms = e.0.0.1 i; extra = e.0.1 i; phase = e.1 i })
-    (λ e. ((((((((((ap (λ (x : VolumeData). x.meta) e, ap (λ (x : VolumeData). x.amount) e), ap (λ (x : VolumeData). x.modes) e), ap (λ (x : VolumeData). x.block) e), ap (λ (x : VolumeData). x.class) e), ap (λ (x : VolumeData). x.policy) e), ap (λ (x : VolumeData). x.claim_ref) e), ap (λ (x : VolumeData). x.source) e), ap (λ (x : VolumeData). x.terms) e), ap (λ (x : VolumeData). x.extra) e), ap (λ (x : VolumeData). x.phase) e))
-    (both (both (both (both (both (both (both (both (both (both (meta_known a.meta b.meta) (known (same_amount-Decides a.amount b.amount))) (known (same_modes-Decides a.modes b.modes))) (known (booleans_Decides a.block b.block))) (known (bytes_eq-Decides a.class b.class))) (known (same_policy-Decides a.policy b.policy))) (known (same_option-Decides same_ref same_ref-Decides a.claim_ref b.claim_ref))) (known (same_source-Decides a.source b.source))) (known (same_option-Decides same_terms same_terms-Decides a.terms b.terms))) (known (bytes_eq-Decides a.extra b.extra))) (volume_phase_known a.phase b.phase))
+    alike (λ e i. record {
+      meta = e.0.0.0.0.0.0.0.0.0.0 i;
+      amount = e.0.0.0.0.0.0.0.0.0.1 i;
+      modes = e.0.0.0.0.0.0.0.0.1 i;
+      block = e.0.0.0.0.0.0.0.1
+          i;
+      class = e.0.0.0.0.0.0.1 i;
+      policy = e.0.0.0.0.0.1 i;
+      claim_ref = e.0.0.0.0.1 i;
+      source = e.0.0.0.1 i;
+      terms = e.0.0.1 i;
+      extra = e.0.1 i;
+      phase = e.1 i;
+    })
+    (λ e. (
+      (
+        (
+          (
+            (
+              (
+                (
+                  (
+                    ((ap (λ (x : VolumeData). x.meta) e, ap (λ (x : VolumeData). x.amount) e), ap (λ (x : VolumeData). x.modes) e),
+                    ap (λ (x : VolumeData). x.block) e,
+                  ),
+                  ap (λ (x : VolumeData). x.class) e,
+                ),
+                ap (λ (x : VolumeData). x.policy) e,
+              ),
+              ap (λ (x : VolumeData). x.claim_ref) e,
+            ),
+            ap (λ (x : VolumeData). x.source) e,
+          ),
+          ap (λ (x : VolumeData). x.terms) e,
+        ),
+        ap (λ (x : VolumeData). x.extra) e,
+      ),
+      ap (λ (x : VolumeData). x.phase) e,
+    ))
+    (both (both (both (both (both
+    (both (both (both (both (both (meta_known a.meta b.meta) (known (same_amount-Decides a.amount b.amount)))
+    (known (same_modes-Decides a.modes b.modes))) (known (booleans_Decides a.block b.block))) (known (bytes_eq-Decides a.class b.class)))
+    (known (same_policy-Decides a.policy b.policy))) (known (same_option-Decides same_ref same_ref-Decides a.claim_ref b.claim_ref)))
+    (known (same_source-Decides a.source b.source))) (known (same_option-Decides same_terms same_terms-Decides a.terms b.terms)))
+    (known (bytes_eq-Decides a.extra b.extra))) (volume_phase_known a.phase b.phase))
 
 pub claim_known : (a b : ClaimData) → Known (a ≡ b)
 claim_known a b =
-    alike (λ e i. record { meta = e.0.0.0.0.0.0.0.0.0.0 i; modes = e.0.0.0.0.0.0.0.0.0.1 i; amount = e.0.0.0.0.0.0.0.0.1 i; block = e.0.0.0.0.0.0.0.1 i; class = e.0.0.0.0.0.0.1 i; selector = e.0.0.0.0.0.1 i; volume_name = e.0.0.0.0.1 i; extra = e.0.0.0.1 i; phase = e.0.0.1 i; got_modes = e.0.1 i; got = e.1 i })
-    (λ e. ((((((((((ap (λ (x : ClaimData). x.meta) e, ap (λ (x : ClaimData). x.modes) e), ap (λ (x : ClaimData). x.amount) e), ap (λ (x : ClaimData). x.block) e), ap (λ (x : ClaimData). x.class) e), ap (λ (x : ClaimData). x.selector) e), ap (λ (x : ClaimData). x.volume_name) e), ap (λ (x : ClaimData). x.extra) e), ap (λ (x : ClaimData). x.phase) e), ap (λ (x : ClaimData). x.got_modes) e), ap (λ (x : ClaimData). x.got) e))
-    (both (both (both (both (both (both (both (both (both (both (meta_known a.meta b.meta) (known (same_modes-Decides a.modes b.modes))) (known (same_amount-Decides a.amount b.amount))) (known (booleans_Decides a.block b.block))) (known (same_option-Decides bytes_eq bytes_eq-Decides a.class b.class))) (known (same_option-Decides same_selector same_selector-Decides a.selector b.selector))) (known (bytes_eq-Decides a.volume_name b.volume_name))) (known (bytes_eq-Decides a.extra b.extra))) (claim_phase_known a.phase b.phase)) (known (same_modes-Decides a.got_modes b.got_modes))) (known (same_option-Decides same_amount same_amount-Decides a.got b.got)))
+    alike (λ e i. record {
+      meta = e.0.0.0.0.0.0.0.0.0.0 i;
+      modes = e.0.0.0.0.0.0.0.0.0.1 i;
+      amount = e.0.0.0.0.0.0.0.0.1 i;
+      block = e.0.0.0.0.0.0.0.1
+          i;
+      class = e.0.0.0.0.0.0.1 i;
+      selector = e.0.0.0.0.0.1 i;
+      volume_name = e.0.0.0.0.1 i;
+      extra = e.0.0.0.1 i;
+      phase = e.0.0.1 i;
+      got_modes = e.0.1 i;
+      got = e.1 i;
+    })
+    (λ e. (
+      (
+        (
+          (
+            (
+              (
+                (
+                  (
+                    ((ap (λ (x : ClaimData). x.meta) e, ap (λ (x : ClaimData). x.modes) e), ap (λ (x : ClaimData). x.amount) e),
+                    ap (λ (x : ClaimData). x.block) e,
+                  ),
+                  ap (λ (x : ClaimData). x.class) e,
+                ),
+                ap (λ (x : ClaimData). x.selector) e,
+              ),
+              ap (λ (x : ClaimData). x.volume_name) e,
+            ),
+            ap (λ (x : ClaimData). x.extra) e,
+          ),
+          ap (λ (x : ClaimData). x.phase) e,
+        ),
+        ap (λ (x : ClaimData). x.got_modes) e,
+      ),
+      ap (λ (x : ClaimData). x.got) e,
+    ))
+    (both (both (both (both (both
+    (both (both (both (both (both (meta_known a.meta b.meta) (known (same_modes-Decides a.modes b.modes)))
+    (known (same_amount-Decides a.amount b.amount))) (known (booleans_Decides a.block b.block)))
+    (known (same_option-Decides bytes_eq bytes_eq-Decides a.class b.class)))
+    (known (same_option-Decides same_selector same_selector-Decides a.selector b.selector)))
+    (known (bytes_eq-Decides a.volume_name b.volume_name))) (known (bytes_eq-Decides a.extra b.extra))) (claim_phase_known a.phase b.phase))
+    (known (same_modes-Decides a.got_modes b.got_modes))) (known (same_option-Decides same_amount same_amount-Decides a.got b.got)))
 
 pub pod_known : (a b : PodData) → Known (a ≡ b)
 pod_known a b =
@@ -210,7 +348,8 @@ pub datum_known : (a b : Data) → Known (a ≡ b)
 datum_known a b =
     alike (λ e i. record { id = e.0.0.0.0 i; name = e.0.0.0.1 i; pool = e.0.0.1 i; bytes = e.0.1 i; there = e.1 i })
     (λ e. ((((ap (λ (x : Data). x.id) e, ap (λ (x : Data). x.name) e), ap (λ (x : Data). x.pool) e), ap (λ (x : Data). x.bytes) e), ap (λ (x : Data). x.there) e))
-    (both (both (both (both (data_id_known a.id b.id) (known (bytes_eq-Decides a.name b.name))) (known (Decides-eqb a.pool b.pool))) (known (Decides-eqb a.bytes b.bytes))) (known (booleans_Decides a.there b.there)))
+    (both (both (both (both (data_id_known a.id b.id) (known (bytes_eq-Decides a.name b.name))) (known (Decides-eqb a.pool b.pool)))
+    (known (Decides-eqb a.bytes b.bytes))) (known (booleans_Decides a.there b.there)))
 
 pub mount_row_known : (a b : MountRow) → Known (a ≡ b)
 mount_row_known a b =

@@ -5,32 +5,83 @@ use Rattle.std.specs.Prelude.{◌&&◌, ◌||◌, filter, is_none, map, not, opt
 use Rattle.std.specs.List.{list_all, list_any}
 use Rattle.std.specs.Ordering.{is_gt, nat_cmp, ordering_then}
 use Rattle.plain_data.specs.Pairs.{text_cmp}
-use Rattle.kube_types.specs.declared.parts.Kind.TheVariants as kinds
-use Rattle.kube_types.specs.declared.names.Due.{Due}
-use Rattle.kube_types.specs.declared.names.Due.TheVariants as dues
-use Rattle.kube_types.specs.declared.uid.Uid.{Uid}
-use Rattle.kube_types.specs.declared.objects.Node.{Node as NodeData}
-use Rattle.kube_types.specs.declared.objects.Claim.{Claim as ClaimData}
-use Rattle.kube_types.specs.declared.objects.Volume.{Volume as VolumeData}
-use Rattle.kube_types.specs.declared.objects.Pod.{Pod as PodData}
-use Rattle.kube_types.specs.declared.objects.Object.{Object}
-use Rattle.kube_types.specs.declared.objects.Object.TheVariants.{Class, Node, Volume, Claim, Pod}
-use Rattle.kube_types.specs.Bindings.{class_of_claim, has_key, is_completed, is_deleting, is_empty, is_protected_claim, selected_node}
-use Rattle.kube_types.specs.Keys.{row_at, rows_of}
+use Rattle.kube_parts.specs.declared.parts.Kind.TheVariants as kinds
+use Rattle.kube_parts.specs.declared.names.Due.{Due}
+use Rattle.kube_parts.specs.declared.names.Due.TheVariants as dues
+use Rattle.kube_parts.specs.declared.uid.Uid.{Uid}
+use Rattle.kube_objects.specs.declared.objects.Node.{Node as NodeData}
+use Rattle.kube_objects.specs.declared.objects.Claim.{Claim as ClaimData}
+use Rattle.kube_objects.specs.declared.objects.Volume.{Volume as VolumeData}
+use Rattle.kube_objects.specs.declared.objects.Pod.{Pod as PodData}
+use Rattle.kube_objects.specs.declared.objects.Object.{Object}
+use Rattle.kube_objects.specs.declared.objects.Object.TheVariants.{Class, Node, Volume, Claim, Pod}
+use Rattle.kube_objects.specs.Bindings.{class_of_claim, has_key, is_completed, is_deleting, is_empty, is_protected_claim, selected_node}
+use Rattle.kube_objects.specs.Keys.{row_at, rows_of}
 use Rattle.call_types.specs.declared.setup.Setup.{Setup}
 use Rattle.label_rules.specs.Selectors.{admits}
 use Rattle.binder_model.specs.BindWrites.{is_claim_bound}
-use Rattle.binder_model.specs.Choice.{AreShares, Assigns, GoesNowhere, IsProvisioned, Searches, Serves, Share, Step, TakesVolume, Waits, admits_if_carrying, admits_node, are_completed, assigned_node, by_size, can_provision, carries_claim, claim_cmp, claim_named, claims_of, class_provisions, first_taking, fixed_admit, has_carrier, insert_claim, is_missing, is_other, is_served_elsewhere, is_under_way, lacks_claim, others_of, step_of, takes_pod, volume_admits}
+use Rattle.binder_model.specs.Choice.{
+  AreShares,
+  Assigns,
+  GoesNowhere,
+  IsProvisioned,
+  Searches,
+  Serves,
+  Share,
+  Step,
+  TakesVolume,
+  Waits,
+  admits_if_carrying,
+  admits_node,
+  are_completed,
+  assigned_node,
+  by_size,
+  can_provision,
+  carries_claim,
+  claim_cmp,
+  claim_named,
+  claims_of,
+  class_provisions,
+  first_taking,
+  fixed_admit,
+  has_carrier,
+  insert_claim,
+  is_missing,
+  is_other,
+  is_served_elsewhere,
+  is_under_way,
+  lacks_claim,
+  others_of,
+  step_of,
+  takes_pod,
+  volume_admits,
+}
 use Rattle.binder_model.specs.Due.{CanPrepare, IsPodDue, IsStepDue, agent_due, carried_by, is_pod_mounted, is_ready, is_served_on, share_is_served, shares_are_served}
 use Rattle.binder_model.specs.Matching.{IsBest, IsCandidate, match_cmp}
-use Rattle.kube_types.specs.Bindings.{mode_count}
+use Rattle.kube_objects.specs.Bindings.{mode_count}
 use Rattle.binder_model.specs.ObjectKeys.{class_key, node_key, volume_key}
 use Rattle.binder_model.specs.World.{World}
 use Rattle.model_laws.proofs.Lists.{none_some}
 use Rattle.settle_writes.specs.Writes.Lasting.{content_of}
 use Rattle.settle_alike.specs.Alike.Alike.{contents_of}
 use Rattle.settle_alike.proofs.Alike.Binding.{carries_plain, delayed_at, eligible_on_plain, for_plain}
-use Rattle.settle_alike.proofs.Alike.Rows.{all_mapped, all_same, any_mapped, any_same, chosen_mapped, filter_mapped, get_mapped, named_plain, plain_claim, plain_node, plain_pod, plain_volume, plain_world, row_plain, rows_plain}
+use Rattle.settle_alike.proofs.Alike.Rows.{
+  all_mapped,
+  all_same,
+  any_mapped,
+  any_same,
+  chosen_mapped,
+  filter_mapped,
+  get_mapped,
+  named_plain,
+  plain_claim,
+  plain_node,
+  plain_pod,
+  plain_volume,
+  plain_world,
+  row_plain,
+  rows_plain,
+}
 
 -- the claims of a pod
 
@@ -46,10 +97,12 @@ lacks_plain rows p =
     any_same (λ name. is_missing (claim_named (contents_of rows) p.meta.namespace name)) (λ name. is_missing (claim_named rows p.meta.namespace name))
     (λ name. ap is_missing (named_plain rows p.meta.namespace name) ∙ missing_plain (claim_named rows p.meta.namespace name)) p.claims
 
-all_claims : (rows : List Object) (p : PodData) (f g : ClaimData → Bool) → ((c : ClaimData) → f (plain_claim c) ≡ g c) → list_all f (claims_of (contents_of rows) (plain_pod p)) ≡ list_all g (claims_of rows p)
+all_claims : (rows : List Object) (p : PodData) (f g : ClaimData → Bool) → ((c : ClaimData) → f (plain_claim c) ≡ g c)
+    → list_all f (claims_of (contents_of rows) (plain_pod p)) ≡ list_all g (claims_of rows p)
 all_claims rows p f g same = ap (list_all f) (claims_plain rows p) ∙ all_mapped plain_claim f g same (claims_of rows p)
 
-any_claims : (rows : List Object) (p : PodData) (f g : ClaimData → Bool) → ((c : ClaimData) → f (plain_claim c) ≡ g c) → list_any f (claims_of (contents_of rows) (plain_pod p)) ≡ list_any g (claims_of rows p)
+any_claims : (rows : List Object) (p : PodData) (f g : ClaimData → Bool) → ((c : ClaimData) → f (plain_claim c) ≡ g c)
+    → list_any f (claims_of (contents_of rows) (plain_pod p)) ≡ list_any g (claims_of rows p)
 any_claims rows p f g same = ap (list_any f) (claims_plain rows p) ∙ any_mapped plain_claim f g same (claims_of rows p)
 
 -- nodes
@@ -72,7 +125,8 @@ first_plain rows p (Volume x ∷ os) = first_plain rows p os
 first_plain rows p (Claim x ∷ os) = first_plain rows p os
 first_plain rows p (Pod x ∷ os) = first_plain rows p os
 first_plain rows p (Node n ∷ os) =
-    ap (λ b. if b then Some (plain_node n) else first_taking (contents_of rows) (plain_pod p) (contents_of os)) (all_claims rows p (volume_admits (contents_of rows) (plain_node n)) (volume_admits rows n) (volume_plain rows n))
+    ap (λ b. if b then Some (plain_node n) else first_taking (contents_of rows) (plain_pod p) (contents_of os))
+    (all_claims rows p (volume_admits (contents_of rows) (plain_node n)) (volume_admits rows n) (volume_plain rows n))
     ∙ by (takes_pod rows p (Node n)) (first_plain rows p os)
   where
     by : (b : Bool) → first_taking (contents_of rows) (plain_pod p) (contents_of os) ≡ option_map plain_node (first_taking rows p os)
@@ -147,7 +201,8 @@ ready_plain rows (Some c) =
 pub agent_plain : (w : World) (p : PodData) → agent_due (plain_world w) (plain_pod p) ≡ agent_due w p
 agent_plain w p =
     ap (λ b. if is_deleting p.meta then Some dues.Finish else if not (is_pod_mounted w.devices p) && b then Some dues.Mount else None)
-    (all_same (λ name. is_ready (contents_of w.store.rows) (claim_named (contents_of w.store.rows) p.meta.namespace name)) (λ name. is_ready w.store.rows (claim_named w.store.rows p.meta.namespace name))
+    (all_same (λ name. is_ready (contents_of w.store.rows) (claim_named (contents_of w.store.rows) p.meta.namespace name))
+    (λ name. is_ready w.store.rows (claim_named w.store.rows p.meta.namespace name))
     (λ name. ap (is_ready (contents_of w.store.rows)) (named_plain w.store.rows p.meta.namespace name) ∙ ready_plain w.store.rows (claim_named w.store.rows p.meta.namespace name)) p.claims)
 
 -- the shares of a node
@@ -157,7 +212,8 @@ insert_plain c [] = refl
 insert_plain c (d ∷ ds) = by (is_gt (claim_cmp c d)) (insert_plain c ds)
   where
     by : (b : Bool) → insert_claim (plain_claim c) (map plain_claim ds) ≡ map plain_claim (insert_claim c ds)
-        → (if b then plain_claim d ∷ insert_claim (plain_claim c) (map plain_claim ds) else plain_claim c ∷ plain_claim d ∷ map plain_claim ds) ≡ map plain_claim (if b then d ∷ insert_claim c ds else c ∷ d ∷ ds)
+        → (if b then plain_claim d ∷ insert_claim (plain_claim c) (map plain_claim ds) else plain_claim c ∷ plain_claim d ∷ map plain_claim ds)
+        ≡ map plain_claim (if b then d ∷ insert_claim c ds else c ∷ d ∷ ds)
     by true rest = ap (λ xs. plain_claim d ∷ xs) rest
     by false rest = refl
 
@@ -223,7 +279,8 @@ cmp_plain : (c : ClaimData) (v u : VolumeData) → match_cmp (plain_claim c) (pl
 cmp_plain c v u =
     let a = for_plain v c in
     let b = for_plain u c in
-    λ i. ordering_then (ordering_then (ordering_then (nat_cmp (if a i then 0 else 1) (if b i then 0 else 1)) (nat_cmp (mode_count v.modes) (mode_count u.modes))) (nat_cmp v.amount.bytes u.amount.bytes)) (text_cmp v.meta.name u.meta.name)
+    λ i. ordering_then (ordering_then (ordering_then (nat_cmp (if a i then 0 else 1) (if b i then 0 else 1))
+    (nat_cmp (mode_count v.modes) (mode_count u.modes))) (nat_cmp v.amount.bytes u.amount.bytes)) (text_cmp v.meta.name u.meta.name)
 
 module _ (rows : List Object) (c : ClaimData) (n : NodeData) (taken : List ℕ) where
   volumes_plain : (place : ℕ) → slice_get (rows_of kinds.PersistentVolume (contents_of rows)) place ≡ option_map content_of (slice_get (rows_of kinds.PersistentVolume rows) place)
@@ -254,7 +311,9 @@ module _ (rows : List Object) (c : ClaimData) (n : NodeData) (taken : List ℕ) 
   best_to (Some place) best = record {
     volume = plain_volume best.volume;
     candidate = candidate_to place best.volume best.candidate;
-    first = λ other v k. let b = candidate_from other v k in subst (λ u. match_cmp (plain_claim c) (plain_volume best.volume) u ≢ Greater) b.same (subst (λ r. r ≢ Greater) (sym (cmp_plain c best.volume b.volume)) (best.first other b.volume b.candidate));
+    first = λ other v k. let b = candidate_from other v k in
+        subst (λ u. match_cmp (plain_claim c) (plain_volume best.volume) u ≢ Greater) b.same
+        (subst (λ r. r ≢ Greater) (sym (cmp_plain c best.volume b.volume)) (best.first other b.volume b.candidate));
   }
 
   best_from : (x : Option ℕ) → IsBest (contents_of rows) (plain_claim c) (Some (plain_node n)) false taken x → IsBest rows c (Some n) false taken x
@@ -264,17 +323,20 @@ module _ (rows : List Object) (c : ClaimData) (n : NodeData) (taken : List ℕ) 
       record {
         volume = b.volume;
         candidate = b.candidate;
-        first = λ other v k. subst (λ r. r ≢ Greater) (cmp_plain c b.volume v) (subst (λ u. match_cmp (plain_claim c) u (plain_volume v) ≢ Greater) (sym b.same) (best.first other (plain_volume v) (candidate_to other v k)));
+        first = λ other v k. subst (λ r. r ≢ Greater) (cmp_plain c b.volume v)
+            (subst (λ u. match_cmp (plain_claim c) u (plain_volume v) ≢ Greater) (sym b.same) (best.first other (plain_volume v) (candidate_to other v k)));
       }
 
-shares_to : (rows : List Object) (n : NodeData) (taken : List ℕ) (cs : List ClaimData) (shares : List Share) → AreShares rows n taken cs shares → AreShares (contents_of rows) (plain_node n) taken (map plain_claim cs) shares
+shares_to : (rows : List Object) (n : NodeData) (taken : List ℕ) (cs : List ClaimData) (shares : List Share) → AreShares rows n taken cs shares
+    → AreShares (contents_of rows) (plain_node n) taken (map plain_claim cs) shares
 shares_to rows n taken [] [] are = tt
 shares_to rows n taken [] (s ∷ ss) are = absurd are
 shares_to rows n taken (c ∷ cs) [] are = absurd are
 shares_to rows n taken (c ∷ cs) (TakesVolume place ∷ ss) are = (best_to rows c n taken (Some place) are.0, shares_to rows n (place ∷ taken) cs ss are.1)
 shares_to rows n taken (c ∷ cs) (IsProvisioned ∷ ss) are = (best_to rows c n taken None are.0, can_plain rows c ∙ are.1, shares_to rows n taken cs ss are.2)
 
-shares_from : (rows : List Object) (n : NodeData) (taken : List ℕ) (cs : List ClaimData) (shares : List Share) → AreShares (contents_of rows) (plain_node n) taken (map plain_claim cs) shares → AreShares rows n taken cs shares
+shares_from : (rows : List Object) (n : NodeData) (taken : List ℕ) (cs : List ClaimData) (shares : List Share)
+    → AreShares (contents_of rows) (plain_node n) taken (map plain_claim cs) shares → AreShares rows n taken cs shares
 shares_from rows n taken [] [] are = tt
 shares_from rows n taken [] (s ∷ ss) are = absurd are
 shares_from rows n taken (c ∷ cs) [] are = absurd are
@@ -295,7 +357,8 @@ module _ (setup : Setup) (w : World) (n : NodeData) where
 
   share_plain : (c : ClaimData) (s : Share) → share_is_served setup (plain_world w) (plain_node n) (plain_claim c) s ≡ share_is_served setup w n c s
   share_plain c (TakesVolume place) = refl
-  share_plain c IsProvisioned = ap (is_served_on setup (plain_world w) (plain_node n) (plain_claim c) c.meta.uid) (row_plain (class_key (class_of_claim c)) w.store.rows) ∙ served_plain c c.meta.uid (row_at (class_key (class_of_claim c)) w.store.rows)
+  share_plain c IsProvisioned = ap (is_served_on setup (plain_world w) (plain_node n) (plain_claim c) c.meta.uid) (row_plain
+      (class_key (class_of_claim c)) w.store.rows) ∙ served_plain c c.meta.uid (row_at (class_key (class_of_claim c)) w.store.rows)
 
   given_plain : (cs : List ClaimData) (ss : List Share) → shares_are_served setup (plain_world w) (plain_node n) (map plain_claim cs) ss ≡ shares_are_served setup w n cs ss
   given_plain [] [] = refl
@@ -338,7 +401,8 @@ module _ (setup : Setup) (w : World) (p : PodData) where
     shared = shares_from w.store.rows n [] (others_of w.store.rows p) ss (subst (λ cs. AreShares (contents_of w.store.rows) (plain_node n) [] cs ss) (others_plain w.store.rows p) s.shared);
   }
 
-  all_given : (n : NodeData) (ss : List Share) → shares_are_served setup (plain_world w) (plain_node n) (others_of (contents_of w.store.rows) (plain_pod p)) ss ≡ shares_are_served setup w n (others_of w.store.rows p) ss
+  all_given : (n : NodeData) (ss : List Share)
+      → shares_are_served setup (plain_world w) (plain_node n) (others_of (contents_of w.store.rows) (plain_pod p)) ss ≡ shares_are_served setup w n (others_of w.store.rows p) ss
   all_given n ss = ap (λ cs. shares_are_served setup (plain_world w) (plain_node n) cs ss) (others_plain w.store.rows p) ∙ given_plain setup w n (others_of w.store.rows p) ss
 
   pub prepare_to : CanPrepare setup w p → CanPrepare setup (plain_world w) (plain_pod p)

@@ -3,16 +3,16 @@ use Rattle.std.proofs.Common.{◌≡◌, ◌∙◌, ℕ, zero, suc, List, [], �
 use Rattle.std.specs.Prelude.{cond, filter, map, option_map, slice_get}
 use Rattle.std.specs.List.{cons_option, filter_map, list_all, list_any}
 use Rattle.std.specs.Ordering.{is_eq}
-use Rattle.kube_types.specs.declared.key.Key.{Key}
-use Rattle.kube_types.specs.declared.parts.Kind.{Kind}
-use Rattle.kube_types.specs.declared.objects.Class.{Class as ClassData}
-use Rattle.kube_types.specs.declared.objects.Node.{Node as NodeData}
-use Rattle.kube_types.specs.declared.objects.Claim.{Claim as ClaimData}
-use Rattle.kube_types.specs.declared.objects.Volume.{Volume as VolumeData}
-use Rattle.kube_types.specs.declared.objects.Pod.{Pod as PodData}
-use Rattle.kube_types.specs.declared.objects.Object.{Object}
-use Rattle.kube_types.specs.declared.objects.Object.TheVariants.{Class, Node, Volume, Claim, Pod}
-use Rattle.kube_types.specs.Keys.{is_of_kind, key_cmp, key_of, row_at, rows_of}
+use Rattle.kube_objects.specs.declared.key.Key.{Key}
+use Rattle.kube_parts.specs.declared.parts.Kind.{Kind}
+use Rattle.kube_objects.specs.declared.objects.Class.{Class as ClassData}
+use Rattle.kube_objects.specs.declared.objects.Node.{Node as NodeData}
+use Rattle.kube_objects.specs.declared.objects.Claim.{Claim as ClaimData}
+use Rattle.kube_objects.specs.declared.objects.Volume.{Volume as VolumeData}
+use Rattle.kube_objects.specs.declared.objects.Pod.{Pod as PodData}
+use Rattle.kube_objects.specs.declared.objects.Object.{Object}
+use Rattle.kube_objects.specs.declared.objects.Object.TheVariants.{Class, Node, Volume, Claim, Pod}
+use Rattle.kube_objects.specs.Keys.{is_of_kind, key_cmp, key_of, row_at, rows_of}
 use Rattle.binder_model.specs.Choice.{claim_in, claim_named}
 use Rattle.binder_model.specs.ObjectKeys.{claim_key}
 use Rattle.binder_model.specs.World.{World}
@@ -36,7 +36,13 @@ plain_pod x = record x { meta = without_version x.meta }
 
 -- the world without versions, epochs, the count of device calls, moment and log
 abbrev pub plain_world : World → World
-plain_world w = record { store = record { rows = contents_of w.store.rows; version = 0 }; moment = []; log = []; devices = record { stored = w.devices.stored; epochs = []; mounts = w.devices.mounts; calls = 0 } }
+plain_world w = record {
+  store = record { rows = contents_of w.store.rows; version = 0 };
+  moment = [];
+  log = [];
+  devices = record
+      { stored = w.devices.stored; epochs = []; mounts = w.devices.mounts; calls = 0 };
+}
 
 -- lists that are mapped
 

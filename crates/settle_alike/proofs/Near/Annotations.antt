@@ -6,8 +6,8 @@ use Rattle.std.specs.declared.cmp.Ordering.TheVariants.{Less, Equal, Greater}
 use Rattle.std.specs.Ordering.{is_eq, match_ordering}
 use Rattle.std.proofs.lemmas.Cmp.{nat_list_cmp_total}
 use Rattle.plain_data.specs.Pairs.{Pair, pair_at, pair_key, put_pair, text_cmp, value_at, without_key}
-use Rattle.kube_types.specs.declared.objects.Claim.{Claim as ClaimData}
-use Rattle.kube_types.specs.Bindings.{beta_class, bind_completed, class_of_claim, is_completed, selected_node}
+use Rattle.kube_objects.specs.declared.objects.Claim.{Claim as ClaimData}
+use Rattle.kube_objects.specs.Bindings.{beta_class, bind_completed, class_of_claim, is_completed, selected_node}
 use Rattle.settle_alike.specs.Near.Near.{is_no_node, without_node}
 
 -- the claim but for its version and its node

@@ -1,19 +1,19 @@
 -- Worlds that are near: what is the same in them.
 use Rattle.std.proofs.Common.{◌≡◌, ◌∙◌, List, [], ◌∷◌, Bool, true, false, true≢false, Option, Some, None, refl, sym, ap, subst}
 use Rattle.std.specs.Prelude.{option_map}
-use Rattle.kube_types.specs.declared.key.Key.{Key}
-use Rattle.kube_types.specs.declared.objects.Class.{Class as ClassData}
-use Rattle.kube_types.specs.declared.objects.Volume.{Volume as VolumeData}
-use Rattle.kube_types.specs.Bindings.{class_of_claim}
-use Rattle.kube_types.specs.Keys.{row_at}
+use Rattle.kube_objects.specs.declared.key.Key.{Key}
+use Rattle.kube_objects.specs.declared.objects.Class.{Class as ClassData}
+use Rattle.kube_objects.specs.declared.objects.Volume.{Volume as VolumeData}
+use Rattle.kube_objects.specs.Bindings.{class_of_claim}
+use Rattle.kube_objects.specs.Keys.{row_at}
 use Rattle.binder_model.specs.Matching.{is_delayed}
 use Rattle.binder_model.specs.ObjectKeys.{class_key}
 use Rattle.model_laws.proofs.Lists.{none_some, one}
-use Rattle.kube_types.specs.declared.objects.Claim.{Claim as ClaimData}
-use Rattle.kube_types.specs.declared.objects.Node.{Node as NodeData}
-use Rattle.kube_types.specs.declared.objects.Pod.{Pod as PodData}
-use Rattle.kube_types.specs.declared.objects.Object.{Object}
-use Rattle.kube_types.specs.declared.objects.Object.TheVariants.{Class, Node, Volume, Claim, Pod}
+use Rattle.kube_objects.specs.declared.objects.Claim.{Claim as ClaimData}
+use Rattle.kube_objects.specs.declared.objects.Node.{Node as NodeData}
+use Rattle.kube_objects.specs.declared.objects.Pod.{Pod as PodData}
+use Rattle.kube_objects.specs.declared.objects.Object.{Object}
+use Rattle.kube_objects.specs.declared.objects.Object.TheVariants.{Class, Node, Volume, Claim, Pod}
 use Rattle.call_types.specs.declared.setup.Setup.{Setup}
 use Rattle.binder_model.specs.Choice.{Serves}
 use Rattle.binder_model.specs.Due.{CanPrepare, provision_due}
@@ -32,9 +32,9 @@ use Rattle.settle_alike.proofs.Near.Trying.{left_from, left_to}
 use Rattle.settle_alike.proofs.Near.Steps.{assigning_plain, assigns_any, is_assigning, is_searching, searches_is, searches_so, searching_plain, step_rest, step_with}
 use Rattle.binder_model.specs.Due.{IsDue, IsPodDue, IsStepDue}
 use Rattle.binder_model.specs.Choice.{Assigns, GoesNowhere, Searches, Step, Waits, claims_of, is_under_way, step_of}
-use Rattle.kube_types.specs.Bindings.{is_scheduled}
-use Rattle.kube_types.specs.declared.names.Due.TheVariants as dues
-use Rattle.kube_types.specs.declared.names.Due.{Due}
+use Rattle.kube_objects.specs.Bindings.{is_scheduled}
+use Rattle.kube_parts.specs.declared.names.Due.TheVariants as dues
+use Rattle.kube_parts.specs.declared.names.Due.{Due}
 use Rattle.std.specs.List.{list_all}
 
 pub rest_content : (o : Object) → rest_of (content_of o) ≡ rest_of o
@@ -116,7 +116,8 @@ near_immediates setup old new c d near same at_once =
     let world = one_rest old new near in
     let claim = one_rest_claim c d same in
     let late : is_delayed (row_at (class_key (class_of_claim d)) new.store.rows) ≡ false =
-    sym (late_rest new.store.rows d) ∙ (ap (λ (x : World × ClaimData). is_delayed (row_at (class_key (class_of_claim x.1)) x.0.store.rows)) (λ i. ((sym world) i, (sym claim) i)) ∙ (late_rest old.store.rows c ∙ at_once)) in
+    sym (late_rest new.store.rows d) ∙ (ap (λ (x : World × ClaimData). is_delayed (row_at (class_key (class_of_claim x.1)) x.0.store.rows))
+    (λ i. ((sym world) i, (sym claim) i)) ∙ (late_rest old.store.rows c ∙ at_once)) in
     sym (immediate_rest setup old c at_once) ∙ ((λ i. provision_due setup (world i) (claim i)) ∙ immediate_rest setup new d late)
 
 -- ---- pods that no node runs
@@ -125,7 +126,8 @@ scheduled_plain : (p q : PodData) → plain_pod p ≡ plain_pod q → is_schedul
 scheduled_plain p q same = ap (λ (x : PodData). is_scheduled x) same
 
 -- the steps of the pod in both, where it is known whether all claims are under way
-step_both : (old new : World) (p q : PodData) → AreNear old new → plain_pod p ≡ plain_pod q → (settle_round_calls : Bool) → plain_step (step_with old.store.rows p settle_round_calls) ≡ plain_step (step_with new.store.rows q settle_round_calls)
+step_both : (old new : World) (p q : PodData) → AreNear old new → plain_pod p ≡ plain_pod q → (settle_round_calls : Bool)
+    → plain_step (step_with old.store.rows p settle_round_calls) ≡ plain_step (step_with new.store.rows q settle_round_calls)
 step_both old new p q near same settle_round_calls =
     let rows = near.rows in
     sym (step_rest old.store.rows p settle_round_calls) ∙ ((λ i. step_with (rows i) (same i) settle_round_calls) ∙ step_rest new.store.rows q settle_round_calls)
@@ -159,7 +161,8 @@ near_assigns setup old new p q near pod open_ due =
     let a = list_all (is_under_way old.store.rows) (claims_of old.store.rows p) in
     let b = list_all (is_under_way new.store.rows) (claims_of new.store.rows q) in
     let here : is_assigning (step_with old.store.rows p a) ≡ true = assign_due setup old p (step_of old.store.rows p) (waiting_due setup old p (Some dues.Assign) open_ due) in
-    let there : is_assigning (step_with new.store.rows q a) ≡ true = sym (assigning_plain (step_with new.store.rows q a)) ∙ (sym (ap is_assigning (step_both old new p q near same a)) ∙ (assigning_plain (step_with old.store.rows p a) ∙ here)) in
+    let there : is_assigning (step_with new.store.rows q a) ≡ true = sym (assigning_plain (step_with new.store.rows q a))
+    ∙ (sym (ap is_assigning (step_both old new p q near same a)) ∙ (assigning_plain (step_with old.store.rows p a) ∙ here)) in
     due_waiting setup new q (Some dues.Assign) (sym (scheduled_plain p q same) ∙ open_) (due_assign setup new q (step_of new.store.rows q) (assigns_any new.store.rows q a b there))
 
 -- a pod that is to be prepared is searched for, and can be
@@ -179,9 +182,11 @@ near_searches setup old new p q near pod open_ due waits =
     let a = list_all (is_under_way old.store.rows) (claims_of old.store.rows p) in
     let found = prepare_due setup old p (step_of old.store.rows p) (waiting_due setup old p (Some dues.Prepare) open_ due) in
     let here = searches_so old.store.rows p a found.0 in
-    let there : is_searching (step_with new.store.rows q false) ≡ true = sym (searching_plain (step_with new.store.rows q false)) ∙ (sym (ap is_searching (step_both old new p q near same false)) ∙ (searching_plain (step_with old.store.rows p false) ∙ here)) in
+    let there : is_searching (step_with new.store.rows q false) ≡ true = sym (searching_plain (step_with new.store.rows q false))
+    ∙ (sym (ap is_searching (step_both old new p q near same false)) ∙ (searching_plain (step_with old.store.rows p false) ∙ here)) in
     let step : step_of new.store.rows q ≡ Searches = ap (step_with new.store.rows q) waits ∙ searches_is (step_with new.store.rows q false) there in
-    due_waiting setup new q (Some dues.Prepare) (sym (scheduled_plain p q same) ∙ open_) (subst (λ s. IsStepDue setup new q s (Some dues.Prepare)) (sym step) (refl, near_prepares setup old new p q near pod found.1))
+    due_waiting setup new q (Some dues.Prepare) (sym (scheduled_plain p q same) ∙ open_)
+    (subst (λ s. IsStepDue setup new q s (Some dues.Prepare)) (sym step) (refl, near_prepares setup old new p q near pod found.1))
 
 -- ---- what stands there
 

@@ -2,15 +2,15 @@
 use Rattle.std.proofs.Common.{◌≡◌, ◌∙◌, ℕ, List, Bool, true, false, true≢false, Option, Some, None, refl, ap, if◌then◌else◌}
 use Rattle.std.specs.Prelude.{◌&&◌, ◌||◌, not, is_none, option_map}
 use Rattle.plain_data.specs.Pairs.{value_at}
-use Rattle.kube_types.specs.declared.uid.Uid.{Uid}
-use Rattle.kube_types.specs.declared.names.Due.TheVariants as dues
-use Rattle.kube_types.specs.declared.objects.Class.{Class as ClassData}
-use Rattle.kube_types.specs.declared.objects.Claim.{Claim as ClaimData}
-use Rattle.kube_types.specs.declared.objects.Volume.{Volume as VolumeData}
-use Rattle.kube_types.specs.declared.objects.Object.{Object}
-use Rattle.kube_types.specs.declared.objects.Object.TheVariants.{Class, Node, Volume, Claim, Pod}
-use Rattle.kube_types.specs.Bindings.{class_of_claim, class_of_volume, is_available, is_deleting, is_empty, is_ended, is_protected_volume, selected_node}
-use Rattle.kube_types.specs.Keys.{row_at}
+use Rattle.kube_parts.specs.declared.uid.Uid.{Uid}
+use Rattle.kube_parts.specs.declared.names.Due.TheVariants as dues
+use Rattle.kube_objects.specs.declared.objects.Class.{Class as ClassData}
+use Rattle.kube_objects.specs.declared.objects.Claim.{Claim as ClaimData}
+use Rattle.kube_objects.specs.declared.objects.Volume.{Volume as VolumeData}
+use Rattle.kube_objects.specs.declared.objects.Object.{Object}
+use Rattle.kube_objects.specs.declared.objects.Object.TheVariants.{Class, Node, Volume, Claim, Pod}
+use Rattle.kube_objects.specs.Bindings.{class_of_claim, class_of_volume, is_available, is_deleting, is_empty, is_ended, is_protected_volume, selected_node}
+use Rattle.kube_objects.specs.Keys.{row_at}
 use Rattle.call_types.specs.declared.setup.Setup.{Setup}
 use Rattle.binder_model.specs.Due.{by_class_due, delayed_due, immediate_due, is_served, on_node_due, provision_due, provision_if_new}
 use Rattle.binder_model.specs.Matching.{binder_takes, covers, eligible, has_match, is_delayed, is_selected, only_own_passes, waits_for_pod}
@@ -61,7 +61,8 @@ module _ (setup : Setup) (w : World) (c : ClaimData) where
 
   delayed_due_rest : (uid : Uid) (x : ClassData) (node : Option (List ℕ)) → delayed_due setup (rest_world w) (plain_claim c) uid (plain_class x) node ≡ delayed_due setup w c uid x node
   delayed_due_rest uid x None = refl
-  delayed_due_rest uid x (Some node) = ap (on_node_due setup (rest_world w) (plain_claim c) uid (plain_class x)) (row_rest (node_key node) w.store.rows) ∙ on_node_rest uid x (row_at (node_key node) w.store.rows)
+  delayed_due_rest uid x (Some node) = ap (on_node_due setup (rest_world w) (plain_claim c) uid (plain_class x)) (row_rest (node_key node)
+      w.store.rows) ∙ on_node_rest uid x (row_at (node_key node) w.store.rows)
 
   by_class_rest : (u : Option Uid) (o : Option Object) → by_class_due setup (rest_world w) (plain_claim c) u (option_map rest_of o) ≡ by_class_due setup w c u o
   by_class_rest None o = refl
@@ -78,7 +79,8 @@ module _ (setup : Setup) (w : World) (c : ClaimData) where
   pub provision_rest : provision_due setup (rest_world w) (plain_claim c) ≡ provision_due setup w c
   provision_rest =
       let found = match_rest w.store.rows c in
-      let due = ap (by_class_due setup (rest_world w) (plain_claim c) c.meta.uid) (row_rest (class_key (class_of_claim c)) w.store.rows) ∙ by_class_rest c.meta.uid (row_at (class_key (class_of_claim c)) w.store.rows) in
+      let due = ap (by_class_due setup (rest_world w) (plain_claim c) c.meta.uid) (row_rest (class_key (class_of_claim c)) w.store.rows)
+      ∙ by_class_rest c.meta.uid (row_at (class_key (class_of_claim c)) w.store.rows) in
       λ i. if is_wanting c && not (found i) then due i else None
 
 -- ---- a claim whose class does not wait for a pod
@@ -125,7 +127,8 @@ module _ (setup : Setup) (w : World) (c : ClaimData) where
       immediate = ap (λ d. if is_served setup w.devices c uid x None then d else None) (new_rest w.store.rows uid)
 
       by : (late : Bool) → late ≡ false
-          → (if not (provisions x) then None else if late then delayed_due setup (rest_world w) (rest_claim c) uid (plain_class x) (value_at selected_node (rest_claim c).meta.annotations) else immediate_due setup (rest_world w) (rest_claim c) uid (plain_class x))
+          → (if not (provisions x) then None else if late then delayed_due setup (rest_world w) (rest_claim c) uid (plain_class x)
+          (value_at selected_node (rest_claim c).meta.annotations) else immediate_due setup (rest_world w) (rest_claim c) uid (plain_class x))
           ≡ (if not (provisions x) then None else if late then delayed_due setup w c uid x (value_at selected_node c.meta.annotations) else immediate_due setup w c uid x)
       by true l = absurd (true≢false l)
       by false l = ap (λ d. if not (provisions x) then None else d) immediate
@@ -134,5 +137,6 @@ module _ (setup : Setup) (w : World) (c : ClaimData) where
   immediate_rest at_once =
       let completed = completed_rest c in
       let found = match_any w.store.rows c in
-      let due = ap (by_class_due setup (rest_world w) (rest_claim c) c.meta.uid) (class_row_rest w.store.rows c) ∙ immediate_class c.meta.uid (row_at (class_key (class_of_claim c)) w.store.rows) at_once in
+      let due = ap (by_class_due setup (rest_world w) (rest_claim c) c.meta.uid) (class_row_rest w.store.rows c)
+      ∙ immediate_class c.meta.uid (row_at (class_key (class_of_claim c)) w.store.rows) at_once in
       λ i. if (not (completed i) && not (is_deleting c.meta) && is_empty c.volume_name && is_none c.selector) && not (found i) then due i else None

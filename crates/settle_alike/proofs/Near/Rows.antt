@@ -2,14 +2,14 @@
 use Rattle.std.proofs.Common.{◌≡◌, ◌∙◌, ℕ, List, [], ◌∷◌, Bool, true, false, Option, Some, None, refl, ap}
 use Rattle.std.specs.Prelude.{cond, option_map}
 use Rattle.std.specs.Ordering.{is_eq}
-use Rattle.kube_types.specs.declared.key.Key.{Key}
-use Rattle.kube_types.specs.declared.parts.Kind.{Kind}
-use Rattle.kube_types.specs.declared.objects.Claim.{Claim as ClaimData}
-use Rattle.kube_types.specs.declared.objects.Volume.{Volume as VolumeData}
-use Rattle.kube_types.specs.declared.objects.Object.{Object}
-use Rattle.kube_types.specs.declared.objects.Object.TheVariants.{Class, Node, Volume, Claim, Pod}
-use Rattle.kube_types.specs.Bindings.{carries, is_for, refers_for, uid_fits, names_claim}
-use Rattle.kube_types.specs.Keys.{is_of_kind, key_cmp, key_of, row_at, rows_of}
+use Rattle.kube_objects.specs.declared.key.Key.{Key}
+use Rattle.kube_parts.specs.declared.parts.Kind.{Kind}
+use Rattle.kube_objects.specs.declared.objects.Claim.{Claim as ClaimData}
+use Rattle.kube_objects.specs.declared.objects.Volume.{Volume as VolumeData}
+use Rattle.kube_objects.specs.declared.objects.Object.{Object}
+use Rattle.kube_objects.specs.declared.objects.Object.TheVariants.{Class, Node, Volume, Claim, Pod}
+use Rattle.kube_objects.specs.Bindings.{carries, is_for, refers_for, uid_fits, names_claim}
+use Rattle.kube_objects.specs.Keys.{is_of_kind, key_cmp, key_of, row_at, rows_of}
 use Rattle.binder_model.specs.Choice.{claim_in, claim_named}
 use Rattle.binder_model.specs.Matching.{is_delayed}
 use Rattle.binder_model.specs.ObjectKeys.{claim_key, class_key}
@@ -18,13 +18,19 @@ use Rattle.settle_measure.proofs.Left.Words.{carries_alike}
 use Rattle.settle_alike.proofs.Alike.Rows.{filter_mapped, plain_volume}
 use Rattle.settle_alike.specs.Near.Near.{rest_of, rests_of}
 use Rattle.settle_alike.proofs.Near.Annotations.{rest_claim}
-use Rattle.kube_types.specs.declared.uid.Uid.{Uid}
-use Rattle.kube_types.specs.declared.objects.Ref.{Ref}
+use Rattle.kube_parts.specs.declared.uid.Uid.{Uid}
+use Rattle.kube_objects.specs.declared.objects.Ref.{Ref}
 use Rattle.std.specs.Prelude.{◌&&◌}
 
 -- the world without versions, the nodes of claims, epochs, the count of device calls, moment and log
 abbrev pub rest_world : World → World
-rest_world w = record { store = record { rows = rests_of w.store.rows; version = 0 }; moment = []; log = []; devices = record { stored = w.devices.stored; epochs = []; mounts = w.devices.mounts; calls = 0 } }
+rest_world w = record {
+  store = record { rows = rests_of w.store.rows; version = 0 };
+  moment = [];
+  log = [];
+  devices = record
+      { stored = w.devices.stored; epochs = []; mounts = w.devices.mounts; calls = 0 };
+}
 
 key_rest : (o : Object) → key_of (rest_of o) ≡ key_of o
 key_rest (Class x) = refl

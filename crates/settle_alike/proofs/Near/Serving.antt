@@ -5,19 +5,40 @@ use Rattle.std.specs.Prelude.{◌&&◌, ◌||◌, filter, is_none, map, not, opt
 use Rattle.std.specs.List.{list_all}
 use Rattle.std.specs.Ordering.{is_gt, nat_cmp, ordering_then}
 use Rattle.plain_data.specs.Pairs.{text_cmp}
-use Rattle.kube_types.specs.declared.parts.Kind.TheVariants as kinds
-use Rattle.kube_types.specs.declared.uid.Uid.{Uid}
-use Rattle.kube_types.specs.declared.objects.Node.{Node as NodeData}
-use Rattle.kube_types.specs.declared.objects.Claim.{Claim as ClaimData}
-use Rattle.kube_types.specs.declared.objects.Volume.{Volume as VolumeData}
-use Rattle.kube_types.specs.declared.objects.Pod.{Pod as PodData}
-use Rattle.kube_types.specs.declared.objects.Object.{Object}
-use Rattle.kube_types.specs.declared.objects.Object.TheVariants.{Class, Node, Volume, Claim, Pod}
-use Rattle.kube_types.specs.Bindings.{class_of_claim, class_of_volume, is_available, is_deleting, is_ended, is_protected_volume, mode_count}
-use Rattle.kube_types.specs.Keys.{row_at, rows_of}
+use Rattle.kube_parts.specs.declared.parts.Kind.TheVariants as kinds
+use Rattle.kube_parts.specs.declared.uid.Uid.{Uid}
+use Rattle.kube_objects.specs.declared.objects.Node.{Node as NodeData}
+use Rattle.kube_objects.specs.declared.objects.Claim.{Claim as ClaimData}
+use Rattle.kube_objects.specs.declared.objects.Volume.{Volume as VolumeData}
+use Rattle.kube_objects.specs.declared.objects.Pod.{Pod as PodData}
+use Rattle.kube_objects.specs.declared.objects.Object.{Object}
+use Rattle.kube_objects.specs.declared.objects.Object.TheVariants.{Class, Node, Volume, Claim, Pod}
+use Rattle.kube_objects.specs.Bindings.{class_of_claim, class_of_volume, is_available, is_deleting, is_ended, is_protected_volume, mode_count}
+use Rattle.kube_objects.specs.Keys.{row_at, rows_of}
 use Rattle.call_types.specs.declared.setup.Setup.{Setup}
 use Rattle.label_rules.specs.Selectors.{admits}
-use Rattle.binder_model.specs.Choice.{AreShares, IsProvisioned, Serves, Share, TakesVolume, admits_if_carrying, admits_node, by_size, can_provision, carries_claim, claim_cmp, claim_named, claims_of, class_provisions, fixed_admit, has_carrier, insert_claim, is_other, others_of, volume_admits}
+use Rattle.binder_model.specs.Choice.{
+  AreShares,
+  IsProvisioned,
+  Serves,
+  Share,
+  TakesVolume,
+  admits_if_carrying,
+  admits_node,
+  by_size,
+  can_provision,
+  carries_claim,
+  claim_cmp,
+  claim_named,
+  claims_of,
+  class_provisions,
+  fixed_admit,
+  has_carrier,
+  insert_claim,
+  is_other,
+  others_of,
+  volume_admits,
+}
 use Rattle.binder_model.specs.Due.{CanPrepare, is_served_on, share_is_served, shares_are_served}
 use Rattle.binder_model.specs.Matching.{IsBest, IsCandidate, covers, eligible, is_selected, match_cmp}
 use Rattle.binder_model.specs.ObjectKeys.{class_key, node_key, volume_key}
@@ -35,7 +56,8 @@ use Rattle.std.specs.Prelude.{bytes_eq, nat_le}
 pub claims_rest : (rows : List Object) (p : PodData) → claims_of (rests_of rows) (plain_pod p) ≡ map rest_claim (claims_of rows p)
 claims_rest rows p = chosen_mapped rest_claim (claim_named rows p.meta.namespace) (claim_named (rests_of rows) p.meta.namespace) (named_rest rows p.meta.namespace) p.claims
 
-pub all_claims : (rows : List Object) (p : PodData) (f g : ClaimData → Bool) → ((c : ClaimData) → f (rest_claim c) ≡ g c) → list_all f (claims_of (rests_of rows) (plain_pod p)) ≡ list_all g (claims_of rows p)
+pub all_claims : (rows : List Object) (p : PodData) (f g : ClaimData → Bool) → ((c : ClaimData) → f (rest_claim c) ≡ g c)
+    → list_all f (claims_of (rests_of rows) (plain_pod p)) ≡ list_all g (claims_of rows p)
 all_claims rows p f g same = ap (list_all f) (claims_rest rows p) ∙ all_mapped rest_claim f g same (claims_of rows p)
 
 -- nodes
@@ -68,7 +90,8 @@ insert_rest c [] = refl
 insert_rest c (d ∷ ds) = by (is_gt (claim_cmp c d)) (insert_rest c ds)
   where
     by : (b : Bool) → insert_claim (rest_claim c) (map rest_claim ds) ≡ map rest_claim (insert_claim c ds)
-        → (if b then rest_claim d ∷ insert_claim (rest_claim c) (map rest_claim ds) else rest_claim c ∷ rest_claim d ∷ map rest_claim ds) ≡ map rest_claim (if b then d ∷ insert_claim c ds else c ∷ d ∷ ds)
+        → (if b then rest_claim d ∷ insert_claim (rest_claim c) (map rest_claim ds) else rest_claim c ∷ rest_claim d ∷ map rest_claim ds)
+        ≡ map rest_claim (if b then d ∷ insert_claim c ds else c ∷ d ∷ ds)
     by true rest = ap (λ xs. rest_claim d ∷ xs) rest
     by false rest = refl
 
@@ -138,7 +161,8 @@ cmp_rest : (c : ClaimData) (v u : VolumeData) → match_cmp (rest_claim c) (plai
 cmp_rest c v u =
     let a = for_rest v c in
     let b = for_rest u c in
-    λ i. ordering_then (ordering_then (ordering_then (nat_cmp (if a i then 0 else 1) (if b i then 0 else 1)) (nat_cmp (mode_count v.modes) (mode_count u.modes))) (nat_cmp v.amount.bytes u.amount.bytes)) (text_cmp v.meta.name u.meta.name)
+    λ i. ordering_then (ordering_then (ordering_then (nat_cmp (if a i then 0 else 1) (if b i then 0 else 1))
+    (nat_cmp (mode_count v.modes) (mode_count u.modes))) (nat_cmp v.amount.bytes u.amount.bytes)) (text_cmp v.meta.name u.meta.name)
 
 eligible_rest : (v : VolumeData) (c : ClaimData) (n : NodeData) → eligible (plain_volume v) (rest_claim c) (Some (plain_node n)) ≡ eligible v c (Some n)
 eligible_rest v c n =
@@ -176,7 +200,8 @@ module _ (rows : List Object) (c : ClaimData) (n : NodeData) (taken : List ℕ) 
   best_to (Some place) best = record {
     volume = plain_volume best.volume;
     candidate = candidate_to place best.volume best.candidate;
-    first = λ other v k. let b = candidate_from other v k in subst (λ u. match_cmp (rest_claim c) (plain_volume best.volume) u ≢ Greater) b.same (subst (λ r. r ≢ Greater) (sym (cmp_rest c best.volume b.volume)) (best.first other b.volume b.candidate));
+    first = λ other v k. let b = candidate_from other v k in
+        subst (λ u. match_cmp (rest_claim c) (plain_volume best.volume) u ≢ Greater) b.same (subst (λ r. r ≢ Greater) (sym (cmp_rest c best.volume b.volume)) (best.first other b.volume b.candidate));
   }
 
   best_from : (x : Option ℕ) → IsBest (rests_of rows) (rest_claim c) (Some (plain_node n)) false taken x → IsBest rows c (Some n) false taken x
@@ -186,17 +211,20 @@ module _ (rows : List Object) (c : ClaimData) (n : NodeData) (taken : List ℕ) 
       record {
         volume = b.volume;
         candidate = b.candidate;
-        first = λ other v k. subst (λ r. r ≢ Greater) (cmp_rest c b.volume v) (subst (λ u. match_cmp (rest_claim c) u (plain_volume v) ≢ Greater) (sym b.same) (best.first other (plain_volume v) (candidate_to other v k)));
+        first = λ other v k. subst (λ r. r ≢ Greater) (cmp_rest c b.volume v)
+            (subst (λ u. match_cmp (rest_claim c) u (plain_volume v) ≢ Greater) (sym b.same) (best.first other (plain_volume v) (candidate_to other v k)));
       }
 
-shares_to : (rows : List Object) (n : NodeData) (taken : List ℕ) (cs : List ClaimData) (shares : List Share) → AreShares rows n taken cs shares → AreShares (rests_of rows) (plain_node n) taken (map rest_claim cs) shares
+shares_to : (rows : List Object) (n : NodeData) (taken : List ℕ) (cs : List ClaimData) (shares : List Share) → AreShares rows n taken cs shares
+    → AreShares (rests_of rows) (plain_node n) taken (map rest_claim cs) shares
 shares_to rows n taken [] [] are = tt
 shares_to rows n taken [] (s ∷ ss) are = absurd are
 shares_to rows n taken (c ∷ cs) [] are = absurd are
 shares_to rows n taken (c ∷ cs) (TakesVolume place ∷ ss) are = (best_to rows c n taken (Some place) are.0, shares_to rows n (place ∷ taken) cs ss are.1)
 shares_to rows n taken (c ∷ cs) (IsProvisioned ∷ ss) are = (best_to rows c n taken None are.0, can_rest rows c ∙ are.1, shares_to rows n taken cs ss are.2)
 
-shares_from : (rows : List Object) (n : NodeData) (taken : List ℕ) (cs : List ClaimData) (shares : List Share) → AreShares (rests_of rows) (plain_node n) taken (map rest_claim cs) shares → AreShares rows n taken cs shares
+shares_from : (rows : List Object) (n : NodeData) (taken : List ℕ) (cs : List ClaimData) (shares : List Share)
+    → AreShares (rests_of rows) (plain_node n) taken (map rest_claim cs) shares → AreShares rows n taken cs shares
 shares_from rows n taken [] [] are = tt
 shares_from rows n taken [] (s ∷ ss) are = absurd are
 shares_from rows n taken (c ∷ cs) [] are = absurd are
@@ -217,7 +245,8 @@ module _ (setup : Setup) (w : World) (n : NodeData) where
 
   pub share_rest : (c : ClaimData) (s : Share) → share_is_served setup (rest_world w) (plain_node n) (rest_claim c) s ≡ share_is_served setup w n c s
   share_rest c (TakesVolume place) = refl
-  share_rest c IsProvisioned = ap (is_served_on setup (rest_world w) (plain_node n) (rest_claim c) c.meta.uid) (class_row_rest w.store.rows c) ∙ served_rest c c.meta.uid (row_at (class_key (class_of_claim c)) w.store.rows)
+  share_rest c IsProvisioned = ap (is_served_on setup (rest_world w) (plain_node n) (rest_claim c) c.meta.uid) (class_row_rest w.store.rows c)
+      ∙ served_rest c c.meta.uid (row_at (class_key (class_of_claim c)) w.store.rows)
 
   given_rest : (cs : List ClaimData) (ss : List Share) → shares_are_served setup (rest_world w) (plain_node n) (map rest_claim cs) ss ≡ shares_are_served setup w n cs ss
   given_rest [] [] = refl
@@ -261,7 +290,8 @@ module _ (w : World) (p : PodData) where
   }
 
 module _ (setup : Setup) (w : World) (p : PodData) where
-  pub all_given : (n : NodeData) (ss : List Share) → shares_are_served setup (rest_world w) (plain_node n) (others_of (rests_of w.store.rows) (plain_pod p)) ss ≡ shares_are_served setup w n (others_of w.store.rows p) ss
+  pub all_given : (n : NodeData) (ss : List Share)
+      → shares_are_served setup (rest_world w) (plain_node n) (others_of (rests_of w.store.rows) (plain_pod p)) ss ≡ shares_are_served setup w n (others_of w.store.rows p) ss
   all_given n ss = ap (λ cs. shares_are_served setup (rest_world w) (plain_node n) cs ss) (others_rest w.store.rows p) ∙ given_rest setup w n (others_of w.store.rows p) ss
 
   pub prepare_to : CanPrepare setup w p → CanPrepare setup (rest_world w) (plain_pod p)

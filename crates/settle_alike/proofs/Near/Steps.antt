@@ -2,15 +2,31 @@
 use Rattle.std.proofs.Common.{◌≡◌, ◌∙◌, List, [], ◌∷◌, Bool, true, false, true≢false, Option, Some, None, refl, sym, ap, if◌then◌else◌}
 use Rattle.std.specs.Prelude.{◌&&◌, ◌||◌, not, option_map}
 use Rattle.std.specs.List.{list_any}
-use Rattle.kube_types.specs.declared.parts.Kind.TheVariants as kinds
-use Rattle.kube_types.specs.declared.objects.Claim.{Claim as ClaimData}
-use Rattle.kube_types.specs.declared.objects.Node.{Node as NodeData}
-use Rattle.kube_types.specs.declared.objects.Object.{Object}
-use Rattle.kube_types.specs.declared.objects.Object.TheVariants.{Class, Node, Volume, Claim, Pod}
-use Rattle.kube_types.specs.declared.objects.Pod.{Pod as PodData}
-use Rattle.kube_types.specs.Bindings.{is_completed, is_empty}
-use Rattle.kube_types.specs.Keys.{rows_of}
-use Rattle.binder_model.specs.Choice.{Assigns, GoesNowhere, Searches, Step, Waits, are_completed, assigned_node, claim_named, claims_of, first_taking, is_missing, is_served_elsewhere, lacks_claim, takes_pod, volume_admits}
+use Rattle.kube_parts.specs.declared.parts.Kind.TheVariants as kinds
+use Rattle.kube_objects.specs.declared.objects.Claim.{Claim as ClaimData}
+use Rattle.kube_objects.specs.declared.objects.Node.{Node as NodeData}
+use Rattle.kube_objects.specs.declared.objects.Object.{Object}
+use Rattle.kube_objects.specs.declared.objects.Object.TheVariants.{Class, Node, Volume, Claim, Pod}
+use Rattle.kube_objects.specs.declared.objects.Pod.{Pod as PodData}
+use Rattle.kube_objects.specs.Bindings.{is_completed, is_empty}
+use Rattle.kube_objects.specs.Keys.{rows_of}
+use Rattle.binder_model.specs.Choice.{
+  Assigns,
+  GoesNowhere,
+  Searches,
+  Step,
+  Waits,
+  are_completed,
+  assigned_node,
+  claim_named,
+  claims_of,
+  first_taking,
+  is_missing,
+  is_served_elsewhere,
+  lacks_claim,
+  takes_pod,
+  volume_admits,
+}
 use Rattle.settle_alike.proofs.Alike.Rows.{any_mapped, any_same, plain_node, plain_pod}
 use Rattle.settle_alike.proofs.Alike.Pods.{plain_step}
 use Rattle.settle_alike.specs.Near.Near.{rests_of}
@@ -35,7 +51,8 @@ first_rest rows p (Volume x ∷ os) = first_rest rows p os
 first_rest rows p (Claim x ∷ os) = first_rest rows p os
 first_rest rows p (Pod x ∷ os) = first_rest rows p os
 first_rest rows p (Node n ∷ os) =
-    ap (λ b. if b then Some (plain_node n) else first_taking (rests_of rows) (plain_pod p) (rests_of os)) (all_claims rows p (volume_admits (rests_of rows) (plain_node n)) (volume_admits rows n) (volume_rest rows n))
+    ap (λ b. if b then Some (plain_node n) else first_taking (rests_of rows) (plain_pod p) (rests_of os))
+    (all_claims rows p (volume_admits (rests_of rows) (plain_node n)) (volume_admits rows n) (volume_rest rows n))
     ∙ by (takes_pod rows p (Node n)) (first_rest rows p os)
   where
     by : (b : Bool) → first_taking (rests_of rows) (plain_pod p) (rests_of os) ≡ option_map plain_node (first_taking rows p os)
@@ -65,7 +82,8 @@ step_rest rows p settle_round_calls =
     let completed = all_claims rows p is_completed is_completed completed_rest in
     let found = ap (first_taking (rests_of rows) (plain_pod p)) (rows_rest kinds.Node rows) ∙ first_rest rows p (rows_of kinds.Node rows) in
     let assigned = ap assigned_node found ∙ assigned_rest (first_taking rows p (rows_of kinds.Node rows)) in
-    let elsewhere = ap (list_any (is_served_elsewhere (rests_of rows))) (claims_rest rows p) ∙ any_mapped rest_claim (is_served_elsewhere (rests_of rows)) (is_served_elsewhere rows) (elsewhere_rest rows) (claims_of rows p) in
+    let elsewhere = ap (list_any (is_served_elsewhere (rests_of rows))) (claims_rest rows p)
+    ∙ any_mapped rest_claim (is_served_elsewhere (rests_of rows)) (is_served_elsewhere rows) (elsewhere_rest rows) (claims_of rows p) in
     (λ i. if lacking i then GoesNowhere else if completed i then assigned i else if elsewhere i then Waits else if settle_round_calls then Waits else Searches)
     ∙ by (lacks_claim rows p) (are_completed rows p) (list_any (is_served_elsewhere rows) (claims_of rows p)) settle_round_calls
   where
@@ -92,7 +110,8 @@ is_searching s = false
 pub assigns_any : (rows : List Object) (p : PodData) (a b : Bool) → is_assigning (step_with rows p a) ≡ true → is_assigning (step_with rows p b) ≡ true
 assigns_any rows p a b e = by (lacks_claim rows p) (are_completed rows p) (list_any (is_served_elsewhere rows) (claims_of rows p)) a e
   where
-    by : (l d s u : Bool) → is_assigning (if l then GoesNowhere else if d then assigned_node (first_taking rows p (rows_of kinds.Node rows)) else if s then Waits else if u then Waits else Searches) ≡ true
+    by : (l d s u : Bool) → is_assigning (if l then GoesNowhere else if d then assigned_node (first_taking rows p (rows_of kinds.Node rows)) else if
+        s then Waits else if u then Waits else Searches) ≡ true
         → is_assigning (if l then GoesNowhere else if d then assigned_node (first_taking rows p (rows_of kinds.Node rows)) else if s then Waits else if b then Waits else Searches) ≡ true
     by true d s u h = h
     by false true s u h = h
@@ -108,7 +127,8 @@ searches_so rows p a e = by (lacks_claim rows p) (are_completed rows p) (list_an
     never None = refl
     never (Some n) = refl
 
-    by : (l d s u : Bool) → is_searching (if l then GoesNowhere else if d then assigned_node (first_taking rows p (rows_of kinds.Node rows)) else if s then Waits else if u then Waits else Searches) ≡ true
+    by : (l d s u : Bool) → is_searching (if l then GoesNowhere else if d then assigned_node (first_taking rows p (rows_of kinds.Node rows)) else if
+        s then Waits else if u then Waits else Searches) ≡ true
         → is_searching (if l then GoesNowhere else if d then assigned_node (first_taking rows p (rows_of kinds.Node rows)) else if s then Waits else Searches) ≡ true
     by true d s u h = h
     by false true s u h = h

@@ -4,15 +4,15 @@ use Rattle.std.specs.Prelude.{ℕ, ◌≡◌, Bool, false, not, List, Option, fi
 use Rattle.std.specs.List.{list_all}
 use Rattle.std.specs.Ordering.{is_eq}
 use Rattle.plain_data.specs.Pairs.{Pair, pair_key, text_cmp}
-use Rattle.kube_types.specs.declared.names.Due.TheVariants as dues
-use Rattle.kube_types.specs.declared.objects.Claim.{Claim as ClaimData}
-use Rattle.kube_types.specs.declared.objects.Meta.{Meta}
-use Rattle.kube_types.specs.declared.objects.Node.{Node as NodeData}
-use Rattle.kube_types.specs.declared.objects.Object.{Object}
-use Rattle.kube_types.specs.declared.objects.Object.TheVariants.{Claim, Node, Pod}
-use Rattle.kube_types.specs.declared.objects.Pod.{Pod as PodData}
-use Rattle.kube_types.specs.Bindings.{class_of_claim, is_scheduled, selected_node}
-use Rattle.kube_types.specs.Keys.{row_at}
+use Rattle.kube_parts.specs.declared.names.Due.TheVariants as dues
+use Rattle.kube_objects.specs.declared.objects.Claim.{Claim as ClaimData}
+use Rattle.kube_objects.specs.declared.objects.Meta.{Meta}
+use Rattle.kube_objects.specs.declared.objects.Node.{Node as NodeData}
+use Rattle.kube_objects.specs.declared.objects.Object.{Object}
+use Rattle.kube_objects.specs.declared.objects.Object.TheVariants.{Claim, Node, Pod}
+use Rattle.kube_objects.specs.declared.objects.Pod.{Pod as PodData}
+use Rattle.kube_objects.specs.Bindings.{class_of_claim, is_scheduled, selected_node}
+use Rattle.kube_objects.specs.Keys.{row_at}
 use Rattle.call_types.specs.declared.setup.Setup.{Setup}
 use Rattle.binder_model.specs.Choice.{Serves, Share, claims_of, is_under_way}
 use Rattle.binder_model.specs.Due.{CanPrepare, IsDue, provision_due}
@@ -62,7 +62,8 @@ NearPrepares = (setup : Setup) (old new : World) (p q : PodData) → AreNear old
 -- and has as many nodes left to be tried
 abbrev pub NearTries : Type 0
 NearTries =
-    (setup : Setup) (old new : World) (p q : PodData) (refused : Option (List ℕ)) (k : ℕ) → AreNear old new → content_of (Pod p) ≡ content_of (Pod q) → TriesLeft setup old p refused k → TriesLeft setup new q refused k
+    (setup : Setup) (old new : World) (p q : PodData) (refused : Option (List ℕ)) (k : ℕ) → AreNear old new → content_of (Pod p) ≡ content_of (Pod q)
+    → TriesLeft setup old p refused k → TriesLeft setup new q refused k
 
 -- what the provisioner has to do for a claim that has the same node is the same
 abbrev pub NearProvisions : Type 0
@@ -71,12 +72,14 @@ NearProvisions = (setup : Setup) (old new : World) (c d : ClaimData) → AreNear
 -- where its class does not wait for a pod, whatever node it has itself
 abbrev pub NearImmediates : Type 0
 NearImmediates =
-    (setup : Setup) (old new : World) (c d : ClaimData) → AreNear old new → rest_of (Claim c) ≡ rest_of (Claim d) → is_delayed (row_at (class_key (class_of_claim c)) old.store.rows) ≡ false → provision_due setup old c ≡ provision_due setup new d
+    (setup : Setup) (old new : World) (c d : ClaimData) → AreNear old new → rest_of (Claim c) ≡ rest_of (Claim d)
+    → is_delayed (row_at (class_key (class_of_claim c)) old.store.rows) ≡ false → provision_due setup old c ≡ provision_due setup new d
 
 -- a pod that is to be bound to a node is so there
 abbrev pub NearAssigns : Type 0
 NearAssigns =
-    (setup : Setup) (old new : World) (p q : PodData) → AreNear old new → content_of (Pod p) ≡ content_of (Pod q) → is_scheduled p ≡ false → IsDue setup old (Pod p) (Some dues.Assign) → IsDue setup new (Pod q) (Some dues.Assign)
+    (setup : Setup) (old new : World) (p q : PodData) → AreNear old new → content_of (Pod p) ≡ content_of (Pod q) → is_scheduled p ≡ false
+    → IsDue setup old (Pod p) (Some dues.Assign) → IsDue setup new (Pod q) (Some dues.Assign)
 
 -- one that is to be prepared is so there, where one of its claims is not under way
 abbrev pub NearSearches : Type 0

@@ -1,10 +1,10 @@
 -- Claims do not grow in a drain; and they, the volumes and the pods are counted by the size.
 use Rattle.std.proofs.Common.{◌≡◌, ℕ, ◌+◌, ◌≤◌, List, [], ◌∷◌, refl, ap, arith}
-use Rattle.kube_types.specs.declared.key.Key.{Key}
-use Rattle.kube_types.specs.declared.objects.Object.{Object}
-use Rattle.kube_types.specs.declared.objects.Object.TheVariants.{Class, Node, Volume, Claim, Pod}
-use Rattle.kube_types.specs.Keys.{AreRows, key_of, kind_index, kind_of}
-use Rattle.kube_types.proofs.KeyOrder.{row_at_key}
+use Rattle.kube_objects.specs.declared.key.Key.{Key}
+use Rattle.kube_objects.specs.declared.objects.Object.{Object}
+use Rattle.kube_objects.specs.declared.objects.Object.TheVariants.{Class, Node, Volume, Claim, Pod}
+use Rattle.kube_objects.specs.Keys.{AreRows, key_of, kind_index, kind_of}
+use Rattle.kube_objects.proofs.KeyOrder.{row_at_key}
 use Rattle.settle_measure.specs.Left.Measure.{claims_in, pods_in, total, volumes_in}
 use Rattle.settle_measure.proofs.Left.Sums.{stands}
 use Rattle.settle_calls.specs.Slots.Rounds.{names_in}

@@ -45,7 +45,8 @@ one_more rounds cost = omega arith
 whole_times : (writes : ℕ) → 513 * (writes / 513) ≤ writes
 whole_times writes = let d = div-add-mod' writes 513 in omega (arith, d)
 
-module _ (setup : Setup) (lets : Lets) (after : List Drainer) (past : List Entry) (left : ℕ) (run : IsRunOf setup past) (allow : ImportsAllow setup) (passes : PassesReads lets) (order : AreAlwaysInOrder setup past) (start : List Entry) (few : pods_size (world setup start) ≤ 512) (actors : ℕ) where
+module _ (setup : Setup) (lets : Lets) (after : List Drainer) (past : List Entry) (left : ℕ) (run : IsRunOf setup past) (allow : ImportsAllow setup)
+    (passes : PassesReads lets) (order : AreAlwaysInOrder setup past) (start : List Entry) (few : pods_size (world setup start) ≤ 512) (actors : ℕ) where
   -- what is known wherever the drain has come to
   record IsAt (ds : List Drainer) (h : List Entry) : Type 0 where
     may : MayDrain setup h ds
@@ -59,7 +60,8 @@ module _ (setup : Setup) (lets : Lets) (after : List Drainer) (past : List Entry
     sweeps : ℕ
     paid : 513 * sweeps + work_left setup (world setup past) ≤ work_left setup (world setup h) + (claims_in (world setup start).store.rows + 2 * pods_size (world setup start)) * sweeps
     calls : b + 23 * to_write setup (world setup past)
-        ≤ left + (23 * to_write setup (world setup h) + rounds * round_calls actors (most_size (world setup start)) (pods_size (world setup start)) + 5 * ((3 * most_size (world setup start) + 3 * round_writes setup (world setup start) + 7) * sweeps))
+        ≤ left + (23 * to_write setup (world setup h) + rounds * round_calls actors (most_size (world setup start))
+        (pods_size (world setup start)) + 5 * ((3 * most_size (world setup start) + 3 * round_writes setup (world setup start) + 7) * sweeps))
 
   light : (h : List Entry) → AreGiven (world setup start).store.rows (world setup h).store.rows → pods_writes (world setup h) ≤ pods_size (world setup start)
   light h given =
@@ -79,10 +81,20 @@ module _ (setup : Setup) (lets : Lets) (after : List Drainer) (past : List Entry
     stays : work_left setup (world setup middle) ≤ work_left setup (world setup h)
     paid : 513 * sweeps + work_left setup (world setup middle) ≤ work_left setup (world setup h) + (claims_in (world setup start).store.rows + 2 * pods_size (world setup start)) * sweeps
     calls : b + 23 * to_write setup (world setup middle)
-        ≤ rest + (23 * to_write setup (world setup h) + round_calls actors (most_size (world setup start)) (pods_size (world setup start)) + 5 * ((3 * most_size (world setup start) + 3 * round_writes setup (world setup start) + 7) * sweeps))
+        ≤ rest + (23 * to_write setup (world setup h) + round_calls actors (most_size (world setup start)) (pods_size (world setup start)) + 5 *
+        ((3 * most_size (world setup start) + 3 * round_writes setup (world setup start) + 7) * sweeps))
 
-  round_costs : (ds between : List Drainer) (newer h middle : List Entry) (b rest : ℕ) (whole : Bool) → past ≡ newer ++ h → IsRunOf setup middle → IsAt ds h → IsRound lets middle rest ds h b between whole → RoundCosts h middle b rest
-  round_costs ds between newer h middle b rest whole are here at round = record { sweeps = writes_since setup h middle / 513; stays = less; paid = rarely (writes_since setup h middle / 513) (writes_since setup h middle) (work_left setup (world setup h)) (work_left setup (world setup middle)) (claims_in (world setup start).store.rows + 2 * pods_size (world setup start)) (whole_times (writes_since setup h middle)) all less; calls = called }
+  round_costs : (ds between : List Drainer) (newer h middle : List Entry) (b rest : ℕ) (whole : Bool) → past ≡ newer ++ h → IsRunOf setup middle
+      → IsAt ds h → IsRound lets middle rest ds h b between whole → RoundCosts h middle b rest
+  round_costs ds between newer h middle b rest whole are here at round =
+      record {
+        sweeps = writes_since setup h middle / 513;
+        stays = less;
+        paid =
+            rarely (writes_since setup h middle / 513) (writes_since setup h middle) (work_left setup (world setup h))
+            (work_left setup (world setup middle)) (claims_in (world setup start).store.rows + 2 * pods_size (world setup start)) (whole_times (writes_since setup h middle)) all less;
+        calls = called;
+      }
     where
       pods : pods_writes (world setup h) ≤ pods_size (world setup start)
       pods = light h at.given
@@ -91,7 +103,8 @@ module _ (setup : Setup) (lets : Lets) (after : List Drainer) (past : List Entry
       nodes = selected newer h are at.given
 
       written : writes_since setup h middle + to_write setup (world setup middle) ≤ to_write setup (world setup h) + 2 * pods_writes (world setup h)
-      written = let p = pods in rounds_write_little setup lets ds between h middle b rest whole at.may.stand.roles here round (payer_at setup allow ds at.may.stand.roles at.rests) (omega (arith, p, few))
+      written = let p = pods in rounds_write_little setup lets ds between h middle b rest whole at.may.stand.roles here round (payer_at setup allow
+          ds at.may.stand.roles at.rests) (omega (arith, p, few))
 
       less : work_left setup (world setup middle) ≤ work_left setup (world setup h)
       less = (rounds_pay setup lets ds between h middle b rest whole allow at.may.stand.roles at.rests here round).fallen.stays
@@ -102,18 +115,26 @@ module _ (setup : Setup) (lets : Lets) (after : List Drainer) (past : List Entry
       within : writes_since setup h middle ≤ round_writes setup (world setup start)
       within = let a = all in let l = at.low in omega (arith, a, l)
 
-      one_round : b ≤ rest + (23 * writes_since setup h middle + actors * (3 * most_size (world setup start) + 62) + 5 * ((3 * most_size (world setup start) + 3 * round_writes setup (world setup start) + 7) * (writes_since setup h middle / 513)))
+      one_round : b ≤ rest + (23 * writes_since setup h middle + actors * (3 * most_size (world setup start) + 62) + 5 *
+          ((3 * most_size (world setup start) + 3 * round_writes setup (world setup start) + 7) * (writes_since setup h middle / 513)))
       one_round =
-          subst (λ k. b ≤ rest + (23 * writes_since setup h middle + k * (3 * most_size (world setup start) + 62) + 5 * ((3 * most_size (world setup start) + 3 * round_writes setup (world setup start) + 7) * (writes_since setup h middle / 513)))) at.many
+          subst (λ k. b ≤ rest + (23 * writes_since setup h middle + k * (3 * most_size (world setup start) + 62) + 5 *
+          ((3 * most_size (world setup start) + 3 * round_writes setup (world setup start) + 7) * (writes_since setup h middle / 513)))) at.many
           (sum setup lets middle rest here passes start (round_writes setup (world setup start)) ds h b between whole round (roles_built (roles_of ds) at.may.stand.roles) at.rests within at.given)
 
       called : b + 23 * to_write setup (world setup middle)
-          ≤ rest + (23 * to_write setup (world setup h) + round_calls actors (most_size (world setup start)) (pods_size (world setup start)) + 5 * ((3 * most_size (world setup start) + 3 * round_writes setup (world setup start) + 7) * (writes_since setup h middle / 513)))
+          ≤ rest + (23 * to_write setup (world setup h) + round_calls actors (most_size (world setup start)) (pods_size (world setup start)) + 5 *
+          ((3 * most_size (world setup start) + 3 * round_writes setup (world setup start) + 7) * (writes_since setup h middle / 513)))
       called = let o = one_round in let w = written in let p = pods in omega (arith, o, w, p)
 
   -- nothing is left to cost
   ended : (h : List Entry) (b : ℕ) → past ≡ h → left ≡ b → Costs h b 0
-  ended h b same rest = record { sweeps = 0; paid = (let work = ap (λ es. work_left setup (world setup es)) same in omega (arith, work)); calls = (let work = ap (λ es. to_write setup (world setup es)) same in omega (arith, work, rest)) }
+  ended h b same rest = record {
+    sweeps = 0;
+    paid = (let work = ap (λ es. work_left setup (world setup es)) same in omega (arith, work));
+    calls =
+        (let work = ap (λ es. to_write setup (world setup es)) same in omega (arith, work, rest));
+  }
 
   -- a round and what comes after it
   joined : (h middle : List Entry) (b rest rounds : ℕ) → RoundCosts h middle b rest → Costs middle rest rounds → Costs h b (1 + rounds)
@@ -167,5 +188,6 @@ module _ (setup : Setup) (lets : Lets) (after : List Drainer) (past : List Entry
 
 pub drains_cost_little : DrainsCostLittle
 drains_cost_little setup lets ds after h past b left allow may rests run passes order few drained =
-    let c = costs setup lets after past left run allow passes order h few (length ds) ds h b (record { may = may; rests = rests; many = refl; low = omega arith; given = given_first (world setup h).store.rows }) drained in
+    let c = costs setup lets after past left run allow passes order h few (length ds) ds h b
+    (record { may = may; rests = rests; many = refl; low = omega arith; given = given_first (world setup h).store.rows }) drained in
     record { sweeps = c.sweeps; paid = c.paid; calls = c.calls }

@@ -1,8 +1,8 @@
 -- A drain makes few rounds: each lowers what may still be written, or selects a node.
 use Rattle.std.proofs.Common.{◌≡◌, ◌∙◌, ℕ, ◌+◌, ◌*◌, ◌≤◌, List, [], ◌∷◌, ◌++◌, append_assoc, Bool, true, false, Some, refl, sym, ap, subst, arith}
 use Rattle.std.proofs.lemmas.List.{append_cancel_right}
-use Rattle.kube_types.specs.declared.key.Key.{Key}
-use Rattle.kube_types.specs.declared.names.Due.{Due}
+use Rattle.kube_objects.specs.declared.key.Key.{Key}
+use Rattle.kube_parts.specs.declared.names.Due.{Due}
 use Rattle.call_types.specs.declared.entry.Entry.{Entry}
 use Rattle.call_types.specs.declared.setup.Setup.{Setup}
 use Rattle.binder_model.specs.Due.{IsFirstDue}
@@ -45,7 +45,8 @@ has_due setup ds h first at due = record {
 }
 
 -- a whole round leaves its drainers so that the next may begin
-pub settles_next : (setup : Setup) (ds between : List Drainer) (h middle : List Entry) (b rest : ℕ) → MaySettle setup ds h → IsRunOf setup middle → IsRound all_pass middle rest ds h b between true → MaySettle setup between middle
+pub settles_next : (setup : Setup) (ds between : List Drainer) (h middle : List Entry) (b rest : ℕ) → MaySettle setup ds h → IsRunOf setup middle
+    → IsRound all_pass middle rest ds h b between true → MaySettle setup between middle
 settles_next setup ds between h middle b rest at here round =
     let leaves = rounds_leave_drainers setup all_pass ds between h middle b rest at.may here round in
     record {
@@ -63,7 +64,8 @@ module _ (setup : Setup) (allow : ImportsAllow setup) (after : List Drainer) (pa
     are : middle ≡ newer ++ h
     lowered : IsLowered setup h newer
 
-  passed : (ds between : List Drainer) (h middle : List Entry) (b rest : ℕ) (whole : Bool) → MaySettle setup ds h → IsRunOf setup middle → IsRound all_pass middle rest ds h b between whole → IsPassed h middle
+  passed : (ds between : List Drainer) (h middle : List Entry) (b rest : ℕ) (whole : Bool) → MaySettle setup ds h → IsRunOf setup middle
+      → IsRound all_pass middle rest ds h b between whole → IsPassed h middle
   passed ds between h middle b rest whole at here round =
       let p = round_paid setup allow ds at.may.stand.roles at.rests all_pass between h middle b rest whole here round in
       let users : users_of (p.newer ++ h) ≡ users_of h = ap users_of (sym p.are) ∙ round_users all_pass middle rest ds h b between whole round (roles_built (roles_of ds) at.may.stand.roles) in
@@ -74,7 +76,8 @@ module _ (setup : Setup) (allow : ImportsAllow setup) (after : List Drainer) (pa
   round_stays h middle p = subst (λ es. to_write setup (world setup es) ≤ to_write setup (world setup h) + selected_in p.newer) (sym p.are) p.lowered.stays
 
   round_falls : (h middle : List Entry) (p : IsPassed h middle) → HasLasting setup h middle → to_write setup (world setup middle) + 1 ≤ to_write setup (world setup h) + 2 * selected_in p.newer
-  round_falls h middle p has = subst (λ es. to_write setup (world setup es) + 1 ≤ to_write setup (world setup h) + 2 * selected_in p.newer) (sym p.are) (p.lowered.falls (subst (HasLasting setup h) p.are has))
+  round_falls h middle p has = subst (λ es. to_write setup (world setup es) + 1 ≤ to_write setup (world setup h) + 2 * selected_in p.newer) (sym
+      p.are) (p.lowered.falls (subst (HasLasting setup h) p.are has))
 
   -- so many rounds come after these entries
   record AreCounted (h : List Entry) (rounds : ℕ) : Type 0 where
@@ -87,15 +90,22 @@ module _ (setup : Setup) (allow : ImportsAllow setup) (after : List Drainer) (pa
 
   -- one round comes, with which the drain ends
   one_round : (h middle : List Entry) → IsPassed h middle → past ≡ middle → AreCounted h 1
-  one_round h middle p same = record { newer = p.newer; are = same ∙ p.are; few = (let e = ap (λ es. to_write setup (world setup es)) same in let stays = round_stays h middle p in omega (arith, e, stays)) }
+  one_round h middle p same = record {
+    newer = p.newer;
+    are = same ∙ p.are;
+    few =
+        (let e = ap (λ es. to_write setup (world setup es)) same in let stays = round_stays h middle p in omega (arith, e, stays));
+  }
 
   -- with no call left a drain makes no further round
-  last_round : (h middle : List Entry) → IsPassed h middle → (ds : List Drainer) (b : ℕ) → b ≡ 0 → (drained : Drains all_pass setup after past left ds middle b) → AreCounted h (1 + rounds_in all_pass setup after past left ds middle b drained)
+  last_round : (h middle : List Entry) → IsPassed h middle → (ds : List Drainer) (b : ℕ) → b ≡ 0
+      → (drained : Drains all_pass setup after past left ds middle b) → AreCounted h (1 + rounds_in all_pass setup after past left ds middle b drained)
   last_round h middle p ds b spent (NothingDue settled same entries rest) = one_round h middle p entries
   last_round h middle p ds b spent (IsSpent first due none_ same entries rest) = one_round h middle p entries
   last_round h middle p ds b spent (Goes first due some between next rest whole round drained) = absurd (omega (arith, some, spent))
 
-  counted : (ds : List Drainer) (h : List Entry) (b : ℕ) → MaySettle setup ds h → (drained : Drains all_pass setup after past left ds h b) → AreCounted h (rounds_in all_pass setup after past left ds h b drained)
+  counted : (ds : List Drainer) (h : List Entry) (b : ℕ) → MaySettle setup ds h → (drained : Drains all_pass setup after past left ds h b)
+      → AreCounted h (rounds_in all_pass setup after past left ds h b drained)
   counted ds h b at (NothingDue settled same entries rest) = none h entries
   counted ds h b at (IsSpent first due none_ same entries rest) = none h entries
   counted ds h b at (Goes first due some between middle rest true round drained) =

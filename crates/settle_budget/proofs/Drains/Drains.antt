@@ -1,9 +1,9 @@
 -- A drain makes few writes and calls beside its rounds: the sum of these, each by the world with which the drain begins.
 use Rattle.std.proofs.Common.{◌≡◌, ◌∙◌, ◌⊎◌, ℕ, ◌+◌, ◌*◌, ◌≤◌, List, [], ◌∷◌, length, true, false, inl, inr, refl, sym, ap, subst, arith, if◌then◌else◌, Bool}
 use Rattle.std.specs.Prelude.{◌/◌}
-use Rattle.kube_types.specs.declared.objects.Object.{Object}
-use Rattle.kube_types.specs.declared.objects.Object.TheVariants.{Class, Node, Volume, Claim, Pod}
-use Rattle.kube_types.specs.Bindings.{is_scheduled}
+use Rattle.kube_objects.specs.declared.objects.Object.{Object}
+use Rattle.kube_objects.specs.declared.objects.Object.TheVariants.{Class, Node, Volume, Claim, Pod}
+use Rattle.kube_objects.specs.Bindings.{is_scheduled}
 use Rattle.call_types.specs.declared.entry.Entry.{Entry}
 use Rattle.call_types.specs.declared.setup.Setup.{Setup}
 use Rattle.binder_model.specs.Due.{IsSettled}
@@ -57,7 +57,8 @@ module _ (setup : Setup) (lets : Lets) (after : List Drainer) (past : List Entry
   middle_run ds h b drained = let g = drains_grow lets setup after past left ds h b drained in older_run setup g.longer.added h (subst (IsRunOf setup) g.longer.are run)
 
   -- the writes of a round and those after it
-  split : (ds between : List Drainer) (h middle : List Entry) (b rest : ℕ) (whole : Bool) → IsRound lets middle rest ds h b between whole → Drains lets setup after past left between middle rest → writes_since setup h past ≡ writes_since setup h middle + writes_since setup middle past
+  split : (ds between : List Drainer) (h middle : List Entry) (b rest : ℕ) (whole : Bool) → IsRound lets middle rest ds h b between whole
+      → Drains lets setup after past left between middle rest → writes_since setup h past ≡ writes_since setup h middle + writes_since setup middle past
   split ds between h middle b rest whole round drained =
       let g = round_grows lets middle rest ds h b between whole round in
       let m = counted setup g.longer.added h middle g.longer.are in
@@ -74,7 +75,8 @@ module _ (setup : Setup) (lets : Lets) (after : List Drainer) (past : List Entry
         let same = pods_few (world setup start).store.rows (world setup h).store.rows (rows_stand_in_order setup start) (rows_stand_in_order setup h) given in
         omega (arith, fewer, same)
 
-    written : (ds : List Drainer) (h : List Entry) (b : ℕ) → MayDrain setup h ds → AreAtRest ds → AreGiven (world setup start).store.rows (world setup h).store.rows → (drained : Drains lets setup after past left ds h b)
+    written : (ds : List Drainer) (h : List Entry) (b : ℕ) → MayDrain setup h ds → AreAtRest ds
+        → AreGiven (world setup start).store.rows (world setup h).store.rows → (drained : Drains lets setup after past left ds h b)
         → writes_since setup h past + to_write setup (world setup past) ≤ to_write setup (world setup h) + rounds_in lets setup after past left ds h b drained * (2 * pods_size (world setup start))
     written ds h b may rests given (NothingDue settled same entries rest) =
         let version = ap (λ es. (world setup es).store.version) entries in
@@ -109,15 +111,21 @@ module _ (setup : Setup) (lets : Lets) (after : List Drainer) (past : List Entry
 
   module _ (passes : PassesReads lets) (start : List Entry) (all actors : ℕ) where
     -- one of its rounds
-    round_called : (ds between : List Drainer) (h middle : List Entry) (b rest : ℕ) (whole : Bool) → MayDrain setup h ds → AreAtRest ds → length ds ≡ actors → IsRunOf setup middle → writes_since setup h middle ≤ all → AreGiven (world setup start).store.rows (world setup h).store.rows
+    round_called : (ds between : List Drainer) (h middle : List Entry) (b rest : ℕ) (whole : Bool) → MayDrain setup h ds → AreAtRest ds
+        → length ds ≡ actors → IsRunOf setup middle → writes_since setup h middle ≤ all → AreGiven (world setup start).store.rows (world setup h).store.rows
         → IsRound lets middle rest ds h b between whole
-        → b ≤ rest + (23 * writes_since setup h middle + actors * (3 * most_size (world setup start) + 62) + 5 * ((3 * most_size (world setup start) + 3 * all + 7) * (writes_since setup h middle / 513)))
+        → b ≤ rest + (23 * writes_since setup h middle + actors * (3 * most_size (world setup start) + 62) + 5 *
+        ((3 * most_size (world setup start) + 3 * all + 7) * (writes_since setup h middle / 513)))
     round_called ds between h middle b rest whole may rests many here few given round =
-        subst (λ k. b ≤ rest + (23 * writes_since setup h middle + k * (3 * most_size (world setup start) + 62) + 5 * ((3 * most_size (world setup start) + 3 * all + 7) * (writes_since setup h middle / 513)))) many
+        subst (λ k. b ≤ rest + (23 * writes_since setup h middle + k * (3 * most_size (world setup start) + 62) + 5 *
+        ((3 * most_size (world setup start) + 3 * all + 7) * (writes_since setup h middle / 513)))) many
         (sum setup lets middle rest here passes start all ds h b between whole round (roles_built (roles_of ds) may.stand.roles) rests few given)
 
-    called : (ds : List Drainer) (h : List Entry) (b : ℕ) → MayDrain setup h ds → AreAtRest ds → length ds ≡ actors → writes_since setup h past ≤ all → AreGiven (world setup start).store.rows (world setup h).store.rows → (drained : Drains lets setup after past left ds h b)
-        → b ≤ left + (23 * writes_since setup h past + (rounds_in lets setup after past left ds h b drained * (actors * (3 * most_size (world setup start) + 62)) + 5 * ((3 * most_size (world setup start) + 3 * all + 7) * (writes_since setup h past / 513))))
+    called : (ds : List Drainer) (h : List Entry) (b : ℕ) → MayDrain setup h ds → AreAtRest ds → length ds ≡ actors → writes_since setup h past ≤ all
+        → AreGiven (world setup start).store.rows (world setup h).store.rows → (drained : Drains lets setup after past left ds h b)
+        → b ≤ left + (23 * writes_since setup h past +
+        (rounds_in lets setup after past left ds h b drained * (actors * (3 * most_size (world setup start) + 62)) + 5 *
+        ((3 * most_size (world setup start) + 3 * all + 7) * (writes_since setup h past / 513))))
     called ds h b may rests many few given (NothingDue settled same entries rest) = omega (arith, rest)
     called ds h b may rests many few given (IsSpent first due none same entries rest) = omega (arith, rest)
     called ds h b may rests many few given (Goes first due some between middle rest true round drained) =
@@ -142,7 +150,8 @@ module _ (setup : Setup) (lets : Lets) (after : List Drainer) (past : List Entry
         omega (arith, spent, first_, sum_, sweeps, all_of, one_)
 
 pub drains_write_little : DrainsWriteLittle
-drains_write_little setup lets ds after h past b left allow may rests run few drained = written setup lets after past left run allow h few ds h b may rests (given_first (world setup h).store.rows) drained
+drains_write_little setup lets ds after h past b left allow may rests run few drained =
+    written setup lets after past left run allow h few ds h b may rests (given_first (world setup h).store.rows) drained
 
 pub drains_make_few_calls : DrainsMakeFewCalls
 drains_make_few_calls setup lets ds after h past b left may rests run passes drained =
@@ -152,11 +161,13 @@ pub drains_are_short : DrainsAreShort
 drains_are_short setup lets ds after h past b left allow may rests run passes few drained =
     let calls = drains_make_few_calls setup lets ds after h past b left may rests run passes drained in
     let writes = drains_write_little setup lets ds after h past b left allow may rests run few drained in
-    let sweeps = swept_more (most_size (world setup h)) (writes_since setup h past) (to_write setup (world setup h) + rounds_in lets setup after past left ds h b drained * (2 * pods_size (world setup h))) (omega (arith, writes)) in
+    let sweeps = swept_more (most_size (world setup h)) (writes_since setup h past)
+    (to_write setup (world setup h) + rounds_in lets setup after past left ds h b drained * (2 * pods_size (world setup h))) (omega (arith, writes)) in
     omega (arith, calls, writes, sweeps)
 
 -- a drain ends settled, or with no call left
-pub ends_so : (setup : Setup) (lets : Lets) (after : List Drainer) (past : List Entry) (left : ℕ) (ds : List Drainer) (h : List Entry) (b : ℕ) → Drains lets setup after past left ds h b → IsSettled setup (world setup past) ⊎ (left ≡ 0)
+pub ends_so : (setup : Setup) (lets : Lets) (after : List Drainer) (past : List Entry) (left : ℕ) (ds : List Drainer) (h : List Entry) (b : ℕ)
+    → Drains lets setup after past left ds h b → IsSettled setup (world setup past) ⊎ (left ≡ 0)
 ends_so setup lets after past left ds h b (NothingDue settled same entries rest) = inl (subst (λ es. IsSettled setup (world setup es)) (sym entries) settled)
 ends_so setup lets after past left ds h b (IsSpent first due none same entries rest) = inr (rest ∙ none)
 ends_so setup lets after past left ds h b (Goes first due some between middle rest whole round drained) = ends_so setup lets after past left between middle rest drained

@@ -1,8 +1,8 @@
 -- Entries of actors that pay lower what may still be written.
 use Rattle.std.proofs.Common.{◌≡◌, ◌∙◌, ◌⊎◌, ℕ, ◌+◌, ◌*◌, ◌≤◌, List, [], ◌∷◌, ◌++◌, append_assoc, true, Some, inl, inr, refl, sym, ap, subst, arith}
 use Rattle.std.proofs.lemmas.List.{append_cancel_right}
-use Rattle.kube_types.specs.declared.objects.Object.{Object}
-use Rattle.kube_types.specs.declared.objects.Object.TheVariants.{Class, Node, Volume, Claim, Pod}
+use Rattle.kube_objects.specs.declared.objects.Object.{Object}
+use Rattle.kube_objects.specs.declared.objects.Object.TheVariants.{Class, Node, Volume, Claim, Pod}
 use Rattle.call_types.specs.declared.entry.Entry.{Entry}
 use Rattle.call_types.specs.declared.request.Request.{Request}
 use Rattle.call_types.specs.declared.request.Request.TheVariants as requests
@@ -59,10 +59,12 @@ one_of seats.Agent r = IsWorth refl
 
 -- a scheduler selects a node where it asks for it alone
 module _ (setup : Setup) (seat : ℕ) (h : List Entry) (history : IsHistory setup h) (o : Object) (rows : List Object) (moved : IsMoved (world setup h).store.rows rows o) where
-  scheduler_nodes : (r : Request) → RowAllows seats.Scheduler (own seat h) r → Writes (world setup h) seats.Scheduler r o → total nodes_on rows ≤ nodes_in (world setup h) + selects_node seats.Scheduler r
+  scheduler_nodes : (r : Request) → RowAllows seats.Scheduler (own seat h) r → Writes (world setup h) seats.Scheduler r o
+      → total nodes_on rows ≤ nodes_in (world setup h) + selects_node seats.Scheduler r
   unfolding at_version with_meta
   scheduler_nodes (requests.Update (Claim new) given) may u = scheduled_nodes setup seat h history o rows moved (requests.Update (Claim new) given) may u
-  scheduler_nodes (requests.Update (Volume new) given) may i = let none = no_node setup seat h history o rows moved (ap nodes_on i.is ∙ updated_none i.old new ((world setup h).store.version + 1)) in omega (arith, none)
+  scheduler_nodes (requests.Update (Volume new) given) may i = let none =
+      no_node setup seat h history o rows moved (ap nodes_on i.is ∙ updated_none i.old new ((world setup h).store.version + 1)) in omega (arith, none)
   scheduler_nodes (requests.Update (Class x) given) may i = absurd may
   scheduler_nodes (requests.Update (Node x) given) may i = absurd may
   scheduler_nodes (requests.Update (Pod x) given) may i = absurd may
@@ -74,10 +76,12 @@ module _ (setup : Setup) (seat : ℕ) (h : List Entry) (history : IsHistory setu
   scheduler_nodes (requests.FinishPod key uid node epoch) may i = absurd may
   scheduler_nodes _ may i = absurd i
 
-  plain_nodes : (kind : SeatKind) (r : Request) → is_plain kind ≡ true → IsBuiltKind kind → Licensed kind (own seat h) r → Writes (world setup h) kind r o → total nodes_on rows ≤ nodes_in (world setup h) + selects_node kind r
+  plain_nodes : (kind : SeatKind) (r : Request) → is_plain kind ≡ true → IsBuiltKind kind → Licensed kind (own seat h) r
+      → Writes (world setup h) kind r o → total nodes_on rows ≤ nodes_in (world setup h) + selects_node kind r
   plain_nodes kind r plain built may writes = let few = other_nodes setup seat h history o rows moved kind r built (no_scheduler kind plain) (no_ops kind plain) may writes in omega (arith, few)
 
-  kind_nodes : (kind : SeatKind) (r : Request) → IsBuiltKind kind → Licensed kind (own seat h) r → Writes (world setup h) kind r o → total nodes_on rows ≤ nodes_in (world setup h) + selects_node kind r
+  kind_nodes : (kind : SeatKind) (r : Request) → IsBuiltKind kind → Licensed kind (own seat h) r → Writes (world setup h) kind r o
+      → total nodes_on rows ≤ nodes_in (world setup h) + selects_node kind r
   kind_nodes seats.User r built may writes = absurd built
   kind_nodes seats.Scheduler r built may writes = scheduler_nodes r may.1 writes
   kind_nodes seats.Ops r built may writes = let few = ops_nodes setup seat h history o rows moved r may.1 writes in omega (arith, few)
@@ -105,7 +109,8 @@ module _ (setup : Setup) (e : Entry) (h : List Entry) (run : IsRunOf setup (e �
   may = run.run.2
 
   wrote : (o : Object) → written_by (effect setup (world setup h) e.kind e.request) ≡ Some o → Writes (world setup h) e.kind e.request o
-  wrote o written = write_asked setup (world setup h) e.kind e.request o (effect setup (world setup h) e.kind e.request) (effect_form setup (world setup h) e.kind e.request (rows_stand_in_order setup h)) written
+  wrote o written = write_asked setup (world setup h) e.kind e.request o (effect setup (world setup h) e.kind e.request)
+      (effect_form setup (world setup h) e.kind e.request (rows_stand_in_order setup h)) written
 
   work_stays : work_left setup (world setup (e ∷ h)) ≤ work_left setup (world setup h)
   work_stays = (paid_is_less setup h (e ∷ h) history (one_paid setup e h pays)).stays
@@ -135,7 +140,8 @@ module _ (setup : Setup) (e : Entry) (h : List Entry) (run : IsRunOf setup (e �
           let writes = lasting_writes (world setup h) x.0 x.1.1 (subst (λ y. LastsBetween (world setup h) (world_after (world setup h) y) (reply_to y)) x.1.0 lasts) in
           let written = ap written_by x.1.0 ∙ writes.written in
           let moved = moves_by (world setup h) (effect setup (world setup h) e.kind e.request) writes.object written in
-          let few = ops_nodes setup e.seat h history.0 writes.object (world setup (e ∷ h)).store.rows moved e.request (subst (λ k. Licensed k (own e.seat h) e.request) kind may).1 (subst (λ k. Writes (world setup h) k e.request writes.object) kind (wrote writes.object written)) in
+          let few = ops_nodes setup e.seat h history.0 writes.object (world setup (e ∷ h)).store.rows moved e.request
+          (subst (λ k. Licensed k (own e.seat h) e.request) kind may).1 (subst (λ k. Writes (world setup h) k e.request writes.object) kind (wrote writes.object written)) in
           omega (arith, few, back)
 
       by : IsOne e.kind e.request → to_write setup (world setup (e ∷ h)) + 1 ≤ to_write setup (world setup h) + 2 * selects_node e.kind e.request
@@ -151,14 +157,16 @@ SomeLasts setup [] earlier = ⊥
 SomeLasts setup (e ∷ newer) earlier = IsLasting setup e (newer ++ earlier) ⊎ SomeLasts setup newer earlier
 
 module _ (setup : Setup) (earlier : List Entry) where
-  all_stay : (newer : List Entry) → IsRunOf setup (newer ++ earlier) → AreOfActors newer → AllPay setup newer earlier → to_write setup (world setup (newer ++ earlier)) ≤ to_write setup (world setup earlier) + selected_in newer
+  all_stay : (newer : List Entry) → IsRunOf setup (newer ++ earlier) → AreOfActors newer → AllPay setup newer earlier
+      → to_write setup (world setup (newer ++ earlier)) ≤ to_write setup (world setup earlier) + selected_in newer
   all_stay [] run actors each = omega arith
   all_stay (e ∷ newer) run actors each =
       let now = entry_stays setup e (newer ++ earlier) run actors.0 each.0 in
       let before = all_stay newer (older_run setup (e ∷ []) (newer ++ earlier) run) actors.1 each.1 in
       omega (arith, now, before)
 
-  all_fall : (newer : List Entry) → IsRunOf setup (newer ++ earlier) → AreOfActors newer → AllPay setup newer earlier → SomeLasts setup newer earlier → to_write setup (world setup (newer ++ earlier)) + 1 ≤ to_write setup (world setup earlier) + 2 * selected_in newer
+  all_fall : (newer : List Entry) → IsRunOf setup (newer ++ earlier) → AreOfActors newer → AllPay setup newer earlier → SomeLasts setup newer earlier
+      → to_write setup (world setup (newer ++ earlier)) + 1 ≤ to_write setup (world setup earlier) + 2 * selected_in newer
   all_fall [] run actors each some = absurd some
   all_fall (e ∷ newer) run actors each (inl lasts) =
       let now = entry_falls setup e (newer ++ earlier) run actors.0 each.0 lasts in
@@ -176,8 +184,10 @@ module _ (setup : Setup) (earlier : List Entry) where
 
   some_lasts : (newer : List Entry) → HasLasting setup earlier (newer ++ earlier) → SomeLasts setup newer earlier
   some_lasts newer has =
-      let same : newer ≡ has.newer ++ (has.entry ∷ has.older) = append_cancel_right newer (has.newer ++ (has.entry ∷ has.older)) earlier (has.are ∙ sym (append_assoc has.newer (has.entry ∷ has.older) earlier)) in
+      let same : newer ≡ has.newer ++ (has.entry ∷ has.older) =
+      append_cancel_right newer (has.newer ++ (has.entry ∷ has.older)) earlier (has.are ∙ sym (append_assoc has.newer (has.entry ∷ has.older) earlier)) in
       subst (λ es. SomeLasts setup es earlier) (sym same) (lasts_at has.newer has.entry has.older has.lasts)
 
 pub paid_entries_lower : PaidEntriesLower
-paid_entries_lower setup newer earlier run actors each = record { stays = all_stay setup earlier newer run actors each; falls = λ has. all_fall setup earlier newer run actors each (some_lasts setup earlier newer has) }
+paid_entries_lower setup newer earlier run actors each =
+    record { stays = all_stay setup earlier newer run actors each; falls = λ has. all_fall setup earlier newer run actors each (some_lasts setup earlier newer has) }

@@ -68,4 +68,5 @@ module _ (setup : Setup) (first : ℕ) (nodes : List (List ℕ)) (ds : List Drai
   }
 
 pub new_drains_settle : NewDrainsSettle
-new_drains_settle setup first nodes ds after h past b left allow here fresh has run order delayed drained = static_drains_settle setup ds after h past b left allow (may_settle setup first nodes ds h fresh here) has run order delayed drained
+new_drains_settle setup first nodes ds after h past b left allow here fresh has run order delayed drained =
+    static_drains_settle setup ds after h past b left allow (may_settle setup first nodes ds h fresh here) has run order delayed drained

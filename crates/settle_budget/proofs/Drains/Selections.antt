@@ -17,7 +17,8 @@ few_selections_settle setup ds after h past newer b left allow at has run order 
     let counted = rounds_are_counted setup ds after h past newer b left allow at run are drained in
     let nodes = nodes_are_few (world setup h) (rows_stand_in_order setup h) (order newer h are) in
     let sizes = pods_and_claims (world setup h).store.rows in
-    few_rounds_settle setup all_pass ds after h past b left allow at.may at.rests run (λ g request own_read. refl) order has.small has.few drained (omega (arith, counted, nodes, sizes, few)) has.enough
+    few_rounds_settle setup all_pass ds after h past b left allow at.may at.rests run (λ g request own_read. refl) order has.small has.few drained
+    (omega (arith, counted, nodes, sizes, few)) has.enough
 
 pub static_drains_settle : StaticDrainsSettle
 static_drains_settle setup ds after h past b left allow at has run order late drained =

@@ -1,7 +1,7 @@
 -- Each node that was given has its agent still after a round.
 use Rattle.std.proofs.Common.{◌≡◌, ◌∙◌, ◌⊎◌, ℕ, List, [], ◌∷◌, ◌++◌, ◌≤◌, length, Bool, true, false, true≢false, Option, Some, None, inl, inr, refl, sym, ap, subst, arith}
 use Rattle.std.specs.Prelude.{cond, option_map, slice_get}
-use Rattle.kube_types.specs.declared.objects.Object.TheVariants.{Node}
+use Rattle.kube_objects.specs.declared.objects.Object.TheVariants.{Node}
 use Rattle.call_types.specs.declared.entry.Entry.{Entry}
 use Rattle.call_types.specs.declared.request.Request.{Request}
 use Rattle.call_types.specs.declared.request.Request.TheVariants as requests
@@ -70,7 +70,8 @@ creates_none kind mine node (requests.Create (Node n)) built may is = by kind bu
     by seats.Agent built may = may.1
 creates_none kind mine node _ built may is = is
 
-given_before : (setup : Setup) (node : List ℕ) (newer h : List Entry) → Run setup (newer ++ h) → AreOfActors newer → SomeOf (λ e. CreatesNode node e.request) (newer ++ h) → SomeOf (λ e. CreatesNode node e.request) h
+given_before : (setup : Setup) (node : List ℕ) (newer h : List Entry) → Run setup (newer ++ h) → AreOfActors newer
+    → SomeOf (λ e. CreatesNode node e.request) (newer ++ h) → SomeOf (λ e. CreatesNode node e.request) h
 given_before setup node [] h run actors some = some
 given_before setup node (e ∷ newer) h run actors (inl creates) = absurd (creates_none e.kind (own e.seat (newer ++ h)) node e.request actors.0 run.2 creates)
 given_before setup node (e ∷ newer) h run actors (inr some) = given_before setup node newer h run.0 actors.1 some
@@ -89,10 +90,12 @@ still_at ds after roles seats_ place d there = by (slice_get after place) refl
   where
     role_there : option_map (λ (x : Drainer). x.actor.role) (slice_get after place) ≡ Some d.actor.role
     role_there =
-        sym (get_mapped (λ (x : Drainer). x.actor.role) after place) ∙ (ap (λ (rs : List Role). slice_get rs place) roles ∙ (get_mapped (λ (x : Drainer). x.actor.role) ds place ∙ ap (option_map (λ (x : Drainer). x.actor.role)) there))
+        sym (get_mapped (λ (x : Drainer). x.actor.role) after place)
+        ∙ (ap (λ (rs : List Role). slice_get rs place) roles ∙ (get_mapped (λ (x : Drainer). x.actor.role) ds place ∙ ap (option_map (λ (x : Drainer). x.actor.role)) there))
 
     seat_there : option_map (λ (x : Drainer). x.seat) (slice_get after place) ≡ Some d.seat
-    seat_there = sym (get_mapped (λ (x : Drainer). x.seat) after place) ∙ (ap (λ (ss : List ℕ). slice_get ss place) seats_ ∙ (get_mapped (λ (x : Drainer). x.seat) ds place ∙ ap (option_map (λ (x : Drainer). x.seat)) there))
+    seat_there = sym (get_mapped (λ (x : Drainer). x.seat) after place)
+        ∙ (ap (λ (ss : List ℕ). slice_get ss place) seats_ ∙ (get_mapped (λ (x : Drainer). x.seat) ds place ∙ ap (option_map (λ (x : Drainer). x.seat)) there))
 
     by : (x : Option Drainer) → slice_get after place ≡ x → IsAt after place d
     by None e = none_some (sym (ap (option_map (λ (x : Drainer). x.seat)) e) ∙ seat_there)
@@ -108,7 +111,8 @@ role_of : (ds : List Drainer) (place : ℕ) (d : Drainer) (node : List ℕ) → 
 role_of ds place d node there role = get_mapped (λ (x : Drainer). x.actor.role) ds place ∙ (ap (option_map (λ (x : Drainer). x.actor.role)) there ∙ ap Some role)
 
 pub rounds_serve_nodes : RoundsServeNodes
-rounds_serve_nodes setup lets ds after h past b left whole run roles apart round served node given = record { place = c.place; drainer = at.drainer; there = at.there; role = at.role ∙ c.role; current = subst (IsCurrent setup past node) (sym at.seat) kept }
+rounds_serve_nodes setup lets ds after h past b left whole run roles apart round served node given =
+    record { place = c.place; drainer = at.drainer; there = at.there; role = at.role ∙ c.role; current = subst (IsCurrent setup past node) (sym at.seat) kept }
   where
     before : WasGiven setup past node → WasGiven setup h node
     before (inl imported) = inl imported

@@ -41,6 +41,7 @@ few_rounds_settle setup lets ds after h past b left allow may rests run passes o
         let g = drains_grow lets setup after past left ds h b drained in
         let nodes = nodes_are_few (world setup h) (rows_stand_in_order setup h) (order g.longer.added h g.longer.are) in
         let less =
-        budget_is_enough (claims_in (world setup h).store.rows) (faults_left setup (world setup h).devices) (work_left setup (world setup h)) (nodes_in (world setup h)) (pods_size (world setup h)) (rounds_in lets setup after past left ds h b drained) (length ds) c.sweeps (size_of_world (world setup h))
+        budget_is_enough (claims_in (world setup h).store.rows) (faults_left setup (world setup h).devices) (work_left setup (world setup h))
+        (nodes_in (world setup h)) (pods_size (world setup h)) (rounds_in lets setup after past left ds h b drained) (length ds) c.sweeps (size_of_world (world setup h))
         (omega (arith, p)) small (work_few setup (world setup h)) nodes p few rounds (omega (arith, paid)) in
         absurd (omega (arith, calls, less, none, enough))

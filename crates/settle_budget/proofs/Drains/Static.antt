@@ -1,11 +1,11 @@
 -- A drain selects no node where no class that stood both binds late and provisions.
 use Rattle.std.proofs.Common.{◌≡◌, ◌∙◌, ℕ, ◌-◌, List, [], ◌∷◌, ◌++◌, append_assoc, Bool, true, false, true≢false, Option, Some, None, inl, inr, refl, sym, ap, subst, arith, if◌then◌else◌}
 use Rattle.std.specs.Prelude.{option_map, slice_get, ⊤}
-use Rattle.kube_types.specs.declared.parts.Kind.{Kind}
-use Rattle.kube_types.specs.declared.objects.Class.{Class as ClassData}
-use Rattle.kube_types.specs.declared.objects.Object.{Object}
-use Rattle.kube_types.specs.declared.objects.Object.TheVariants.{Class}
-use Rattle.kube_types.specs.Keys.{row_at}
+use Rattle.kube_parts.specs.declared.parts.Kind.{Kind}
+use Rattle.kube_objects.specs.declared.objects.Class.{Class as ClassData}
+use Rattle.kube_objects.specs.declared.objects.Object.{Object}
+use Rattle.kube_objects.specs.declared.objects.Object.TheVariants.{Class}
+use Rattle.kube_objects.specs.Keys.{row_at}
 use Rattle.call_types.specs.declared.entry.Entry.{Entry}
 use Rattle.call_types.specs.declared.reply.Reply.{Reply}
 use Rattle.call_types.specs.declared.request.Request.{Request}
@@ -165,7 +165,8 @@ module _ (setup : Setup) (seat : ℕ) (x : ActorState) (request : Request) (repl
       by None e = none_some (ap (given_call x) (sym e) ∙ called.ask)
       by (Some givens.Start) e = none_some (ap (λ k. start_of k x.role.node x.memory) (sym kind) ∙ (ap (given_call x) (sym e) ∙ called.ask))
       by (Some givens.Task) e = under x.under called.stands.settle_round_calls (ap (given_call x) (sym e) ∙ called.ask)
-      by (Some (givens.Read k)) e = subst (λ r. selects_node seats.Scheduler r ≡ 0) (one (read_of_kind x.caches k) request (ap (given_call x) (sym e) ∙ called.ask)) (read_none k (ask_of (cache_of k x.caches)))
+      by (Some (givens.Read k)) e = subst (λ r. selects_node seats.Scheduler r ≡ 0) (one (read_of_kind x.caches k) request
+          (ap (given_call x) (sym e) ∙ called.ask)) (read_none k (ask_of (cache_of k x.caches)))
 
   kind_none : (kind : SeatKind) → x.role.kind ≡ kind → selects_node kind request ≡ 0
   kind_none seats.Scheduler is = call_none is
@@ -203,28 +204,34 @@ late_before : (setup : Setup) (newer h past : List Entry) → past ≡ newer ++ 
 late_before setup newer h past are late class was = late class (subst (λ es. Stood setup es (Class class)) (sym are) (stood_still setup newer h (Class class) was))
 
 module _ (setup : Setup) (lets : Lets) where
-  run_none : (seat : ℕ) (after : ActorState) (past : List Entry) (left : ℕ) (idle : Bool) → IsRunOf setup past → NoneProvisionsLate setup past → (s : ActorState) (h : List Entry) (b : ℕ) → IsBuiltKind s.role.kind → Runs lets seat after past left idle s h b → HaveNone h past
+  run_none : (seat : ℕ) (after : ActorState) (past : List Entry) (left : ℕ) (idle : Bool) → IsRunOf setup past → NoneProvisionsLate setup past
+      → (s : ActorState) (h : List Entry) (b : ℕ) → IsBuiltKind s.role.kind → Runs lets seat after past left idle s h b → HaveNone h past
   run_none seat after past left idle run late s h b built (IsSpent spent state entries rest busy) = no_more h past entries
   run_none seat after past left idle run late s h b built (IsIdle some ready turn entries rest calm) = no_more h past entries
   run_none seat after past left idle run late s h b built (Asks given next request reply some ready turn lets_it absorbs more) =
       let whole = run_at setup lets seat after past left idle run next (told_entry seat given request reply ∷ h) (b - 1) more in
       let called = called_at setup lets seat after past left idle run s given h request reply built ready turn whole in
       let g = run_grows lets seat after past left idle next (told_entry seat given request reply ∷ h) (b - 1) more in
-      let before = late_before setup (told_entry seat given request reply ∷ []) h (told_entry seat given request reply ∷ h) refl (late_before setup g.longer.added (told_entry seat given request reply ∷ h) past g.longer.are late) in
+      let before = late_before setup (told_entry seat given request reply ∷ []) h (told_entry seat given request reply ∷ h) refl
+      (late_before setup g.longer.added (told_entry seat given request reply ∷ h) past g.longer.are late) in
       let now = kind_none setup seat given request reply h called before given.role.kind refl in
       then_none h (told_entry seat given request reply ∷ h) past (record { newer = told_entry seat given request reply ∷ []; are = refl; none = omega (arith, now) })
-      (run_none seat after past left idle run late next (told_entry seat given request reply ∷ h) (b - 1) (subst (λ (r : Role). IsBuiltKind r.kind) (sym (still_role s given next (Call request) request (Told reply) turn absorbs)) built) more)
+      (run_none seat after past left idle run late next (told_entry seat given request reply ∷ h) (b - 1)
+      (subst (λ (r : Role). IsBuiltKind r.kind) (sym (still_role s given next (Call request) request (Told reply) turn absorbs)) built) more)
   run_none seat after past left idle run late s h b built (IsHeld given next request some ready turn held absorbs more) =
       run_none seat after past left idle run late next h (b - 1) (subst (λ (r : Role). IsBuiltKind r.kind) (sym (still_role s given next (Call request) request Lost turn absorbs)) built) more
 
-  round_none : (past : List Entry) (left : ℕ) → IsRunOf setup past → NoneProvisionsLate setup past → (ds : List Drainer) (h : List Entry) (b : ℕ) (after : List Drainer) (whole : Bool) → IsRound lets past left ds h b after whole → AreBuilt (roles_of ds) → HaveNone h past
+  round_none : (past : List Entry) (left : ℕ) → IsRunOf setup past → NoneProvisionsLate setup past
+      → (ds : List Drainer) (h : List Entry) (b : ℕ) (after : List Drainer) (whole : Bool) → IsRound lets past left ds h b after whole → AreBuilt (roles_of ds) → HaveNone h past
   round_none past left run late _ h b _ _ (Ends entries rest) built = no_more h past entries
   round_none past left run late _ h b _ _ (Turns {ds = ds} {after = after} {whole = whole} d ran middle rest idle seat runs more) built =
       let g = round_grows lets past left ds middle rest after whole more in
       let here : IsRunOf setup middle = older_run setup g.longer.added middle (subst (IsRunOf setup) g.longer.are run) in
-      then_none h middle past (run_none d.seat ran.actor middle rest idle here (late_before setup g.longer.added middle past g.longer.are late) (woken d.actor) h b built.0 runs) (round_none past left run late ds middle rest after whole more built.1)
+      then_none h middle past (run_none d.seat ran.actor middle rest idle here (late_before setup g.longer.added middle past g.longer.are late)
+      (woken d.actor) h b built.0 runs) (round_none past left run late ds middle rest after whole more built.1)
 
-  pub drain_none : (after : List Drainer) (past : List Entry) (left : ℕ) → IsRunOf setup past → NoneProvisionsLate setup past → (ds : List Drainer) (h : List Entry) (b : ℕ) → AreBuilt (roles_of ds) → Drains lets setup after past left ds h b → HaveNone h past
+  pub drain_none : (after : List Drainer) (past : List Entry) (left : ℕ) → IsRunOf setup past → NoneProvisionsLate setup past
+      → (ds : List Drainer) (h : List Entry) (b : ℕ) → AreBuilt (roles_of ds) → Drains lets setup after past left ds h b → HaveNone h past
   drain_none after past left run late ds h b built (NothingDue settled same entries rest) = no_more h past entries
   drain_none after past left run late ds h b built (IsSpent first due none same entries rest) = no_more h past entries
   drain_none after past left run late ds h b built (Goes first due some between middle rest whole round more) =

@@ -2,18 +2,18 @@
 use Rattle.std.proofs.Common.{◌≡◌, ◌∙◌, ℕ, zero, suc, List, [], ◌∷◌, ◌++◌, Bool, true, false, true≢false, Option, Some, None, refl, sym, subst, if◌then◌else◌}
 use Rattle.std.specs.Prelude.{is_none, map, slice_get, ⊤}
 use Rattle.std.proofs.lemmas.Bool.{and_right}
-use Rattle.kube_types.specs.declared.key.Key.{Key}
-use Rattle.kube_types.specs.declared.uid.Uid.{Uid}
-use Rattle.kube_types.specs.declared.objects.Claim.{Claim as ClaimData}
-use Rattle.kube_types.specs.declared.objects.Class.{Class as ClassData}
-use Rattle.kube_types.specs.declared.objects.Node.{Node as NodeData}
-use Rattle.kube_types.specs.declared.objects.Pod.{Pod as PodData}
-use Rattle.kube_types.specs.declared.objects.Volume.{Volume as VolumeData}
-use Rattle.kube_types.specs.declared.objects.Object.{Object}
-use Rattle.kube_types.specs.declared.objects.Object.TheVariants.{Class, Node, Volume, Claim, Pod}
-use Rattle.kube_types.specs.Bindings.{class_of_claim, is_scheduled}
-use Rattle.kube_types.specs.Keys.{row_at}
-use Rattle.kube_types.specs.VolumeIndex.{as_volume}
+use Rattle.kube_objects.specs.declared.key.Key.{Key}
+use Rattle.kube_parts.specs.declared.uid.Uid.{Uid}
+use Rattle.kube_objects.specs.declared.objects.Claim.{Claim as ClaimData}
+use Rattle.kube_objects.specs.declared.objects.Class.{Class as ClassData}
+use Rattle.kube_objects.specs.declared.objects.Node.{Node as NodeData}
+use Rattle.kube_objects.specs.declared.objects.Pod.{Pod as PodData}
+use Rattle.kube_objects.specs.declared.objects.Volume.{Volume as VolumeData}
+use Rattle.kube_objects.specs.declared.objects.Object.{Object}
+use Rattle.kube_objects.specs.declared.objects.Object.TheVariants.{Class, Node, Volume, Claim, Pod}
+use Rattle.kube_objects.specs.Bindings.{class_of_claim, is_scheduled}
+use Rattle.kube_objects.specs.Keys.{row_at}
+use Rattle.volume_index.specs.VolumeIndex.{as_volume}
 use Rattle.call_types.specs.declared.request.Request.{Request}
 use Rattle.call_types.specs.declared.request.SeatKind.TheVariants as seats
 use Rattle.binder_model.specs.Choice.{AreShares, IsProvisioned, Share, TakesVolume, can_provision, claim_in, claims_of, class_provisions}
@@ -60,7 +60,8 @@ module _ (rows : List Object) (late : NoneIsLate rows) where
       by (Some (Claim x)) there delayed = refl
       by (Some (Pod x)) there delayed = refl
 
-  none_provisioned : (n : NodeData) (taken : List ℕ) (cs : List ClaimData) (shares : List Share) → Each (λ c. can_provision rows c ≡ false) cs → AreShares rows n taken cs shares → provisions_of cs shares ≡ []
+  none_provisioned : (n : NodeData) (taken : List ℕ) (cs : List ClaimData) (shares : List Share) → Each (λ c. can_provision rows c ≡ false) cs
+      → AreShares rows n taken cs shares → provisions_of cs shares ≡ []
   none_provisioned n taken [] [] each are = refl
   none_provisioned n taken [] (share ∷ shares) each are = refl
   none_provisioned n taken (c ∷ cs) [] each are = refl
@@ -77,7 +78,8 @@ module _ (rows : List Object) (late : NoneIsLate rows) where
       by (Some c) (Some v) rest = (refl, rest)
 
   module _ (p : PodData) (last : Option (List ℕ)) where
-    prepared_none : (name : List ℕ) (binds : List (Key × Key)) (keys : List Key) → IsChoice rows p last (Prepare name binds keys) → are_known rows p ≡ true → SelectNone (present (writes_of rows (Prepare name binds keys)))
+    prepared_none : (name : List ℕ) (binds : List (Key × Key)) (keys : List Key) → IsChoice rows p last (Prepare name binds keys)
+        → are_known rows p ≡ true → SelectNone (present (writes_of rows (Prepare name binds keys)))
     prepared_none name binds keys chosen known =
         let s = search_of rows p last name binds keys chosen in
         let each = each_map never_provisioned (others_in rows (claims_of rows p)) (others_sought rows p (all_known rows p known) s.here) in

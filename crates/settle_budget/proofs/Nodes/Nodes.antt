@@ -2,19 +2,19 @@
 use Rattle.std.proofs.Common.{◌≡◌, ◌∙◌, ℕ, List, [], ◌∷◌, Bool, true, false, true≢false, Option, Some, None, inl, inr, refl, sym, ap, subst}
 use Rattle.std.specs.Prelude.{◌&&◌, is_none, not, ⊤}
 use Rattle.std.proofs.lemmas.Slice.Eq.{bytes_eq-Decides}
-use Rattle.kube_types.specs.declared.uid.Uid.{Uid}
-use Rattle.kube_types.specs.declared.key.Key.{Key}
-use Rattle.kube_types.specs.declared.names.Field.{Field}
-use Rattle.kube_types.specs.declared.parts.Kind.{Kind}
-use Rattle.kube_types.specs.declared.parts.Kind.TheVariants as kinds
-use Rattle.kube_types.specs.declared.objects.Meta.{Meta}
-use Rattle.kube_types.specs.declared.objects.Pod.{Pod as PodData}
-use Rattle.kube_types.specs.declared.objects.Object.{Object}
-use Rattle.kube_types.specs.declared.objects.Object.TheVariants.{Class, Node, Volume, Claim, Pod}
-use Rattle.kube_types.specs.Bindings.{is_empty, is_scheduled}
-use Rattle.kube_types.specs.Keys.{AreRows, key_of, meta_of, put_row, row_at, without_row}
-use Rattle.kube_types.proofs.KeyOrder.{row_at-put_row, row_at-put_row_other, row_at-without_row, row_at-without_row_other, row_at_key}
-use Rattle.kube_types.proofs.SameKeys.{key_tells}
+use Rattle.kube_parts.specs.declared.uid.Uid.{Uid}
+use Rattle.kube_objects.specs.declared.key.Key.{Key}
+use Rattle.kube_parts.specs.declared.names.Field.{Field}
+use Rattle.kube_parts.specs.declared.parts.Kind.{Kind}
+use Rattle.kube_parts.specs.declared.parts.Kind.TheVariants as kinds
+use Rattle.kube_objects.specs.declared.objects.Meta.{Meta}
+use Rattle.kube_objects.specs.declared.objects.Pod.{Pod as PodData}
+use Rattle.kube_objects.specs.declared.objects.Object.{Object}
+use Rattle.kube_objects.specs.declared.objects.Object.TheVariants.{Class, Node, Volume, Claim, Pod}
+use Rattle.kube_objects.specs.Bindings.{is_empty, is_scheduled}
+use Rattle.kube_objects.specs.Keys.{AreRows, key_of, meta_of, put_row, row_at, without_row}
+use Rattle.kube_objects.proofs.KeyOrder.{row_at-put_row, row_at-put_row_other, row_at-without_row, row_at-without_row_other, row_at_key}
+use Rattle.kube_objects.proofs.SameKeys.{key_tells}
 use Rattle.call_types.specs.declared.edit.Edit.{Edit}
 use Rattle.call_types.specs.declared.edit.Edit.TheVariants as edits
 use Rattle.call_types.specs.declared.entry.Entry.{Entry}
@@ -26,7 +26,29 @@ use Rattle.call_types.specs.declared.request.Request.{Request}
 use Rattle.call_types.specs.declared.request.Request.TheVariants as requests
 use Rattle.call_types.specs.declared.request.SeatKind.{SeatKind}
 use Rattle.call_types.specs.declared.setup.Setup.{Setup}
-use Rattle.binder_model.specs.Answers.{Outcome, Removes, Says, Stores, after, bind, create, delete, delete_of, edit, edit_to, finish, get, list, outcome, refuse, update, update_status, with_status, write_outcome, written_if_fits}
+use Rattle.binder_model.specs.Answers.{
+  Outcome,
+  Removes,
+  Says,
+  Stores,
+  after,
+  bind,
+  create,
+  delete,
+  delete_of,
+  edit,
+  edit_to,
+  finish,
+  get,
+  list,
+  outcome,
+  refuse,
+  update,
+  update_status,
+  with_status,
+  write_outcome,
+  written_if_fits,
+}
 use Rattle.binder_model.specs.Edits.{edited_object, with_volume_name}
 use Rattle.binder_model.specs.Fields.{changed_field, create_fault, faulty, kind_fault, pod_fault, same_pod_spec, update_fault}
 use Rattle.binder_model.specs.Imports.{imported_object}
@@ -183,7 +205,8 @@ module _ (G : List ℕ → Type 0) where
     changed_on old (Volume new) key e on = tt
     changed_on old (Claim new) key e on = tt
 
-    update_on : (kind : SeatKind) (new : Object) (given : Option ℕ) (x : Option Object) → ((o : Object) → x ≡ Some o → (key_of o ≡ key_of new) × IsOn G o) → OnOutcome (StoresOn G) (update s kind new given x)
+    update_on : (kind : SeatKind) (new : Object) (given : Option ℕ) (x : Option Object)
+        → ((o : Object) → x ≡ Some o → (key_of o ≡ key_of new) × IsOn G o) → OnOutcome (StoresOn G) (update s kind new given x)
     unfolding update
     update_on kind new given None there = says (λ r. tt) _
     update_on kind new given (Some old) there =
@@ -249,7 +272,8 @@ module _ (G : List ℕ → Type 0) where
     bind_on : (node : List ℕ) (p : Option PodData) → OnOutcome (StoresOn G) (bind s node p)
     unfolding bind
     bind_on node None = says (λ r. tt) _
-    bind_on node (Some p) = refused_or (λ r. tt) _ _ _ (refused_else _ _ _ (λ r. tt) (λ stands. record { holds = at_version_on (Pod (record p { node = node })) _ (λ some. named s.rows rows node stands some) }))
+    bind_on node (Some p) = refused_or (λ r. tt) _ _ _ (refused_else _ _ _ (λ r. tt)
+        (λ stands. record { holds = at_version_on (Pod (record p { node = node })) _ (λ some. named s.rows rows node stands some) }))
 
     finish_on : (stale : Option ℕ) (node : List ℕ) (p : Option PodData) → OnOutcome (StoresOn G) (finish s stale node p)
     unfolding finish
@@ -318,12 +342,15 @@ imported imports os (Claim x) among = tt
 rows_on : (setup : Setup) (past : List Entry) → AreOn (WasGiven setup past) (world setup past).store.rows
 rows_on setup [] = λ key o is.
     let c = import_row setup.imports setup.imports key o is in
-    subst (IsOn (WasGiven setup [])) (sym c.is) (more_on (λ node. SomeOf (GivesNode node) setup.imports) (WasGiven setup []) (λ node given. inl given) _ (imported setup.imports setup.imports c.import c.given))
+    subst (IsOn (WasGiven setup [])) (sym c.is)
+    (more_on (λ node. SomeOf (GivesNode node) setup.imports) (WasGiven setup []) (λ node given. inl given) _ (imported setup.imports setup.imports c.import c.given))
 rows_on setup (e ∷ past) =
     let w = world setup past in
-    let before : AreOn (WasGiven setup (e ∷ past)) w.store.rows = λ key o is. more_on (WasGiven setup past) (WasGiven setup (e ∷ past)) (λ node given. later node given) o (rows_on setup past key o is) in
+    let before : AreOn (WasGiven setup (e ∷ past)) w.store.rows =
+    λ key o is. more_on (WasGiven setup past) (WasGiven setup (e ∷ past)) (λ node given. later node given) o (rows_on setup past key o is) in
     after_on (WasGiven setup (e ∷ past)) w (effect setup w e.kind e.request) (rows_stand_in_order setup past)
-    (on_effects (λ r. tt) setup w e.kind e.request (λ stale. outcome_on (WasGiven setup (e ∷ past)) w.store before e.kind e.request w.moment stale (made_on (WasGiven setup (e ∷ past)) e.request (λ node made. inr (inl made))))).on before
+    (on_effects (λ r. tt) setup w e.kind e.request
+    (λ stale. outcome_on (WasGiven setup (e ∷ past)) w.store before e.kind e.request w.moment stale (made_on (WasGiven setup (e ∷ past)) e.request (λ node made. inr (inl made))))).on before
   where
     later : (node : List ℕ) → WasGiven setup past node → WasGiven setup (e ∷ past) node
     later node (inl import) = inl import

@@ -2,17 +2,17 @@
 use Rattle.std.proofs.Common.{◌≡◌, ◌≢◌, ◌∙◌, ℕ, ◌+◌, ◌*◌, ◌≤◌, List, [], ◌∷◌, length, cond, Bool, true, false, true≢false, Option, Some, None, inl, inr, refl, sym, ap, subst, arith}
 use Rattle.std.specs.Prelude.{◌⊎◌, ◌&&◌}
 use Rattle.std.proofs.lemmas.List.Sums.{sum_by-cons}
-use Rattle.kube_types.specs.declared.uid.Uid.{Uid}
-use Rattle.kube_types.specs.declared.key.Key.{Key}
-use Rattle.kube_types.specs.declared.objects.Class.{Class as ClassData}
-use Rattle.kube_types.specs.declared.objects.Claim.{Claim as ClaimData}
-use Rattle.kube_types.specs.declared.objects.DataId.{DataId}
-use Rattle.kube_types.specs.declared.objects.Volume.{Volume as VolumeData}
-use Rattle.kube_types.specs.declared.objects.Object.{Object}
-use Rattle.kube_types.specs.declared.objects.Object.TheVariants.{Class, Node, Volume, Claim, Pod}
-use Rattle.kube_types.specs.Keys.{AreRows, key_of, kind_index, kind_of, meta_of, row_at}
-use Rattle.kube_types.specs.Uids.{uid_of_serial}
-use Rattle.kube_types.proofs.KeyOrder.{row_at_key}
+use Rattle.kube_parts.specs.declared.uid.Uid.{Uid}
+use Rattle.kube_objects.specs.declared.key.Key.{Key}
+use Rattle.kube_objects.specs.declared.objects.Class.{Class as ClassData}
+use Rattle.kube_objects.specs.declared.objects.Claim.{Claim as ClaimData}
+use Rattle.kube_objects.specs.declared.objects.DataId.{DataId}
+use Rattle.kube_objects.specs.declared.objects.Volume.{Volume as VolumeData}
+use Rattle.kube_objects.specs.declared.objects.Object.{Object}
+use Rattle.kube_objects.specs.declared.objects.Object.TheVariants.{Class, Node, Volume, Claim, Pod}
+use Rattle.kube_objects.specs.Keys.{AreRows, key_of, kind_index, kind_of, meta_of, row_at}
+use Rattle.kube_parts.specs.Uids.{uid_of_serial}
+use Rattle.kube_objects.proofs.KeyOrder.{row_at_key}
 use Rattle.call_types.specs.declared.entry.Entry.{Entry}
 use Rattle.call_types.specs.declared.request.Request.{Request}
 use Rattle.call_types.specs.declared.request.Request.TheVariants as requests
@@ -129,7 +129,8 @@ unfolding marked_object
 marked_uid o n moment = ap (λ m. m.uid) (meta-with_meta o _)
 
 -- a volume that is made has the name of its data
-made_volume : (v : VolumeData) (c : ClaimData) (uid : Uid) (class : ClassData) (id : DataId) (topology : Option (List ℕ × List ℕ)) → v ≡ provisioned_volume c uid class id topology → key_of (Volume v) ≡ volume_key (data_name uid)
+made_volume : (v : VolumeData) (c : ClaimData) (uid : Uid) (class : ClassData) (id : DataId) (topology : Option (List ℕ × List ℕ))
+    → v ≡ provisioned_volume c uid class id topology → key_of (Volume v) ≡ volume_key (data_name uid)
 unfolding provisioned_volume
 made_volume v c uid class id topology is = ap (λ (x : VolumeData). key_of (Volume x)) is
 
@@ -161,9 +162,11 @@ module _ (setup : Setup) (past : List Entry) (history : IsHistory setup past) (a
 
   -- what stands at a key is placed, and so is what is written over it
   over_row : (key : Key) (old o : Object) → row_at key here.store.rows ≡ Some old → key_of o ≡ key_of old → (meta_of o).uid ≡ (meta_of old).uid → IsPlaced (given_keys setup past) o
-  over_row key old o there keyed same = over (given_keys setup past) old o keyed same (all old (stood setup past old (ap (λ k. row_at k here.store.rows) (row_at_key key old here.store.rows there) ∙ there)))
+  over_row key old o there keyed same = over (given_keys setup past) old o keyed same (all old
+      (stood setup past old (ap (λ k. row_at k here.store.rows) (row_at_key key old here.store.rows there) ∙ there)))
 
-  new_row : (x o : Object) → Licensed kind (own seat past) (requests.Create x) → key_of o ≡ key_of x → (meta_of o).uid ≡ Some (uid_of_serial (here.store.version + 1)) → (user : Bool) → is_user kind ≡ user
+  new_row : (x o : Object) → Licensed kind (own seat past) (requests.Create x) → key_of o ≡ key_of x
+      → (meta_of o).uid ≡ Some (uid_of_serial (here.store.version + 1)) → (user : Bool) → is_user kind ≡ user
       → IsPlaced (asked_keys (requests.Create x) user (here.store.version + 1) (given_keys setup past)) o
   new_row x o may keyed has true is = new_placed o (key_of x) (Some (uid_of_serial (here.store.version + 1))) (given_keys setup past) keyed has
   new_row x o may keyed has false is =
@@ -184,7 +187,8 @@ module _ (setup : Setup) (past : List Entry) (history : IsHistory setup past) (a
       (ap (λ y. (meta_of y).uid) u.is ∙ (updated_keeps u.old x (here.store.version + 1) u.fault).uid)
   wrote (requests.UpdateStatus key status given) o may i =
       let v : IsVersionOf i.old (Some i.new) = subst (IsVersionOf i.old) i.fits (status_kept status i.old) in
-      over_row key i.old o i.there (ap key_of i.is ∙ (key-at_version i.new (here.store.version + 1) ∙ v.1)) (ap (λ y. (meta_of y).uid) i.is ∙ (at_version_keeps i.old i.new (here.store.version + 1) v.0 v.2).uid)
+      over_row key i.old o i.there (ap key_of i.is ∙ (key-at_version i.new (here.store.version + 1) ∙ v.1))
+      (ap (λ y. (meta_of y).uid) i.is ∙ (at_version_keeps i.old i.new (here.store.version + 1) v.0 v.2).uid)
   wrote (requests.Edit key change) o may e =
       let u = e.update in
       over_row (key_of e.new) u.old o u.there (ap key_of u.is ∙ (key-updated u.old e.new (here.store.version + 1) ∙ sym (row_at_key (key_of e.new) u.old here.store.rows u.there)))
@@ -208,12 +212,15 @@ placed setup [] run o there =
     let c = import_row setup.imports setup.imports (key_of o) o there in
     import_placed setup.imports c.import o c.given (from_key setup.imports setup.imports o c) (from_uid setup.imports setup.imports o c)
 placed setup (e ∷ past) run o (inl earlier) =
-    more (given_keys setup past) (given_keys setup (e ∷ past)) (λ key i. wider e.request (is_user e.kind) ((world setup past).store.version + 1) (given_keys setup past) key i) o (placed setup past run.0 o earlier)
+    more (given_keys setup past) (given_keys setup (e ∷ past))
+    (λ key i. wider e.request (is_user e.kind) ((world setup past).store.version + 1) (given_keys setup past) key i) o (placed setup past run.0 o earlier)
 placed setup (e ∷ past) run o (inr now) =
     by (placed setup past run.0) ((moves setup (world setup past) e.kind e.request (rows_stand_in_order setup past)).row (key_of o) o now)
   where
-    by : ((x : Object) → Stood setup past x → IsPlaced (given_keys setup past) x) → (row_at (key_of o) (world setup past).store.rows ≡ Some o) ⊎ IsWritten (world setup past) (effect setup (world setup past) e.kind e.request) (Writes (world setup past) e.kind e.request) o → IsPlaced (given_keys setup (e ∷ past)) o
-    by all (inl before) = more (given_keys setup past) (given_keys setup (e ∷ past)) (λ key i. wider e.request (is_user e.kind) ((world setup past).store.version + 1) (given_keys setup past) key i) o (all o (stood setup past o before))
+    by : ((x : Object) → Stood setup past x → IsPlaced (given_keys setup past) x) → (row_at (key_of o) (world setup past).store.rows ≡ Some o)
+        ⊎ IsWritten (world setup past) (effect setup (world setup past) e.kind e.request) (Writes (world setup past) e.kind e.request) o → IsPlaced (given_keys setup (e ∷ past)) o
+    by all (inl before) = more (given_keys setup past) (given_keys setup (e ∷ past)) (λ key i. wider e.request (is_user e.kind)
+        ((world setup past).store.version + 1) (given_keys setup past) key i) o (all o (stood setup past o before))
     by all (inr written) = wrote setup past (runs_are_histories setup past run.0) all e.kind e.seat e.request o run.2 written.write
 
 -- ---- they are counted by their keys

@@ -38,11 +38,13 @@ pub record CostsLittle (setup : Setup) (h past : List Entry) (b left actors roun
   pub sweeps : ℕ
   pub paid : 513 * sweeps + work_left setup (world setup past) ≤ work_left setup (world setup h) + (claims_in (world setup h).store.rows + 2 * pods_size (world setup h)) * sweeps
   pub calls : b + 23 * to_write setup (world setup past)
-      ≤ left + (23 * to_write setup (world setup h) + rounds * round_calls actors (most_size (world setup h)) (pods_size (world setup h)) + 5 * ((3 * most_size (world setup h) + 3 * round_writes setup (world setup h) + 7) * sweeps))
+      ≤ left + (23 * to_write setup (world setup h) + rounds * round_calls actors (most_size (world setup h)) (pods_size (world setup h)) + 5 *
+      ((3 * most_size (world setup h) + 3 * round_writes setup (world setup h) + 7) * sweeps))
 
 abbrev pub DrainsCostLittle : Type 0
 DrainsCostLittle =
-    (setup : Setup) (lets : Lets) (ds after : List Drainer) (h past : List Entry) (b left : ℕ) → ImportsAllow setup → MayDrain setup h ds → AreAtRest ds → IsRunOf setup past → PassesReads lets → AreAlwaysInOrder setup past
+    (setup : Setup) (lets : Lets) (ds after : List Drainer) (h past : List Entry) (b left : ℕ) → ImportsAllow setup → MayDrain setup h ds
+    → AreAtRest ds → IsRunOf setup past → PassesReads lets → AreAlwaysInOrder setup past
     → pods_size (world setup h) ≤ 512 → (drained : Drains lets setup after past left ds h b) → CostsLittle setup h past b left (length ds) (rounds_in lets setup after past left ds h b drained)
 
 -- ---- the budget
@@ -63,6 +65,8 @@ most_rounds setup w = 10 * work_left setup w + 20 * size_of_world w + 10
 -- a drain of no more rounds ends settled: its actors are the five controllers, and the agents of eight nodes at most
 abbrev pub FewRoundsSettle : Type 0
 FewRoundsSettle =
-    (setup : Setup) (lets : Lets) (ds after : List Drainer) (h past : List Entry) (b left : ℕ) → ImportsAllow setup → MayDrain setup h ds → AreAtRest ds → IsRunOf setup past → PassesReads lets → AreAlwaysInOrder setup past
-    → IsSmallWorld setup (world setup h) → length ds ≤ 13 → (drained : Drains lets setup after past left ds h b) → rounds_in lets setup after past left ds h b drained ≤ most_rounds setup (world setup h)
+    (setup : Setup) (lets : Lets) (ds after : List Drainer) (h past : List Entry) (b left : ℕ) → ImportsAllow setup → MayDrain setup h ds
+    → AreAtRest ds → IsRunOf setup past → PassesReads lets → AreAlwaysInOrder setup past
+    → IsSmallWorld setup (world setup h) → length ds ≤ 13 → (drained : Drains lets setup after past left ds h b)
+    → rounds_in lets setup after past left ds h b drained ≤ most_rounds setup (world setup h)
     → enough_calls (size_of_world (world setup h)) (faults_left setup (world setup h).devices) ≤ b → IsSettled setup (world setup past)

@@ -23,7 +23,8 @@ pub record IsBounded (setup : Setup) (h past : List Entry) (b left actors : ℕ)
 
 abbrev pub RoundsAreBounded : Type 0
 RoundsAreBounded =
-    (setup : Setup) (lets : Lets) (ds after : List Drainer) (h past : List Entry) (b left : ℕ) (whole : Bool) → ImportsAllow setup → AreRoles (roles_of ds) → AreAtRest ds → IsRunOf setup past → PassesReads lets → IsRound lets past left ds h b after whole
+    (setup : Setup) (lets : Lets) (ds after : List Drainer) (h past : List Entry) (b left : ℕ) (whole : Bool) → ImportsAllow setup
+    → AreRoles (roles_of ds) → AreAtRest ds → IsRunOf setup past → PassesReads lets → IsRound lets past left ds h b after whole
     → pods_writes (world setup h) ≤ 512 → IsBounded setup h past b left (length ds)
 
 -- how many rounds the drain makes
@@ -36,7 +37,8 @@ rounds_in lets setup after past left ds h b (Goes first due some between middle 
 -- back
 abbrev pub DrainsWriteLittle : Type 0
 DrainsWriteLittle =
-    (setup : Setup) (lets : Lets) (ds after : List Drainer) (h past : List Entry) (b left : ℕ) → ImportsAllow setup → MayDrain setup h ds → AreAtRest ds → IsRunOf setup past → pods_size (world setup h) ≤ 512
+    (setup : Setup) (lets : Lets) (ds after : List Drainer) (h past : List Entry) (b left : ℕ) → ImportsAllow setup → MayDrain setup h ds
+    → AreAtRest ds → IsRunOf setup past → pods_size (world setup h) ≤ 512
     → (drained : Drains lets setup after past left ds h b)
     → writes_since setup h past + to_write setup (world setup past) ≤ to_write setup (world setup h) + rounds_in lets setup after past left ds h b drained * (2 * pods_size (world setup h))
 
@@ -54,14 +56,18 @@ DrainsMakeFewCalls =
 -- so it makes few beside its rounds
 abbrev pub DrainsAreShort : Type 0
 DrainsAreShort =
-    (setup : Setup) (lets : Lets) (ds after : List Drainer) (h past : List Entry) (b left : ℕ) → ImportsAllow setup → MayDrain setup h ds → AreAtRest ds → IsRunOf setup past → PassesReads lets → pods_size (world setup h) ≤ 512
+    (setup : Setup) (lets : Lets) (ds after : List Drainer) (h past : List Entry) (b left : ℕ) → ImportsAllow setup → MayDrain setup h ds
+    → AreAtRest ds → IsRunOf setup past → PassesReads lets → pods_size (world setup h) ≤ 512
     → (drained : Drains lets setup after past left ds h b)
-    → b ≤ left + drain_calls (length ds) (most_size (world setup h)) (rounds_in lets setup after past left ds h b drained) (to_write setup (world setup h) + rounds_in lets setup after past left ds h b drained * (2 * pods_size (world setup h)))
+    → b ≤ left + drain_calls (length ds) (most_size (world setup h)) (rounds_in lets setup after past left ds h b drained)
+    (to_write setup (world setup h) + rounds_in lets setup after past left ds h b drained * (2 * pods_size (world setup h)))
 
 -- and a drain whose budget is greater than what its rounds may cost ends settled
 abbrev pub ShortDrainsSettle : Type 0
 ShortDrainsSettle =
-    (setup : Setup) (lets : Lets) (ds after : List Drainer) (h past : List Entry) (b left : ℕ) → ImportsAllow setup → MayDrain setup h ds → AreAtRest ds → IsRunOf setup past → PassesReads lets → pods_size (world setup h) ≤ 512
+    (setup : Setup) (lets : Lets) (ds after : List Drainer) (h past : List Entry) (b left : ℕ) → ImportsAllow setup → MayDrain setup h ds
+    → AreAtRest ds → IsRunOf setup past → PassesReads lets → pods_size (world setup h) ≤ 512
     → (drained : Drains lets setup after past left ds h b)
-    → drain_calls (length ds) (most_size (world setup h)) (rounds_in lets setup after past left ds h b drained) (to_write setup (world setup h) + rounds_in lets setup after past left ds h b drained * (2 * pods_size (world setup h))) < b
+    → drain_calls (length ds) (most_size (world setup h)) (rounds_in lets setup after past left ds h b drained)
+    (to_write setup (world setup h) + rounds_in lets setup after past left ds h b drained * (2 * pods_size (world setup h))) < b
     → IsSettled setup (world setup past)

@@ -1,14 +1,14 @@
 -- How the rounds of a drain are counted by what is left to do and by the nodes that are still to be tried: what tries must be for that.
 -- A choice of this project.
 use Rattle.std.specs.Prelude.{ℕ, ◌≡◌, ◌≢◌, ◌⊎◌, ◌≤◌, ◌+◌, Bool, true, false, not, List, Option, Some, length}
-use Rattle.kube_types.specs.declared.key.Key.{Key}
-use Rattle.kube_types.specs.declared.names.Due.{Due}
-use Rattle.kube_types.specs.declared.objects.Claim.{Claim as ClaimData}
-use Rattle.kube_types.specs.declared.objects.Pod.{Pod as PodData}
-use Rattle.kube_types.specs.declared.objects.Object.{Object}
-use Rattle.kube_types.specs.declared.objects.Object.TheVariants.{Class, Pod}
-use Rattle.kube_types.specs.Bindings.{class_of_claim, is_completed, is_scheduled}
-use Rattle.kube_types.specs.Keys.{row_at}
+use Rattle.kube_objects.specs.declared.key.Key.{Key}
+use Rattle.kube_parts.specs.declared.names.Due.{Due}
+use Rattle.kube_objects.specs.declared.objects.Claim.{Claim as ClaimData}
+use Rattle.kube_objects.specs.declared.objects.Pod.{Pod as PodData}
+use Rattle.kube_objects.specs.declared.objects.Object.{Object}
+use Rattle.kube_objects.specs.declared.objects.Object.TheVariants.{Class, Pod}
+use Rattle.kube_objects.specs.Bindings.{class_of_claim, is_completed, is_scheduled}
+use Rattle.kube_objects.specs.Keys.{row_at}
 use Rattle.call_types.specs.declared.entry.Entry.{Entry}
 use Rattle.call_types.specs.declared.setup.Setup.{Setup}
 use Rattle.binder_model.specs.Choice.{claim_named}
@@ -43,13 +43,15 @@ is_immediate o = false
 -- each claim that two pods without a node name is completed, or has a class that binds at once: else these pods might move it for ever
 abbrev pub SharesWell : World → Type 0
 SharesWell w =
-    (first second : Key) (namespace name : List ℕ) (c : ClaimData) → WaitingPodNames w first namespace name → WaitingPodNames w second namespace name → first ≢ second → claim_named w.store.rows namespace name ≡ Some c
+    (first second : Key) (namespace name : List ℕ) (c : ClaimData) → WaitingPodNames w first namespace name → WaitingPodNames w second namespace name
+    → first ≢ second → claim_named w.store.rows namespace name ≡ Some c
     → (is_completed c ≡ true) ⊎ (is_immediate (row_at (class_key (class_of_claim c)) w.store.rows) ≡ true)
 
 -- whole rounds, one after the other, from these drainers and entries on: each begins with something due and leaves as much to do
 pub data AreQuiet (setup : Setup) (ds : List Drainer) (h : List Entry) : ℕ → List Drainer → List Entry → Type 0 where
   NoRound : {rounds : ℕ} {after : List Drainer} {past : List Entry} → rounds ≡ 0 → after ≡ ds → past ≡ h → AreQuiet setup ds h rounds after past
-  OneMore : {rounds : ℕ} {after : List Drainer} {past : List Entry} (before : ℕ) (between : List Drainer) (middle : List Entry) (b left : ℕ) (first : Key × Due) → rounds ≡ before + 1 → AreQuiet setup ds h before between middle → IsFirstDue setup (world setup middle) (Some first)
+  OneMore : {rounds : ℕ} {after : List Drainer} {past : List Entry} (before : ℕ) (between : List Drainer) (middle : List Entry) (b left : ℕ)
+      (first : Key × Due) → rounds ≡ before + 1 → AreQuiet setup ds h before between middle → IsFirstDue setup (world setup middle) (Some first)
       → IsRound all_pass past left between middle b after true → work_left setup (world setup past) ≡ work_left setup (world setup middle) → AreQuiet setup ds h rounds after past
 
 -- from here on no more than so many come after one another
@@ -60,17 +62,21 @@ AreFew setup ds h most = (after : List Drainer) (past : List Entry) (rounds : �
 -- behind a whole round of it. A round leaves the claims shared so
 pub record AreTries (setup : Setup) : Type 0 where
   pub first : (ds : List Drainer) (h : List Entry) → ImportsAllow setup → MaySettle setup ds h → length ds ≤ 13 → SharesWell (world setup h) → AreFew setup ds h 10
-  pub next : (ds after : List Drainer) (h past : List Entry) (b left : ℕ) → ImportsAllow setup → MaySettle setup ds h → length ds ≤ 13 → IsRunOf setup past → IsRound all_pass past left ds h b after true → SharesWell (world setup past) → AreFew setup after past 9
-  pub shares : (ds after : List Drainer) (h past : List Entry) (b left : ℕ) → MaySettle setup ds h → IsRunOf setup past → IsRound all_pass past left ds h b after true → SharesWell (world setup h) → SharesWell (world setup past)
+  pub next : (ds after : List Drainer) (h past : List Entry) (b left : ℕ) → ImportsAllow setup → MaySettle setup ds h → length ds ≤ 13
+      → IsRunOf setup past → IsRound all_pass past left ds h b after true → SharesWell (world setup past) → AreFew setup after past 9
+  pub shares : (ds after : List Drainer) (h past : List Entry) (b left : ℕ) → MaySettle setup ds h → IsRunOf setup past
+      → IsRound all_pass past left ds h b after true → SharesWell (world setup h) → SharesWell (world setup past)
 
 -- then a drain makes no more rounds than one and the measure, with ten nodes to be tried
 abbrev pub RoundsAreMeasured : Type 0
 RoundsAreMeasured =
-    (setup : Setup) → AreTries setup → (ds after : List Drainer) (h past : List Entry) (b left : ℕ) → ImportsAllow setup → MaySettle setup ds h → length ds ≤ 13 → SharesWell (world setup h) → IsRunOf setup past → AreAlwaysInOrder setup past
+    (setup : Setup) → AreTries setup → (ds after : List Drainer) (h past : List Entry) (b left : ℕ) → ImportsAllow setup → MaySettle setup ds h
+    → length ds ≤ 13 → SharesWell (world setup h) → IsRunOf setup past → AreAlwaysInOrder setup past
     → (drained : Drains all_pass setup after past left ds h b) → rounds_in all_pass setup after past left ds h b drained ≤ 1 + measure (work_left setup (world setup h)) 10
 
 -- and ends settled
 abbrev pub MeasuredDrainsSettle : Type 0
 MeasuredDrainsSettle =
-    (setup : Setup) → AreTries setup → (ds after : List Drainer) (h past : List Entry) (b left : ℕ) → ImportsAllow setup → MaySettle setup ds h → SharesWell (world setup h) → HasBudget setup ds h b → IsRunOf setup past → AreAlwaysInOrder setup past
+    (setup : Setup) → AreTries setup → (ds after : List Drainer) (h past : List Entry) (b left : ℕ) → ImportsAllow setup → MaySettle setup ds h
+    → SharesWell (world setup h) → HasBudget setup ds h b → IsRunOf setup past → AreAlwaysInOrder setup past
     → Drains all_pass setup after past left ds h b → IsSettled setup (world setup past)

@@ -1,7 +1,7 @@
 -- How many rounds a drain makes: each lowers what may still be written, or selects a node.
 -- A choice of this project.
 use Rattle.std.specs.Prelude.{ℕ, ◌≡◌, ◌≤◌, ◌+◌, ◌*◌, Bool, List, [], ◌∷◌, ◌++◌, Some, slice_get, ⊤}
-use Rattle.kube_types.specs.declared.objects.Object.TheVariants.{Claim}
+use Rattle.kube_objects.specs.declared.objects.Object.TheVariants.{Claim}
 use Rattle.call_types.specs.declared.entry.Entry.{Entry}
 use Rattle.call_types.specs.declared.request.Request.{Request}
 use Rattle.call_types.specs.declared.request.Request.TheVariants.{Update}
@@ -64,7 +64,8 @@ AreNodesApart roles = (i j : ℕ) (node : List ℕ) → slice_get roles i ≡ So
 -- a round leaves it so
 abbrev pub RoundsServeNodes : Type 0
 RoundsServeNodes =
-    (setup : Setup) (lets : Lets) (ds after : List Drainer) (h past : List Entry) (b left : ℕ) (whole : Bool) → IsRunOf setup past → AreRoles (roles_of ds) → AreNodesApart (roles_of ds) → IsRound lets past left ds h b after whole
+    (setup : Setup) (lets : Lets) (ds after : List Drainer) (h past : List Entry) (b left : ℕ) (whole : Bool) → IsRunOf setup past
+    → AreRoles (roles_of ds) → AreNodesApart (roles_of ds) → IsRound lets past left ds h b after whole
     → AreNodesServed setup ds h → AreNodesServed setup after past
 
 -- ---- rounds
@@ -80,5 +81,6 @@ pub record MaySettle (setup : Setup) (ds : List Drainer) (h : List Entry) : Type
 -- it makes few rounds: the last may have spent the budget, and each other lowers what may still be written, or selects a node
 abbrev pub RoundsAreCounted : Type 0
 RoundsAreCounted =
-    (setup : Setup) (ds after : List Drainer) (h past newer : List Entry) (b left : ℕ) → ImportsAllow setup → MaySettle setup ds h → IsRunOf setup past → past ≡ newer ++ h → (drained : Drains all_pass setup after past left ds h b)
+    (setup : Setup) (ds after : List Drainer) (h past newer : List Entry) (b left : ℕ) → ImportsAllow setup → MaySettle setup ds h
+    → IsRunOf setup past → past ≡ newer ++ h → (drained : Drains all_pass setup after past left ds h b)
     → rounds_in all_pass setup after past left ds h b drained + to_write setup (world setup past) ≤ 1 + to_write setup (world setup h) + 2 * selected_in newer

@@ -1,8 +1,8 @@
 -- A drain ends settled with the stated budget, where it selects few nodes; so where no class binds late and provisions.
 -- A choice of this project.
 use Rattle.std.specs.Prelude.{ℕ, ◌≡◌, ◌≤◌, ◌+◌, ◌*◌, true, false, List, ◌++◌, Some, length, slice_get}
-use Rattle.kube_types.specs.declared.objects.Class.{Class as ClassData}
-use Rattle.kube_types.specs.declared.objects.Object.TheVariants.{Class}
+use Rattle.kube_objects.specs.declared.objects.Class.{Class as ClassData}
+use Rattle.kube_objects.specs.declared.objects.Object.TheVariants.{Class}
 use Rattle.call_types.specs.declared.entry.Entry.{Entry}
 use Rattle.call_types.specs.declared.setup.Setup.{Setup}
 use Rattle.binder_model.specs.Due.{IsSettled}
@@ -30,7 +30,8 @@ pub record HasBudget (setup : Setup) (ds : List Drainer) (h : List Entry) (b : �
 -- the scheduler asks for no more nodes than nine for each object and each claim that a pod names, and four for each thing that is left to do
 abbrev pub FewSelectionsSettle : Type 0
 FewSelectionsSettle =
-    (setup : Setup) (ds after : List Drainer) (h past newer : List Entry) (b left : ℕ) → ImportsAllow setup → MaySettle setup ds h → HasBudget setup ds h b → IsRunOf setup past → AreAlwaysInOrder setup past → past ≡ newer ++ h
+    (setup : Setup) (ds after : List Drainer) (h past newer : List Entry) (b left : ℕ) → ImportsAllow setup → MaySettle setup ds h
+    → HasBudget setup ds h b → IsRunOf setup past → AreAlwaysInOrder setup past → past ≡ newer ++ h
     → selected_in newer ≤ 9 * size_of_world (world setup h) + 4 * work_left setup (world setup h) → Drains all_pass setup after past left ds h b → IsSettled setup (world setup past)
 
 -- no class that ever stood both binds late and provisions: the volumes of each class that waits for a pod are made by hand
@@ -51,5 +52,6 @@ pub record AreFresh (setup : Setup) (first : ℕ) (nodes : List (List ℕ)) (ds 
 
 abbrev pub NewDrainsSettle : Type 0
 NewDrainsSettle =
-    (setup : Setup) (first : ℕ) (nodes : List (List ℕ)) (ds after : List Drainer) (h past : List Entry) (b left : ℕ) → ImportsAllow setup → IsRunOf setup h → AreFresh setup first nodes ds h → HasBudget setup ds h b → IsRunOf setup past → AreAlwaysInOrder setup past
+    (setup : Setup) (first : ℕ) (nodes : List (List ℕ)) (ds after : List Drainer) (h past : List Entry) (b left : ℕ) → ImportsAllow setup
+    → IsRunOf setup h → AreFresh setup first nodes ds h → HasBudget setup ds h b → IsRunOf setup past → AreAlwaysInOrder setup past
     → NoneProvisionsLate setup past → Drains all_pass setup after past left ds h b → IsSettled setup (world setup past)

@@ -2,10 +2,10 @@
 use Rattle.std.proofs.Common.{◌≡◌, ◌∙◌, ◌⊎◌, ℕ, ◌+◌, ◌≤◌, ◌<◌, List, ◌∷◌, Bool, true, false, true≢false, Some, None, inl, inr, refl, sym, ap, subst, arith}
 use Rattle.std.specs.Prelude.{nat_lt}
 use Rattle.std.proofs.lemmas.Bool.Decides.{nat_tests}
-use Rattle.kube_types.specs.declared.parts.Kind.{Kind}
-use Rattle.kube_types.specs.declared.objects.Object.{Object}
-use Rattle.kube_types.specs.Keys.{key_of, put_row, same_kind, without_row}
-use Rattle.kube_types.proofs.SameKeys.{same_kind-Decides}
+use Rattle.kube_parts.specs.declared.parts.Kind.{Kind}
+use Rattle.kube_objects.specs.declared.objects.Object.{Object}
+use Rattle.kube_objects.specs.Keys.{key_of, put_row, same_kind, without_row}
+use Rattle.kube_objects.proofs.SameKeys.{same_kind-Decides}
 use Rattle.call_types.specs.declared.entry.Entry.{Entry}
 use Rattle.call_types.specs.declared.reply.Event.{Event}
 use Rattle.call_types.specs.declared.reply.Refusal.TheVariants as refusals
@@ -45,7 +45,8 @@ pub record Wrote (old new : World) (reply : Reply) : Type 0 where
   pub version : new.store.version ≡ old.store.version + 1
   pub log : new.log ≡ event ∷ old.log
   pub at : event.version ≡ old.store.version + 1
-  pub rows : ((reply ≡ replies.Done event.object) × (new.store.rows ≡ put_row event.object old.store.rows)) ⊎ ((reply ≡ replies.Left event.object) × (new.store.rows ≡ without_row (key_of event.object) old.store.rows))
+  pub rows : ((reply ≡ replies.Done event.object) × (new.store.rows ≡ put_row event.object old.store.rows))
+      ⊎ ((reply ≡ replies.Left event.object) × (new.store.rows ≡ without_row (key_of event.object) old.store.rows))
 
 abbrev is_asked_delete : Request → Bool
 is_asked_delete (requests.Delete key given) = true
@@ -66,7 +67,8 @@ done_is_one (requests.BindPod key uid node) _ = inl refl
 done_is_one _ (replies.Done x) = inr (refl, (x, refl))
 done_is_one _ _ = inl refl
 
-wrote_by : (w : World) (x : Effect) → OfStore (NextOf (w.store.version + 1)) x → (((world_after w x).store.version ≡ w.store.version) × ((world_after w x).store.rows ≡ w.store.rows) × ((world_after w x).log ≡ w.log)) ⊎ Wrote w (world_after w x) (reply_to x)
+wrote_by : (w : World) (x : Effect) → OfStore (NextOf (w.store.version + 1)) x
+    → (((world_after w x).store.version ≡ w.store.version) × ((world_after w x).store.rows ≡ w.store.rows) × ((world_after w x).log ≡ w.log)) ⊎ Wrote w (world_after w x) (reply_to x)
 unfolding world_after after log_after reply_to reply_of
 wrote_by w (OnStore (Says reply)) n = inl (refl, refl, refl)
 wrote_by w (OnStore (Stores change o)) n = inr (record { event = _; version = refl; log = refl; at = n; rows = inl (refl, refl) })
@@ -74,13 +76,15 @@ wrote_by w (OnStore (Removes o)) n = inr (record { event = _; version = refl; lo
 wrote_by w (OnDevices a) n = inl (refl, refl, refl)
 wrote_by w (SetsMoment at) n = inl (refl, refl, refl)
 
-pub world_moves : (setup : Setup) (e : Entry) (past : List Entry) → e.reply ≡ reply_to (effect setup (world setup past) e.kind e.request) → Stays (world setup past) (world setup (e ∷ past)) e.request e.reply ⊎ Wrote (world setup past) (world setup (e ∷ past)) e.reply
+pub world_moves : (setup : Setup) (e : Entry) (past : List Entry) → e.reply ≡ reply_to (effect setup (world setup past) e.kind e.request)
+    → Stays (world setup past) (world setup (e ∷ past)) e.request e.reply ⊎ Wrote (world setup past) (world setup (e ∷ past)) e.reply
 world_moves setup e past answered = elim (wrote_by (world setup past) (effect setup (world setup past) e.kind e.request) (next_of setup e past)) [
   | inl kept ↦ inl (record { rows = kept.1; version = kept.0; log = kept.2; none = none kept.0 (done_is_one e.request e.reply) })
   | inr wrote ↦ inr (subst (Wrote (world setup past) (world setup (e ∷ past))) (sym answered) wrote)
 ]
   where
-    none : (world setup (e ∷ past)).store.version ≡ (world setup past).store.version → (done_by e.request e.reply ≡ 0) ⊎ ((is_asked_delete e.request ≡ false) × ((o : Object) × (e.reply ≡ replies.Done o))) → done_by e.request e.reply ≡ 0
+    none : (world setup (e ∷ past)).store.version ≡ (world setup past).store.version → (done_by e.request e.reply ≡ 0)
+        ⊎ ((is_asked_delete e.request ≡ false) × ((o : Object) × (e.reply ≡ replies.Done o))) → done_by e.request e.reply ≡ 0
     none same (inl is) = is
     none same (inr d) =
         let again = done_writes_or_deletes_again setup (world setup past) e.kind e.request d.1.0 (sym answered ∙ d.1.1) same in
@@ -92,11 +96,13 @@ pub data WatchSays (setup : Setup) (w : World) (kind : Kind) (from : ℕ) (reply
   IsGone : from < oldest (base setup) w.store.version → (version : ℕ) → reply ≡ replies.Refused (refusals.Gone version) → WatchSays setup w kind from reply
   Tells : oldest (base setup) w.store.version ≤ from → reply ≡ replies.Events (told_events kind from w.store.version w.log) → WatchSays setup w kind from reply
 
-pub watch_says : (setup : Setup) (w : World) (seat_kind : SeatKind) (kind : Kind) (from : ℕ) → from ≤ w.store.version → WatchSays setup w kind from (reply_to (effect setup w seat_kind (requests.Watch kind from)))
+pub watch_says : (setup : Setup) (w : World) (seat_kind : SeatKind) (kind : Kind) (from : ℕ) → from ≤ w.store.version
+    → WatchSays setup w kind from (reply_to (effect setup w seat_kind (requests.Watch kind from)))
 unfolding effect watch reply_to reply_of
 watch_says setup w seat_kind kind from low = by (nat_lt w.store.version from) (nat_lt from (oldest (base setup) w.store.version)) refl refl
   where
-    by : (a b : Bool) → nat_lt w.store.version from ≡ a → nat_lt from (oldest (base setup) w.store.version) ≡ b → WatchSays setup w kind from (reply_to (effect setup w seat_kind (requests.Watch kind from)))
+    by : (a b : Bool) → nat_lt w.store.version from ≡ a → nat_lt from (oldest (base setup) w.store.version) ≡ b
+        → WatchSays setup w kind from (reply_to (effect setup w seat_kind (requests.Watch kind from)))
     by true b ea eb = absurd (grind (arith, nat_tests, ea, low))
     by false true ea eb = rw (ea, eb) (IsGone (grind (arith, nat_tests, eb)) _ refl)
     by false false ea eb = rw (ea, eb) (Tells (grind (arith, nat_tests, eb)) refl)
@@ -105,7 +111,8 @@ watch_says setup w seat_kind kind from low = by (nat_lt w.store.version from) (n
 
 module _ (seat : ℕ) (e : Entry) (h : List Entry) (mine : e.seat ≡ seat) (told : e.told ≡ true) where
   on : (kind : Kind) → from_of seat (e ∷ h) kind ≡ watch_from (follow_on e.request e.reply kind (following_of (own seat h) kind))
-  on kind = ap (λ m. watch_from (following_of m kind)) (own_mine e h seat mine) ∙ (let f : following_of (e ∷ own seat h) kind ≡ follow_on e.request e.reply kind (following_of (own seat h) kind) = rw told refl in ap watch_from f)
+  on kind = ap (λ m. watch_from (following_of m kind)) (own_mine e h seat mine)
+      ∙ (let f : following_of (e ∷ own seat h) kind ≡ follow_on e.request e.reply kind (following_of (own seat h) kind) = rw told refl in ap watch_from f)
 
   unread_on : (kind : Kind) (request : Request) (reply : Reply) (f : Following) → reads_kind kind request ≡ false → follow_on request reply kind f ≡ f
   unread_on kind (requests.List k None) (replies.Listed items version) f unread = rw unread refl
@@ -122,21 +129,27 @@ module _ (seat : ℕ) (e : Entry) (h : List Entry) (mine : e.seat ≡ seat) (tol
   pub listed_from : (kind : Kind) (items : List Object) (version : ℕ) → e.request ≡ requests.List kind None → e.reply ≡ replies.Listed items version → from_of seat (e ∷ h) kind ≡ Some version
   listed_from kind items version er ea =
       let same : same_kind kind kind ≡ true = (same_kind-Decides kind kind).1 refl in
-      on kind ∙ (ap (λ r. watch_from (follow_on r e.reply kind (following_of (own seat h) kind))) er ∙ (ap (λ a. watch_from (follow_on (requests.List kind None) a kind (following_of (own seat h) kind))) ea ∙ rw same refl))
+      on kind ∙ (ap (λ r. watch_from (follow_on r e.reply kind (following_of (own seat h) kind))) er
+      ∙ (ap (λ a. watch_from (follow_on (requests.List kind None) a kind (following_of (own seat h) kind))) ea ∙ rw same refl))
 
   pub gone_from : (kind : Kind) (from version : ℕ) → e.request ≡ requests.Watch kind from → e.reply ≡ replies.Refused (refusals.Gone version) → from_of seat (e ∷ h) kind ≡ None
   gone_from kind from version er ea =
       let same : same_kind kind kind ≡ true = (same_kind-Decides kind kind).1 refl in
-      on kind ∙ (ap (λ r. watch_from (follow_on r e.reply kind (following_of (own seat h) kind))) er ∙ (ap (λ a. watch_from (follow_on (requests.Watch kind from) a kind (following_of (own seat h) kind))) ea ∙ rw same refl))
+      on kind ∙ (ap (λ r. watch_from (follow_on r e.reply kind (following_of (own seat h) kind))) er
+      ∙ (ap (λ a. watch_from (follow_on (requests.Watch kind from) a kind (following_of (own seat h) kind))) ea ∙ rw same refl))
 
   reached : (f : Following) (from upto : ℕ) → watch_from f ≡ Some from → watch_from (reached_on upto f) ≡ Some upto
   reached Unlisted from upto is = none_some is
   reached (ListedAt version None) from upto is = refl
   reached (ListedAt version (Some r)) from upto is = refl
 
-  pub watched_from : (kind : Kind) (from low high : ℕ) (log : List Event) → e.request ≡ requests.Watch kind from → e.reply ≡ replies.Events (told_events kind low high log) → from_of seat h kind ≡ Some from
+  pub watched_from : (kind : Kind) (from low high : ℕ) (log : List Event) → e.request ≡ requests.Watch kind from
+      → e.reply ≡ replies.Events (told_events kind low high log) → from_of seat h kind ≡ Some from
       → from_of seat (e ∷ h) kind ≡ Some (told_events kind low high log).upto
   watched_from kind from low high log er ea at =
       let same : same_kind kind kind ≡ true = (same_kind-Decides kind kind).1 refl in
-      let is : follow_on (requests.Watch kind from) (replies.Events (told_events kind low high log)) kind (following_of (own seat h) kind) ≡ reached_on (told_events kind low high log).upto (following_of (own seat h) kind) = rw same refl in
-      on kind ∙ (ap (λ r. watch_from (follow_on r e.reply kind (following_of (own seat h) kind))) er ∙ (ap (λ a. watch_from (follow_on (requests.Watch kind from) a kind (following_of (own seat h) kind))) ea ∙ (ap watch_from is ∙ reached (following_of (own seat h) kind) from (told_events kind low high log).upto at)))
+      let is : follow_on (requests.Watch kind from) (replies.Events (told_events kind low high log)) kind
+      (following_of (own seat h) kind) ≡ reached_on (told_events kind low high log).upto (following_of (own seat h) kind) = rw same refl in
+      on kind ∙ (ap (λ r. watch_from (follow_on r e.reply kind (following_of (own seat h) kind))) er
+      ∙ (ap (λ a. watch_from (follow_on (requests.Watch kind from) a kind (following_of (own seat h) kind))) ea
+      ∙ (ap watch_from is ∙ reached (following_of (own seat h) kind) from (told_events kind low high log).upto at)))

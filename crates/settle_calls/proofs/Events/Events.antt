@@ -5,8 +5,8 @@ use Rattle.std.proofs.lemmas.Bool.Decides.{nat_tests}
 use Rattle.std.proofs.lemmas.Grind.{reverse_onto}
 use Rattle.std.proofs.lemmas.List.{length-reverse}
 use Rattle.std.proofs.lemmas.List.Elements.{filter-append}
-use Rattle.kube_types.specs.declared.parts.Kind.{Kind}
-use Rattle.kube_types.specs.Keys.{is_of_kind}
+use Rattle.kube_parts.specs.declared.parts.Kind.{Kind}
+use Rattle.kube_objects.specs.Keys.{is_of_kind}
 use Rattle.call_types.specs.declared.entry.Entry.{Entry}
 use Rattle.call_types.specs.declared.reply.Event.{Event}
 use Rattle.call_types.specs.declared.setup.Setup.{Setup}
@@ -45,7 +45,8 @@ falling : (setup : Setup) (past : List Entry) → AreFalling (world setup past).
 falling setup [] = tt
 falling setup (e ∷ past) = elim (versions_count_writes setup (world setup past) e.kind e.request) [
   | inl kept ↦ subst AreFalling (sym kept.log) (falling setup past)
-  | inr wrote ↦ subst AreFalling (sym wrote.log) (subst (λ n. AreBelow n (world setup past).log) (sym (wrote.at ∙ wrote.next)) (below_all (world setup past).store.version (world setup past).log (logs setup past 0)), falling setup past)
+  | inr wrote ↦ subst AreFalling (sym wrote.log)
+      (subst (λ n. AreBelow n (world setup past).log) (sym (wrote.at ∙ wrote.next)) (below_all (world setup past).store.version (world setup past).log (logs setup past 0)), falling setup past)
 ]
 
 below_filter : (n : ℕ) (p : Event → Bool) (es : List Event) → AreBelow n es → AreBelow n (filter p es)
@@ -136,7 +137,8 @@ above_later kind from upto [] le = refl
 above_later kind from upto (e ∷ es) le = by (nat_lt from e.version) (nat_lt upto e.version) (is_of_kind kind e.object) refl refl (above_later kind from upto es le)
   where
     by : (a b c : Bool) → nat_lt from e.version ≡ a → nat_lt upto e.version ≡ b → above_in upto (filter (is_later kind from) es) ≡ pending kind upto es
-        → above_in upto (cond (a && c) (e ∷ filter (is_later kind from) es) (filter (is_later kind from) es)) ≡ length (cond (b && c) (e ∷ filter (is_later kind upto) es) (filter (is_later kind upto) es))
+        → above_in upto (cond (a && c) (e ∷ filter (is_later kind from) es) (filter (is_later kind from) es)) ≡ length
+        (cond (b && c) (e ∷ filter (is_later kind upto) es) (filter (is_later kind upto) es))
     by true true true ea eb h = rw eb (ap suc h)
     by true false true ea eb h = rw eb h
     by false true true ea eb h = absurd (grind (arith, nat_tests, ea, eb, le))
@@ -186,7 +188,8 @@ pub told_so : WatchesTellLess
 told_so setup past kind from full low is = by full is
   where
     rising : AreRising from (reverse (filter (is_later kind from) (world setup past).log))
-    rising = rising_reverse from (filter (is_later kind from) (world setup past).log) (falling_filter (is_later kind from) (world setup past).log (falling setup past)) (above_filter kind from (world setup past).log)
+    rising = rising_reverse from (filter (is_later kind from) (world setup past).log)
+        (falling_filter (is_later kind from) (world setup past).log (falling setup past)) (above_filter kind from (world setup past).log)
 
     all : length (reverse (filter (is_later kind from) (world setup past).log)) ≡ pending kind from (world setup past).log
     all = length-reverse (filter (is_later kind from) (world setup past).log)
@@ -196,16 +199,20 @@ told_so setup past kind from full low is = by full is
         let f = first_of from most_events (reverse (filter (is_later kind from) (world setup past).log)) rising in
         let up = f.up in let fewer = f.fewer in
         let n : length (told kind from (world setup past).log) ≡ most_events = grind (arith, nat_tests, e) in
-        let last : last_version (world setup past).store.version (told kind from (world setup past).log) ≡ last_version from (told kind from (world setup past).log) = last_any _ _ (told kind from (world setup past).log) (omega (arith, n)) in
+        let last : last_version (world setup past).store.version (told kind from (world setup past).log) ≡ last_version from
+        (told kind from (world setup past).log) = last_any _ _ (told kind from (world setup past).log) (omega (arith, n)) in
         let upto : (told_events kind from (world setup past).store.version (world setup past).log).upto ≡ last_version from (told kind from (world setup past).log) = rw e last in
-        let count : above_in (last_version from (told kind from (world setup past).log)) (reverse (filter (is_later kind from) (world setup past).log)) ≡ pending kind (last_version from (told kind from (world setup past).log)) (world setup past).log =
+        let count : above_in (last_version from (told kind from (world setup past).log))
+        (reverse (filter (is_later kind from) (world setup past).log)) ≡ pending kind (last_version from (told kind from (world setup past).log)) (world setup past).log =
         above_reverse _ (filter (is_later kind from) (world setup past).log) ∙ above_later kind from _ (world setup past).log (omega (arith, up)) in
-        let at : pending kind (told_events kind from (world setup past).store.version (world setup past).log).upto (world setup past).log ≡ pending kind (last_version from (told kind from (world setup past).log)) (world setup past).log = ap (λ u. pending kind u (world setup past).log) upto in
+        let at : pending kind (told_events kind from (world setup past).store.version (world setup past).log).upto
+        (world setup past).log ≡ pending kind (last_version from (told kind from (world setup past).log)) (world setup past).log = ap (λ u. pending kind u (world setup past).log) upto in
         record { fewer = omega (arith, fewer, count, at, all); reached = λ h. omega (arith, up, n, upto); whole = λ h. absurd (true≢false h) }
     by false e =
         let upto : (told_events kind from (world setup past).store.version (world setup past).log).upto ≡ (world setup past).store.version = rw e refl in
         let none = none_pending kind (world setup past).store.version (world setup past).store.version (world setup past).log (omega arith) (logs setup past 0) in
-        let at : pending kind (told_events kind from (world setup past).store.version (world setup past).log).upto (world setup past).log ≡ pending kind (world setup past).store.version (world setup past).log = ap (λ u. pending kind u (world setup past).log) upto in
+        let at : pending kind (told_events kind from (world setup past).store.version (world setup past).log).upto
+        (world setup past).log ≡ pending kind (world setup past).store.version (world setup past).log = ap (λ u. pending kind u (world setup past).log) upto in
         let few = take_few most_events (reverse (filter (is_later kind from) (world setup past).log)) in
         record { fewer = omega (arith, none, at, few, all); reached = λ h. absurd (true≢false (sym h)); whole = λ h. upto }
 
@@ -241,7 +248,8 @@ pub told_or_later : (setup : Setup) (past : List Entry) (kind : Kind) (from : �
 told_or_later setup past kind from y low i later = by (length (told kind from (world setup past).log) == most_events) refl
   where
     rising : AreRising from (reverse (filter (is_later kind from) (world setup past).log))
-    rising = rising_reverse from (filter (is_later kind from) (world setup past).log) (falling_filter (is_later kind from) (world setup past).log (falling setup past)) (above_filter kind from (world setup past).log)
+    rising = rising_reverse from (filter (is_later kind from) (world setup past).log)
+        (falling_filter (is_later kind from) (world setup past).log (falling setup past)) (above_filter kind from (world setup past).log)
 
     there : IsIn y (reverse (filter (is_later kind from) (world setup past).log))
     there = in_reverse y (filter (is_later kind from) (world setup past).log) (in_filter (is_later kind from) y (world setup past).log i later)
@@ -251,10 +259,12 @@ told_or_later setup past kind from y low i later = by (length (told kind from (w
     whole (suc n) [] e = refl
     whole (suc n) (x ∷ xs) e = ap (λ zs. x ∷ zs) (whole n xs (grind (arith, nat_tests, e)))
 
-    by : (b : Bool) → (length (told kind from (world setup past).log) == most_events) ≡ b → IsIn y (told kind from (world setup past).log) ⊎ ((told_events kind from (world setup past).store.version (world setup past).log).upto < y.version)
+    by : (b : Bool) → (length (told kind from (world setup past).log) == most_events) ≡ b → IsIn y (told kind from (world setup past).log)
+        ⊎ ((told_events kind from (world setup past).store.version (world setup past).log).upto < y.version)
     by true e =
         let n : length (told kind from (world setup past).log) ≡ most_events = grind (arith, nat_tests, e) in
-        let last : last_version (world setup past).store.version (told kind from (world setup past).log) ≡ last_version from (told kind from (world setup past).log) = last_any _ _ (told kind from (world setup past).log) (omega (arith, n)) in
+        let last : last_version (world setup past).store.version (told kind from (world setup past).log) ≡ last_version from
+        (told kind from (world setup past).log) = last_any _ _ (told kind from (world setup past).log) (omega (arith, n)) in
         let upto : (told_events kind from (world setup past).store.version (world setup past).log).upto ≡ last_version from (told kind from (world setup past).log) = rw e last in
         elim (first_or_later from most_events (reverse (filter (is_later kind from) (world setup past).log)) y rising there) [ inl t ↦ inl t | inr late ↦ inr (omega (arith, upto, late)) ]
     by false e = inl (subst (IsIn y) (sym (whole most_events (reverse (filter (is_later kind from) (world setup past).log)) e)) there)

@@ -2,12 +2,12 @@
 use Rattle.std.proofs.Common.{◌≡◌, ◌≢◌, ◌∙◌, ◌⊎◌, ℕ, ◌+◌, ◌*◌, ◌-◌, ◌≤◌, ◌<◌, List, [], ◌∷◌, ◌++◌, Bool, true, false, true≢false, Option, Some, None, inl, inr, refl, sym, ap, subst, arith}
 use Rattle.std.specs.Prelude.{◌/◌, ◌||◌, map}
 use Rattle.std.specs.List.{list_any}
-use Rattle.kube_types.specs.declared.key.Key.{Key}
-use Rattle.kube_types.specs.declared.parts.Kind.{Kind}
-use Rattle.kube_types.specs.declared.objects.Object.{Object}
-use Rattle.kube_types.specs.Keys.{key_of, kind_of, put_row, row_at, same_key, without_row}
-use Rattle.kube_types.proofs.KeyOrder.{row_at-put_row, row_at-put_row_other, row_at-without_row, row_at-without_row_other}
-use Rattle.kube_types.proofs.SameKeys.{key_tells}
+use Rattle.kube_objects.specs.declared.key.Key.{Key}
+use Rattle.kube_parts.specs.declared.parts.Kind.{Kind}
+use Rattle.kube_objects.specs.declared.objects.Object.{Object}
+use Rattle.kube_objects.specs.Keys.{key_of, kind_of, put_row, row_at, same_key, without_row}
+use Rattle.kube_objects.proofs.KeyOrder.{row_at-put_row, row_at-put_row_other, row_at-without_row, row_at-without_row_other}
+use Rattle.kube_objects.proofs.SameKeys.{key_tells}
 use Rattle.call_types.specs.declared.entry.Entry.{Entry}
 use Rattle.call_types.specs.declared.reply.Event.{Event}
 use Rattle.call_types.specs.declared.reply.Reply.{Reply}
@@ -59,7 +59,8 @@ pub taken_once : (w : Work) → StandsOnce w → AreOnce (map (λ (t : Taken). t
 taken_once w o = once_right w.waiting (map (λ (t : Taken). t.key) w.taken) (once_left (w.waiting ++ map (λ (t : Taken). t.key) w.taken) w.parked o)
 
 -- one call
-module _ (setup : Setup) (kind : SeatKind) (base m high : ℕ) (e : Entry) (h : List Entry) (at : Point setup kind base m high h) (short : (world setup (e ∷ h)).store.version ≤ high) (write_light : WritesLight kind e.reply) where
+module _ (setup : Setup) (kind : SeatKind) (base m high : ℕ) (e : Entry) (h : List Entry) (at : Point setup kind base m high h)
+    (short : (world setup (e ∷ h)).store.version ≤ high) (write_light : WritesLight kind e.reply) where
   abbrev w : World
   w = world setup h
 
@@ -71,20 +72,27 @@ module _ (setup : Setup) (kind : SeatKind) (base m high : ℕ) (e : Entry) (h : 
     own_cost : cost_at kind (world setup (e ∷ h)) (key_of wrote.event.object) ≤ 3
     own_cost = by wrote.rows
       where
-        by : ((e.reply ≡ replies.Done wrote.event.object) × ((world setup (e ∷ h)).store.rows ≡ put_row wrote.event.object (world setup h).store.rows)) ⊎ ((e.reply ≡ replies.Left wrote.event.object) × ((world setup (e ∷ h)).store.rows ≡ without_row (key_of wrote.event.object) (world setup h).store.rows))
+        by : ((e.reply ≡ replies.Done wrote.event.object)
+            × ((world setup (e ∷ h)).store.rows ≡ put_row wrote.event.object (world setup h).store.rows))
+            ⊎ ((e.reply ≡ replies.Left wrote.event.object) × ((world setup (e ∷ h)).store.rows ≡ without_row (key_of wrote.event.object) (world setup h).store.rows))
             → cost_at kind (world setup (e ∷ h)) (key_of wrote.event.object) ≤ 3
         by (inl put) =
-            let is : cost_at kind (world setup (e ∷ h)) (key_of wrote.event.object) ≡ calls_for kind wrote.event.object = ap (λ rows. calls_if kind (row_at (key_of wrote.event.object) rows)) put.1 ∙ ap (calls_if kind) (row_at-put_row wrote.event.object (world setup h).store.rows) in
+            let is : cost_at kind (world setup (e ∷ h)) (key_of wrote.event.object) ≡ calls_for kind wrote.event.object =
+            ap (λ rows. calls_if kind (row_at (key_of wrote.event.object) rows)) put.1 ∙ ap (calls_if kind) (row_at-put_row wrote.event.object (world setup h).store.rows) in
             let light = write_light wrote.event.object put.0 in
             omega (arith, is, light)
         by (inr gone) =
-            let is : cost_at kind (world setup (e ∷ h)) (key_of wrote.event.object) ≡ 0 = ap (λ rows. calls_if kind (row_at (key_of wrote.event.object) rows)) gone.1 ∙ ap (calls_if kind) (row_at-without_row (key_of wrote.event.object) (world setup h).store.rows (rows_stand_in_order setup h)) in
+            let is : cost_at kind (world setup (e ∷ h)) (key_of wrote.event.object) ≡ 0 =
+            ap (λ rows. calls_if kind (row_at (key_of wrote.event.object) rows)) gone.1
+            ∙ ap (calls_if kind) (row_at-without_row (key_of wrote.event.object) (world setup h).store.rows (rows_stand_in_order setup h)) in
             omega (arith, is)
 
     other_cost : (key : Key) → key ≢ key_of wrote.event.object → cost_at kind (world setup (e ∷ h)) key ≡ cost_at kind (world setup h) key
     other_cost key other = ap (calls_if kind) (by wrote.rows)
       where
-        by : ((e.reply ≡ replies.Done wrote.event.object) × ((world setup (e ∷ h)).store.rows ≡ put_row wrote.event.object (world setup h).store.rows)) ⊎ ((e.reply ≡ replies.Left wrote.event.object) × ((world setup (e ∷ h)).store.rows ≡ without_row (key_of wrote.event.object) (world setup h).store.rows))
+        by : ((e.reply ≡ replies.Done wrote.event.object)
+            × ((world setup (e ∷ h)).store.rows ≡ put_row wrote.event.object (world setup h).store.rows))
+            ⊎ ((e.reply ≡ replies.Left wrote.event.object) × ((world setup (e ∷ h)).store.rows ≡ without_row (key_of wrote.event.object) (world setup h).store.rows))
             → row_at key (world setup (e ∷ h)).store.rows ≡ row_at key (world setup h).store.rows
         by (inl put) = ap (row_at key) put.1 ∙ row_at-put_row_other key wrote.event.object (world setup h).store.rows (λ s. other (sym s))
         by (inr gone) = ap (row_at key) gone.1 ∙ row_at-without_row_other (key_of wrote.event.object) key (world setup h).store.rows (λ s. other (sym s))
@@ -92,7 +100,9 @@ module _ (setup : Setup) (kind : SeatKind) (base m high : ℕ) (e : Entry) (h : 
     more_total : total (calls_for kind) (world setup (e ∷ h)).store.rows ≤ total (calls_for kind) (world setup h).store.rows + 3
     more_total = by wrote.rows
       where
-        by : ((e.reply ≡ replies.Done wrote.event.object) × ((world setup (e ∷ h)).store.rows ≡ put_row wrote.event.object (world setup h).store.rows)) ⊎ ((e.reply ≡ replies.Left wrote.event.object) × ((world setup (e ∷ h)).store.rows ≡ without_row (key_of wrote.event.object) (world setup h).store.rows))
+        by : ((e.reply ≡ replies.Done wrote.event.object)
+            × ((world setup (e ∷ h)).store.rows ≡ put_row wrote.event.object (world setup h).store.rows))
+            ⊎ ((e.reply ≡ replies.Left wrote.event.object) × ((world setup (e ∷ h)).store.rows ≡ without_row (key_of wrote.event.object) (world setup h).store.rows))
             → total (calls_for kind) (world setup (e ∷ h)).store.rows ≤ total (calls_for kind) (world setup h).store.rows + 3
         by (inl put) =
             let is = ap (total (calls_for kind)) put.1 in
@@ -148,14 +158,16 @@ module _ (setup : Setup) (kind : SeatKind) (base m high : ℕ) (e : Entry) (h : 
   module _ (seat : ℕ) (mine : e.seat ≡ seat) (told : e.told ≡ true) (unread : (k : Kind) → reads_kind k e.request ≡ false) where
     wrote_kinds : Wrote (world setup h) (world setup (e ∷ h)) e.reply → kinds_cost setup seat kind m high (e ∷ h) ≤ kinds_cost setup seat kind m high h + 9
     wrote_kinds wrote =
-        let sum = sum_more (λ k. kind_cost m high (world setup h) k (from_of seat h k)) (λ k. kind_cost m high (world setup (e ∷ h)) k (from_of seat (e ∷ h) k)) (at_kind (kind_of wrote.event.object)) (kinds_of kind) each in
+        let sum = sum_more (λ k. kind_cost m high (world setup h) k (from_of seat h k))
+        (λ k. kind_cost m high (world setup (e ∷ h)) k (from_of seat (e ∷ h) k)) (at_kind (kind_of wrote.event.object)) (kinds_of kind) each in
         let one = once kind (kind_of wrote.event.object) in
         omega (arith, sum, one)
       where
         by : (k : Kind) (x : Option ℕ) → kind_cost m high (world setup (e ∷ h)) k x ≤ kind_cost m high (world setup h) k x + at_kind (kind_of wrote.event.object) k
         by k None =
             let version = wrote.version in
-            let less = mul_less (m + 7) ((high - (world setup (e ∷ h)).store.version) / 513) ((high - (world setup h).store.version) / 513) (div_less (high - (world setup (e ∷ h)).store.version) (high - (world setup h).store.version) (omega (arith, version))) in
+            let less = mul_less (m + 7) ((high - (world setup (e ∷ h)).store.version) / 513) ((high - (world setup h).store.version) / 513)
+            (div_less (high - (world setup (e ∷ h)).store.version) (high - (world setup h).store.version) (omega (arith, version))) in
             omega (arith, less)
         by k (Some from) =
             let more = one_more k from wrote.event (world setup h).log in
@@ -163,20 +175,25 @@ module _ (setup : Setup) (kind : SeatKind) (base m high : ℕ) (e : Entry) (h : 
             omega (arith, more, log)
 
         each : (k : Kind) → kind_cost m high (world setup (e ∷ h)) k (from_of seat (e ∷ h) k) ≤ kind_cost m high (world setup h) k (from_of seat h k) + at_kind (kind_of wrote.event.object) k
-        each k = subst (λ x. kind_cost m high (world setup (e ∷ h)) k x ≤ kind_cost m high (world setup h) k (from_of seat h k) + at_kind (kind_of wrote.event.object) k) (sym (unread_from seat e h mine told k (unread k))) (by k (from_of seat h k))
+        each k = subst (λ x. kind_cost m high (world setup (e ∷ h)) k x ≤ kind_cost m high (world setup h) k (from_of seat h k) + at_kind
+            (kind_of wrote.event.object) k) (sym (unread_from seat e h mine told k (unread k))) (by k (from_of seat h k))
 
     stays_kinds : Stays (world setup h) (world setup (e ∷ h)) e.request e.reply → kinds_cost setup seat kind m high (e ∷ h) ≤ kinds_cost setup seat kind m high h
     stays_kinds stays = sum_less (λ k. kind_cost m high (world setup h) k (from_of seat h k)) (λ k. kind_cost m high (world setup (e ∷ h)) k (from_of seat (e ∷ h) k)) (kinds_of kind) each
       where
         by : (k : Kind) (x : Option ℕ) → kind_cost m high (world setup (e ∷ h)) k x ≤ kind_cost m high (world setup h) k x
-        by k None = let same : kind_cost m high (world setup (e ∷ h)) k None ≡ kind_cost m high (world setup h) k None = ap (λ n. (m + 1) + (m + 7) * ((high - n) / 513)) stays.version in omega (arith, same)
-        by k (Some from) = let same : kind_cost m high (world setup (e ∷ h)) k (Some from) ≡ kind_cost m high (world setup h) k (Some from) = ap (λ l. 9 * pending k from l + (m + 7) * ((high - from) / 513)) stays.log in omega (arith, same)
+        by k None = let same : kind_cost m high (world setup (e ∷ h)) k None ≡ kind_cost m high (world setup h) k None =
+            ap (λ n. (m + 1) + (m + 7) * ((high - n) / 513)) stays.version in omega (arith, same)
+        by k (Some from) = let same : kind_cost m high (world setup (e ∷ h)) k (Some from) ≡ kind_cost m high (world setup h) k (Some from) =
+            ap (λ l. 9 * pending k from l + (m + 7) * ((high - from) / 513)) stays.log in omega (arith, same)
 
         each : (k : Kind) → kind_cost m high (world setup (e ∷ h)) k (from_of seat (e ∷ h) k) ≤ kind_cost m high (world setup h) k (from_of seat h k)
-        each k = subst (λ x. kind_cost m high (world setup (e ∷ h)) k x ≤ kind_cost m high (world setup h) k (from_of seat h k)) (sym (unread_from seat e h mine told k (unread k))) (by k (from_of seat h k))
+        each k = subst (λ x. kind_cost m high (world setup (e ∷ h)) k x ≤ kind_cost m high (world setup h) k (from_of seat h k))
+            (sym (unread_from seat e h mine told k (unread k))) (by k (from_of seat h k))
 
     -- a write is one of those ahead, and pays for what it brings
-    pub call_pays : (work : Work) → StandsOnce work → done_by e.request e.reply ≤ 1 → Stays (world setup h) (world setup (e ∷ h)) e.request e.reply ⊎ Wrote (world setup h) (world setup (e ∷ h)) e.reply
+    pub call_pays : (work : Work) → StandsOnce work → done_by e.request e.reply ≤ 1 → Stays (world setup h) (world setup (e ∷ h)) e.request e.reply
+        ⊎ Wrote (world setup h) (world setup (e ∷ h)) e.reply
         → 16 * (high - (world setup (e ∷ h)).store.version) + work_cost (cost_at kind (world setup (e ∷ h))) work + kinds_cost setup seat kind m high (e ∷ h) + done_by e.request e.reply
         ≤ 16 * (high - (world setup h).store.version) + work_cost (cost_at kind (world setup h)) work + kinds_cost setup seat kind m high h
     call_pays work o few (inr wrote) =

@@ -5,11 +5,11 @@ use Rattle.std.specs.declared.cmp.Ordering.{Ordering}
 use Rattle.std.specs.declared.cmp.Ordering.TheVariants.{Less, Equal, Greater}
 use Rattle.std.specs.Ordering.{is_eq, match_ordering}
 use Rattle.plain_data.proofs.RowFacts.{rising_without}
-use Rattle.kube_types.specs.declared.key.Key.{Key}
-use Rattle.kube_types.specs.declared.parts.Kind.{Kind}
-use Rattle.kube_types.specs.declared.objects.Object.{Object}
-use Rattle.kube_types.specs.Keys.{AreRows, is_of_kind, key_cmp, key_of, put_row, row_at, rows_of, without_row}
-use Rattle.kube_types.proofs.KeyOrder.{key_cmp_total, row_at-without_row_other}
+use Rattle.kube_objects.specs.declared.key.Key.{Key}
+use Rattle.kube_parts.specs.declared.parts.Kind.{Kind}
+use Rattle.kube_objects.specs.declared.objects.Object.{Object}
+use Rattle.kube_objects.specs.Keys.{AreRows, is_of_kind, key_cmp, key_of, put_row, row_at, rows_of, without_row}
+use Rattle.kube_objects.proofs.KeyOrder.{key_cmp_total, row_at-without_row_other}
 use Rattle.call_types.specs.declared.request.SeatKind.{SeatKind}
 use Rattle.model_laws.proofs.Lists.{IsIn, none_some, one}
 use Rattle.settle_measure.specs.Left.Measure.{total}
@@ -45,7 +45,8 @@ module _ (f : Object → ℕ) where
   taken_total k o [] e = none_some e
   taken_total k o (x ∷ xs) e = by (is_eq (key_cmp (key_of x) k)) e (taken_total k o xs)
     where
-      by : (b : Bool) → cond b (Some x) (row_at k xs) ≡ Some o → (row_at k xs ≡ Some o → total f (without_row k xs) + f o ≤ total f xs) → total f (cond b xs (x ∷ without_row k xs)) + f o ≤ f x + total f xs
+      by : (b : Bool) → cond b (Some x) (row_at k xs) ≡ Some o → (row_at k xs ≡ Some o → total f (without_row k xs) + f o ≤ total f xs)
+          → total f (cond b xs (x ∷ without_row k xs)) + f o ≤ f x + total f xs
       by true is rest = let same = ap f (one x o is) in omega (arith, same)
       by false is rest = let h = rest is in omega (arith, h)
 
@@ -65,7 +66,8 @@ module _ (f : Object → ℕ) where
   distinct_keys [] rows order once = omega arith
   distinct_keys (k ∷ ks) rows order once = by (row_at k rows) refl (distinct_keys ks)
     where
-      by : (x : Option Object) → row_at k rows ≡ x → ((os : List Object) → AreRows os → AreOnce ks → keys_cost (weigh_at os) ks ≤ total f os) → weigh_if f (row_at k rows) + keys_cost (weigh_at rows) ks ≤ total f rows
+      by : (x : Option Object) → row_at k rows ≡ x → ((os : List Object) → AreRows os → AreOnce ks → keys_cost (weigh_at os) ks ≤ total f os)
+          → weigh_if f (row_at k rows) + keys_cost (weigh_at rows) ks ≤ total f rows
       by None e rest = let h = rest rows order once.1 in let own : weigh_if f (row_at k rows) ≡ 0 = ap (weigh_if f) e in omega (arith, h, own)
       by (Some o) e rest =
           let h = rest (without_row k rows) (rising_without key_cmp_total key_of k rows order) once.1 in
@@ -100,6 +102,7 @@ listed_cost kind k rows order = let h = in_all rows (λ o i. i) in let f = filte
         own = ap (calls_if kind) (stands rows order x (within x (inl refl)))
 
         by : (b : Bool) → keys_cost (key_cost kind rows) (map key_of (filter (is_of_kind k) xs)) ≤ total (calls_for kind) (filter (is_of_kind k) xs)
-            → keys_cost (key_cost kind rows) (map key_of (cond b (x ∷ filter (is_of_kind k) xs) (filter (is_of_kind k) xs))) ≤ total (calls_for kind) (cond b (x ∷ filter (is_of_kind k) xs) (filter (is_of_kind k) xs))
+            → keys_cost (key_cost kind rows) (map key_of (cond b (x ∷ filter (is_of_kind k) xs) (filter (is_of_kind k) xs))) ≤ total (calls_for kind)
+            (cond b (x ∷ filter (is_of_kind k) xs) (filter (is_of_kind k) xs))
         by true h = omega (arith, h, own)
         by false h = h

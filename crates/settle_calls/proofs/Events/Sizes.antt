@@ -1,12 +1,12 @@
 -- A call of a controller adds little to what all objects may cost: it makes no pod, and writes no pod but its node.
 use Rattle.std.proofs.Common.{◌≡◌, ◌∙◌, ◌⊎◌, ℕ, ◌+◌, ◌≤◌, List, Option, Some, None, inl, inr, sym, ap, subst, arith}
 use Rattle.std.specs.Prelude.{⊤}
-use Rattle.kube_types.specs.declared.key.Key.{Key}
-use Rattle.kube_types.specs.declared.parts.Kind.TheVariants as kinds
-use Rattle.kube_types.specs.declared.objects.Object.{Object}
-use Rattle.kube_types.specs.declared.objects.Object.TheVariants.{Class, Node, Volume, Claim, Pod}
-use Rattle.kube_types.specs.Keys.{AreRows, key_of, kind_index, kind_of, put_row, row_at}
-use Rattle.kube_types.proofs.KeyOrder.{row_at_key}
+use Rattle.kube_objects.specs.declared.key.Key.{Key}
+use Rattle.kube_parts.specs.declared.parts.Kind.TheVariants as kinds
+use Rattle.kube_objects.specs.declared.objects.Object.{Object}
+use Rattle.kube_objects.specs.declared.objects.Object.TheVariants.{Class, Node, Volume, Claim, Pod}
+use Rattle.kube_objects.specs.Keys.{AreRows, key_of, kind_index, kind_of, put_row, row_at}
+use Rattle.kube_objects.proofs.KeyOrder.{row_at_key}
 use Rattle.call_types.specs.declared.entry.Entry.{Entry}
 use Rattle.call_types.specs.declared.request.NewStatus.{NewStatus}
 use Rattle.call_types.specs.declared.request.NewStatus.TheVariants as statuses
@@ -164,9 +164,23 @@ adds w kind (requests.Delete key given) o p i =
     let own : kind_index (kind_of i.old) ≡ 2 = ap (λ (k : Key). kind_index k.kind) (row_at_key key i.old w.store.rows i.there) ∙ ap kind_index p in
     inl (subst (λ x. calls_for seats.Agent x ≤ 3) (sym i.is) (marked_light i.old (w.store.version + 1) w.moment own))
 adds w kind (requests.BindPod key uid node) o p i =
-    inr (Pod i.pod, (subst (λ x. row_at (key_of x) w.store.rows ≡ Some (Pod i.pod)) (sym i.is) (ap (λ k. row_at k w.store.rows) (row_at_key key (Pod i.pod) w.store.rows i.there) ∙ i.there), ap (calls_for seats.Agent) i.is))
+    inr (
+      Pod i.pod,
+      (
+        subst (λ x. row_at (key_of x) w.store.rows ≡ Some (Pod i.pod)) (sym i.is)
+            (ap (λ k. row_at k w.store.rows) (row_at_key key (Pod i.pod) w.store.rows i.there) ∙ i.there),
+        ap (calls_for seats.Agent) i.is,
+      ),
+    )
 adds w kind (requests.FinishPod key uid node epoch) o p i =
-    inr (Pod i.pod, (subst (λ x. row_at (key_of x) w.store.rows ≡ Some (Pod i.pod)) (sym i.is) (ap (λ k. row_at k w.store.rows) (row_at_key key (Pod i.pod) w.store.rows i.there) ∙ i.there), ap (calls_for seats.Agent) i.is))
+    inr (
+      Pod i.pod,
+      (
+        subst (λ x. row_at (key_of x) w.store.rows ≡ Some (Pod i.pod)) (sym i.is)
+            (ap (λ k. row_at k w.store.rows) (row_at_key key (Pod i.pod) w.store.rows i.there) ∙ i.there),
+        ap (calls_for seats.Agent) i.is,
+      ),
+    )
 adds w kind _ o p i = absurd i
 
 put_little : (rows : List Object) (o : Object) → AreRows rows → AddsLittle rows o → total (calls_for seats.Agent) (put_row o rows) ≤ total (calls_for seats.Agent) rows + 3
@@ -187,4 +201,5 @@ grows_by setup w kind request (SetsMoment at) order p form = record { costs = om
 
 pub call_grows : CallsAddLittle
 call_grows setup h kind mine request built l =
-    grows_by setup (world setup h) kind request (effect setup (world setup h) kind request) (rows_stand_in_order setup h) (plain kind mine request built (licensed_row kind mine request built l)) (effect_form setup (world setup h) kind request (rows_stand_in_order setup h))
+    grows_by setup (world setup h) kind request (effect setup (world setup h) kind request) (rows_stand_in_order setup h)
+    (plain kind mine request built (licensed_row kind mine request built l)) (effect_form setup (world setup h) kind request (rows_stand_in_order setup h))

@@ -3,10 +3,10 @@ use Rattle.std.proofs.Common.{◌≡◌, ℕ, ◌+◌, ◌*◌, ◌≤◌, List,
 use Rattle.std.specs.Prelude.{◌/◌, cond}
 use Rattle.std.proofs.Math.Nat.{mul-add}
 use Rattle.std.proofs.lemmas.Nat.{div-add-mod', le-div, mul-le}
-use Rattle.kube_types.specs.declared.parts.Kind.{Kind}
-use Rattle.kube_types.specs.declared.parts.Kind.TheVariants as kinds
-use Rattle.kube_types.specs.Keys.{same_kind}
-use Rattle.kube_types.proofs.SameKeys.{same_kind-Decides}
+use Rattle.kube_parts.specs.declared.parts.Kind.{Kind}
+use Rattle.kube_parts.specs.declared.parts.Kind.TheVariants as kinds
+use Rattle.kube_objects.specs.Keys.{same_kind}
+use Rattle.kube_objects.proofs.SameKeys.{same_kind-Decides}
 use Rattle.call_types.specs.declared.request.SeatKind.{SeatKind}
 use Rattle.call_types.specs.declared.request.SeatKind.TheVariants as seats
 use Rattle.model_laws.proofs.Lists.{IsIn}
@@ -84,7 +84,8 @@ pub of_each : (seat : SeatKind) (f : Kind → ℕ) (n : ℕ) → ((k : Kind) →
 of_each seats.User f n each = omega arith
 of_each seats.Binder f n each = let a = each kinds.PersistentVolume in let b = each kinds.PersistentVolumeClaim in let c = each kinds.StorageClass in omega (arith, a, b, c)
 of_each seats.Ops f n each = let a = each kinds.PersistentVolume in let b = each kinds.PersistentVolumeClaim in let c = each kinds.StorageClass in let d = each kinds.Node in omega (arith, a, b, c, d)
-of_each seats.Scheduler f n each = let a = each kinds.PersistentVolume in let b = each kinds.PersistentVolumeClaim in let c = each kinds.StorageClass in let d = each kinds.Node in let e = each kinds.Pod in omega (arith, a, b, c, d, e)
+of_each seats.Scheduler f n each = let a = each kinds.PersistentVolume in let b = each kinds.PersistentVolumeClaim in let c =
+    each kinds.StorageClass in let d = each kinds.Node in let e = each kinds.Pod in omega (arith, a, b, c, d, e)
 of_each seats.ClaimProtect f n each = let b = each kinds.PersistentVolumeClaim in let e = each kinds.Pod in omega (arith, b, e)
 of_each seats.VolumeProtect f n each = let a = each kinds.PersistentVolume in omega (arith, a)
 of_each seats.Agent f n each = let e = each kinds.Pod in omega (arith, e)

@@ -2,9 +2,9 @@
 use Rattle.std.proofs.Common.{◌≡◌, ◌∙◌, ◌⊎◌, ℕ, ◌+◌, ◌*◌, ◌-◌, ◌≤◌, ◌<◌, List, [], ◌∷◌, length, Bool, true, false, Option, Some, None, inl, inr, refl, sym, ap, subst, arith, if◌then◌else◌}
 use Rattle.std.specs.Prelude.{◌/◌, ◌==◌, not}
 use Rattle.std.proofs.lemmas.Bool.Decides.{nat_tests}
-use Rattle.kube_types.specs.declared.parts.Kind.{Kind}
-use Rattle.kube_types.specs.Keys.{kind_of, rows_of, same_kind}
-use Rattle.kube_types.proofs.SameKeys.{same_kind-Decides}
+use Rattle.kube_parts.specs.declared.parts.Kind.{Kind}
+use Rattle.kube_objects.specs.Keys.{kind_of, rows_of, same_kind}
+use Rattle.kube_objects.proofs.SameKeys.{same_kind-Decides}
 use Rattle.call_types.specs.declared.entry.Entry.{Entry}
 use Rattle.call_types.specs.declared.reply.Event.{Event}
 use Rattle.call_types.specs.declared.reply.Reply.{Reply}
@@ -69,11 +69,13 @@ last_below : (low high : ℕ) (es : List Event) → low ≤ high → ((y : Event
 last_below low high [] le each = le
 last_below low high (e ∷ es) le each = last_below e.version high es (each e (inl refl)) (λ y i. each y (inr i))
 
-upto_below : (setup : Setup) (h : List Entry) (kind : Kind) (from : ℕ) → from ≤ (world setup h).store.version → (told_events kind from (world setup h).store.version (world setup h).log).upto ≤ (world setup h).store.version
+upto_below : (setup : Setup) (h : List Entry) (kind : Kind) (from : ℕ) → from ≤ (world setup h).store.version
+    → (told_events kind from (world setup h).store.version (world setup h).log).upto ≤ (world setup h).store.version
 upto_below setup h kind from low = by (length (told kind from (world setup h).log) == most_events) refl
   where
     by : (b : Bool) → (length (told kind from (world setup h).log) == most_events) ≡ b → (told_events kind from (world setup h).store.version (world setup h).log).upto ≤ (world setup h).store.version
-    by true e = rw e (last_below (world setup h).store.version (world setup h).store.version (told kind from (world setup h).log) (omega arith) (λ y i. at_most 0 (world setup h).store.version (world setup h).log y (logs setup h 0) (told_after kind from (world setup h).log y i).0))
+    by true e = rw e (last_below (world setup h).store.version (world setup h).store.version (told kind from (world setup h).log) (omega arith)
+        (λ y i. at_most 0 (world setup h).store.version (world setup h).log y (logs setup h 0) (told_after kind from (world setup h).log y i).0))
     by false e = rw e (omega arith)
 
 pub wait_few : (version : ℕ) (x : Option ℕ) → wait_cost version x ≤ 10
@@ -101,7 +103,8 @@ wait_more version (Some from) = by (nat_lt from version) (nat_lt from (version +
 twice_five : (seat : SeatKind) → sum_over (λ k. 2) (kinds_of seat) ≤ 10
 twice_five seat = of_each seat (λ k. 2) 2 (λ k. omega arith)
 
-module _ (setup : Setup) (seat base high : ℕ) (x : ActorState) (request : Request) (reply : Reply) (h : List Entry) (given : IsCallGiven setup seat x request reply h) (short : (world setup (told_entry seat x request reply ∷ h)).store.version ≤ high) where
+module _ (setup : Setup) (seat base high : ℕ) (x : ActorState) (request : Request) (reply : Reply) (h : List Entry)
+    (given : IsCallGiven setup seat x request reply h) (short : (world setup (told_entry seat x request reply ∷ h)).store.version ≤ high) where
   abbrev entry : Entry
   entry = told_entry seat x request reply
 
@@ -109,29 +112,37 @@ module _ (setup : Setup) (seat base high : ℕ) (x : ActorState) (request : Requ
   cost y es = first_cost setup seat x.role.kind base high y es
 
   -- a write pays for the watches that it brings
-  write_pays : ((k : Kind) → reads_kind k request ≡ false) → Stays (world setup h) (world setup (told_entry seat x request reply ∷ h)) request reply ⊎ Wrote (world setup h) (world setup (told_entry seat x request reply ∷ h)) reply
-      → 20 * (high - (world setup (told_entry seat x request reply ∷ h)).store.version) + (waits_cost setup seat x.role.kind (told_entry seat x request reply ∷ h) + events_cost setup x.role.kind base (told_entry seat x request reply ∷ h)) + done_by request reply
+  write_pays : ((k : Kind) → reads_kind k request ≡ false) → Stays (world setup h) (world setup (told_entry seat x request reply ∷ h)) request reply
+      ⊎ Wrote (world setup h) (world setup (told_entry seat x request reply ∷ h)) reply
+      → 20 * (high - (world setup (told_entry seat x request reply ∷ h)).store.version) +
+      (waits_cost setup seat x.role.kind (told_entry seat x request reply ∷ h) + events_cost setup x.role.kind base (told_entry seat x request reply ∷ h)) + done_by request reply
       ≤ 20 * (high - (world setup h).store.version) + (waits_cost setup seat x.role.kind h + events_cost setup x.role.kind base h)
   write_pays unread (inl stays) =
-      let a = sum_less (λ k. wait_cost (world setup h).store.version (from_of seat h k)) (λ k. wait_cost (world setup (told_entry seat x request reply ∷ h)).store.version (from_of seat (told_entry seat x request reply ∷ h) k)) (kinds_of x.role.kind) waits in
-      let b : events_cost setup x.role.kind base (told_entry seat x request reply ∷ h) ≡ events_cost setup x.role.kind base h = ap (λ l. sum_over (λ k. 9 * pending k base l) (kinds_of x.role.kind)) stays.log in
+      let a = sum_less (λ k. wait_cost (world setup h).store.version (from_of seat h k))
+      (λ k. wait_cost (world setup (told_entry seat x request reply ∷ h)).store.version (from_of seat (told_entry seat x request reply ∷ h) k)) (kinds_of x.role.kind) waits in
+      let b : events_cost setup x.role.kind base (told_entry seat x request reply ∷ h) ≡ events_cost setup x.role.kind base h =
+      ap (λ l. sum_over (λ k. 9 * pending k base l) (kinds_of x.role.kind)) stays.log in
       let v = stays.version in let none = stays.none in
       omega (arith, a, b, v, none)
     where
-      waits : (k : Kind) → wait_cost (world setup (told_entry seat x request reply ∷ h)).store.version (from_of seat (told_entry seat x request reply ∷ h) k) ≤ wait_cost (world setup h).store.version (from_of seat h k)
+      waits : (k : Kind) → wait_cost (world setup (told_entry seat x request reply ∷ h)).store.version
+          (from_of seat (told_entry seat x request reply ∷ h) k) ≤ wait_cost (world setup h).store.version (from_of seat h k)
       waits k =
           let a = ap (λ n. wait_cost n (from_of seat (told_entry seat x request reply ∷ h) k)) stays.version in
           let b = ap (wait_cost (world setup h).store.version) (unread_from seat (told_entry seat x request reply) h refl refl k (unread k)) in
           omega (arith, a, b)
   write_pays unread (inr wrote) =
-      let a = sum_more (λ k. wait_cost (world setup h).store.version (from_of seat h k)) (λ k. wait_cost (world setup (told_entry seat x request reply ∷ h)).store.version (from_of seat (told_entry seat x request reply ∷ h) k)) (λ k. 2) (kinds_of x.role.kind) waits in
+      let a = sum_more (λ k. wait_cost (world setup h).store.version (from_of seat h k))
+      (λ k. wait_cost (world setup (told_entry seat x request reply ∷ h)).store.version (from_of seat (told_entry seat x request reply ∷ h) k)) (λ k. 2) (kinds_of x.role.kind) waits in
       let two = twice_five x.role.kind in
-      let b = sum_more (λ k. 9 * pending k base (world setup h).log) (λ k. 9 * pending k base (world setup (told_entry seat x request reply ∷ h)).log) (at_kind (kind_of wrote.event.object)) (kinds_of x.role.kind) events in
+      let b = sum_more (λ k. 9 * pending k base (world setup h).log)
+      (λ k. 9 * pending k base (world setup (told_entry seat x request reply ∷ h)).log) (at_kind (kind_of wrote.event.object)) (kinds_of x.role.kind) events in
       let nine = once x.role.kind (kind_of wrote.event.object) in
       let v = wrote.version in let few = done_few request reply in
       omega (arith, a, two, b, nine, v, few, short)
     where
-      waits : (k : Kind) → wait_cost (world setup (told_entry seat x request reply ∷ h)).store.version (from_of seat (told_entry seat x request reply ∷ h) k) ≤ wait_cost (world setup h).store.version (from_of seat h k) + 2
+      waits : (k : Kind) → wait_cost (world setup (told_entry seat x request reply ∷ h)).store.version
+          (from_of seat (told_entry seat x request reply ∷ h) k) ≤ wait_cost (world setup h).store.version (from_of seat h k) + 2
       waits k =
           let a = ap (λ n. wait_cost n (from_of seat (told_entry seat x request reply ∷ h) k)) wrote.version in
           let b = ap (wait_cost ((world setup h).store.version + 1)) (unread_from seat (told_entry seat x request reply) h refl refl k (unread k)) in
@@ -147,7 +158,8 @@ module _ (setup : Setup) (seat base high : ℕ) (x : ActorState) (request : Requ
   pub task_pays_first : (caches : AllKnown) → x.given ≡ Some givens.Task → cost (told_to x caches request reply) (told_entry seat x request reply ∷ h) + 1 ≤ cost x h
   task_pays_first caches eg =
       let t = task_called setup seat x request reply h given eg in
-      let is : told_to x caches request reply ≡ task_told (learned x caches request reply) reply (Some t.under) = ap (given_told (learned x caches request reply) request reply) eg ∙ ap (task_told (learned x caches request reply) reply) t.there in
+      let is : told_to x caches request reply ≡ task_told (learned x caches request reply) reply (Some t.under) =
+      ap (given_told (learned x caches request reply) request reply) eg ∙ ap (task_told (learned x caches request reply) reply) t.there in
       let pays = write_pays t.unread (world_moves setup (told_entry seat x request reply) h given.history.1) in
       let goes = t.goes in
       let start = t.start in
@@ -175,19 +187,25 @@ module _ (setup : Setup) (seat base high : ℕ) (x : ActorState) (request : Requ
           → cost (read_told (learned x caches request reply) kind request reply) (told_entry seat x request reply ∷ h) + 1 ≤ cost x h
       paid n own unread pass =
           let r = read_called setup seat x request reply h given kind eg in
-          let a = sum_falls (λ k. wait_cost (world setup h).store.version (from_of seat h k)) (λ k. wait_cost (world setup (told_entry seat x request reply ∷ h)).store.version (from_of seat (told_entry seat x request reply ∷ h) k)) n kind (kinds_of x.role.kind) others mine r.followed in
-          let b : events_cost setup x.role.kind base (told_entry seat x request reply ∷ h) ≡ events_cost setup x.role.kind base h = ap (λ l. sum_over (λ k. 9 * pending k base l) (kinds_of x.role.kind)) r.stays.log in
+          let a = sum_falls (λ k. wait_cost (world setup h).store.version (from_of seat h k))
+          (λ k. wait_cost (world setup (told_entry seat x request reply ∷ h)).store.version
+          (from_of seat (told_entry seat x request reply ∷ h) k)) n kind (kinds_of x.role.kind) others mine r.followed in
+          let b : events_cost setup x.role.kind base (told_entry seat x request reply ∷ h) ≡ events_cost setup x.role.kind base h =
+          ap (λ l. sum_over (λ k. 9 * pending k base l) (kinds_of x.role.kind)) r.stays.log in
           let v : 20 * (high - (world setup (told_entry seat x request reply ∷ h)).store.version) ≡ 20 * (high - (world setup h).store.version) = ap (λ n. 20 * (high - n)) r.stays.version in
           let s = r.start in
           omega (arith, a, b, v, s, pass)
         where
-          others : (k : Kind) → same_kind kind k ≡ false → wait_cost (world setup (told_entry seat x request reply ∷ h)).store.version (from_of seat (told_entry seat x request reply ∷ h) k) ≤ wait_cost (world setup h).store.version (from_of seat h k)
+          others : (k : Kind) → same_kind kind k ≡ false
+              → wait_cost (world setup (told_entry seat x request reply ∷ h)).store.version
+              (from_of seat (told_entry seat x request reply ∷ h) k) ≤ wait_cost (world setup h).store.version (from_of seat h k)
           others k other =
               let a = ap (λ n. wait_cost n (from_of seat (told_entry seat x request reply ∷ h) k)) (read_called setup seat x request reply h given kind eg).stays.version in
               let b = ap (wait_cost (world setup h).store.version) (unread_from seat (told_entry seat x request reply) h refl refl k (unread k other)) in
               omega (arith, a, b)
 
-          mine : wait_cost (world setup (told_entry seat x request reply ∷ h)).store.version (from_of seat (told_entry seat x request reply ∷ h) kind) + n ≤ wait_cost (world setup h).store.version (from_of seat h kind)
+          mine : wait_cost (world setup (told_entry seat x request reply ∷ h)).store.version
+              (from_of seat (told_entry seat x request reply ∷ h) kind) + n ≤ wait_cost (world setup h).store.version (from_of seat h kind)
           mine = let a = ap (λ n. wait_cost n (from_of seat (told_entry seat x request reply ∷ h) kind)) (read_called setup seat x request reply h given kind eg).stays.version in omega (arith, a, own)
 
       unread_list : (k : Kind) → request ≡ requests.List kind None → same_kind kind k ≡ false → reads_kind k request ≡ false
@@ -205,7 +223,8 @@ module _ (setup : Setup) (seat base high : ℕ) (x : ActorState) (request : Requ
 
       by : Reads setup seat x kind request reply h → cost (read_told (learned x caches request reply) kind request reply) (told_entry seat x request reply ∷ h) + 1 ≤ cost x h
       by (Lists no_list asks answered) =
-          let now = ap (wait_cost (world setup h).store.version) (listed_from seat (told_entry seat x request reply) h refl refl kind (rows_of kind (world setup h).store.rows) (world setup h).store.version asks answered) in
+          let now = ap (wait_cost (world setup h).store.version)
+          (listed_from seat (told_entry seat x request reply) h refl refl kind (rows_of kind (world setup h).store.rows) (world setup h).store.version asks answered) in
           let was = ap (wait_cost (world setup h).store.version) no_list in
           let z = none (world setup h).store.version (world setup h).store.version (omega arith) in
           let pass = ap (λ q. 5 - (pass_after x.pass (is_passing (passing x) kind) q reply).behind) asks in
@@ -214,31 +233,39 @@ module _ (setup : Setup) (seat base high : ℕ) (x : ActorState) (request : Requ
           let now = ap (wait_cost (world setup h).store.version) (gone_from seat (told_entry seat x request reply) h refl refl kind from gone asks answered) in
           let was = ap (wait_cost (world setup h).store.version) some in
           let z = behind from (world setup h).store.version (omega (arith, old, first_low)) in
-          let pass = ap (λ q. 5 - (pass_after x.pass (is_passing (passing x) kind) q reply).behind) asks ∙ ap (λ a. 5 - (pass_after x.pass (is_passing (passing x) kind) (requests.Watch kind from) a).behind) answered in
+          let pass = ap (λ q. 5 - (pass_after x.pass (is_passing (passing x) kind) q reply).behind) asks
+          ∙ ap (λ a. 5 - (pass_after x.pass (is_passing (passing x) kind) (requests.Watch kind from) a).behind) answered in
           paid 1 (omega (arith, now, was, z)) (λ k other. unread_watch k from asks other) (omega (arith, pass))
         where
           first_low : base_of setup ≤ (world setup h).store.version
           first_low = subst (λ es. base_of setup ≤ (world setup es).store.version) (nil_right h) (rises setup h [])
       by (IsTold from some passes asks low within answered) = told_by (length (told kind from (world setup h).log) == most_events) refl
         where
-          told_by : (full : Bool) → (length (told kind from (world setup h).log) == most_events) ≡ full → cost (read_told (learned x caches request reply) kind request reply) (told_entry seat x request reply ∷ h) + 1 ≤ cost x h
+          told_by : (full : Bool) → (length (told kind from (world setup h).log) == most_events) ≡ full
+              → cost (read_told (learned x caches request reply) kind request reply) (told_entry seat x request reply ∷ h) + 1 ≤ cost x h
           told_by full e =
               let so = told_so setup h kind from full low e in
-              let now = ap (wait_cost (world setup h).store.version) (watched_from seat (told_entry seat x request reply) h refl refl kind from from (world setup h).store.version (world setup h).log asks answered some) in
+              let now = ap (wait_cost (world setup h).store.version)
+              (watched_from seat (told_entry seat x request reply) h refl refl kind from from (world setup h).store.version (world setup h).log asks answered some) in
               let was = ap (wait_cost (world setup h).store.version) some in
-              let pass = ap (λ q. 5 - (pass_after x.pass (is_passing (passing x) kind) q reply).behind) asks ∙ ap (λ a. 5 - (pass_after x.pass (is_passing (passing x) kind) (requests.Watch kind from) a).behind) answered in
+              let pass = ap (λ q. 5 - (pass_after x.pass (is_passing (passing x) kind) q reply).behind) asks
+              ∙ ap (λ a. 5 - (pass_after x.pass (is_passing (passing x) kind) (requests.Watch kind from) a).behind) answered in
               with_full full e so now was pass
             where
               upto : ℕ
               upto = (told_events kind from (world setup h).store.version (world setup h).log).upto
 
               after_pass : ℕ
-              after_pass = (pass_after x.pass (is_passing (passing x) kind) (requests.Watch kind from) (replies.Events (told_events kind from (world setup h).store.version (world setup h).log))).behind
+              after_pass = (pass_after x.pass (is_passing (passing x) kind) (requests.Watch kind from)
+                  (replies.Events (told_events kind from (world setup h).store.version (world setup h).log))).behind
 
-              goes : (b : Bool) → (length (told kind from (world setup h).log) == most_events) ≡ b → (pass_after x.pass (is_passing (passing x) kind) (requests.Watch kind from) (replies.Events (told_events kind from (world setup h).store.version (world setup h).log))).behind ≡ (if not b then x.pass.behind + 1 else x.pass.behind)
+              goes : (b : Bool) → (length (told kind from (world setup h).log) == most_events) ≡ b
+                  → (pass_after x.pass (is_passing (passing x) kind) (requests.Watch kind from)
+                  (replies.Events (told_events kind from (world setup h).store.version (world setup h).log))).behind ≡ (if not b then x.pass.behind + 1 else x.pass.behind)
               goes b e2 =
                   let is_p : is_passing (passing x) kind ≡ true = ap (λ k. is_passing k kind) passes ∙ (same_kind-Decides kind kind).1 refl in
-                  ap (λ p. (pass_after x.pass p (requests.Watch kind from) (replies.Events (told_events kind from (world setup h).store.version (world setup h).log))).behind) is_p ∙ ap (λ f. if not f then x.pass.behind + 1 else x.pass.behind) e2
+                  ap (λ p. (pass_after x.pass p (requests.Watch kind from)
+                  (replies.Events (told_events kind from (world setup h).store.version (world setup h).log))).behind) is_p ∙ ap (λ f. if not f then x.pass.behind + 1 else x.pass.behind) e2
 
               room : x.pass.behind < 5
               room = let a = slice_get_within (kinds_of x.role.kind) x.pass.behind kind passes in let b = within_five x.role.kind in omega (arith, a, b)
@@ -246,7 +273,8 @@ module _ (setup : Setup) (seat base high : ℕ) (x : ActorState) (request : Requ
               nearer : (u : ℕ) → from + most_events ≤ u → wait_cost (world setup h).store.version (Some u) + 1 ≤ 2 + min ((world setup h).store.version - from) 512 / 64
               nearer u reach = at_u (nat_lt u (world setup h).store.version) refl
                 where
-                  at_u : (b : Bool) → nat_lt u (world setup h).store.version ≡ b → (if b then 2 + min ((world setup h).store.version - u) 512 / 64 else 0) + 1 ≤ 2 + min ((world setup h).store.version - from) 512 / 64
+                  at_u : (b : Bool) → nat_lt u (world setup h).store.version ≡ b
+                      → (if b then 2 + min ((world setup h).store.version - u) 512 / 64 else 0) + 1 ≤ 2 + min ((world setup h).store.version - from) 512 / 64
                   at_u false e2 = omega arith
                   at_u true e2 =
                       let lt : u < (world setup h).store.version = grind (arith, nat_tests, e2) in
@@ -254,9 +282,12 @@ module _ (setup : Setup) (seat base high : ℕ) (x : ActorState) (request : Requ
                       omega (arith, f)
 
               with_full : (b : Bool) → (length (told kind from (world setup h).log) == most_events) ≡ b → IsToldSo kind from (world setup h).store.version (world setup h).log b
-                  → wait_cost (world setup h).store.version (from_of seat (told_entry seat x request reply ∷ h) kind) ≡ wait_cost (world setup h).store.version (Some (told_events kind from (world setup h).store.version (world setup h).log).upto)
+                  → wait_cost (world setup h).store.version (from_of seat (told_entry seat x request reply ∷ h) kind) ≡ wait_cost
+                  (world setup h).store.version (Some (told_events kind from (world setup h).store.version (world setup h).log).upto)
                   → wait_cost (world setup h).store.version (from_of seat h kind) ≡ wait_cost (world setup h).store.version (Some from)
-                  → (5 - (pass_after x.pass (is_passing (passing x) kind) request reply).behind) ≡ (5 - (pass_after x.pass (is_passing (passing x) kind) (requests.Watch kind from) (replies.Events (told_events kind from (world setup h).store.version (world setup h).log))).behind)
+                  → (5 - (pass_after x.pass (is_passing (passing x) kind) request reply).behind)
+                  ≡ (5 - (pass_after x.pass (is_passing (passing x) kind) (requests.Watch kind from)
+                  (replies.Events (told_events kind from (world setup h).store.version (world setup h).log))).behind)
                   → cost (read_told (learned x caches request reply) kind request reply) (told_entry seat x request reply ∷ h) + 1 ≤ cost x h
               with_full false e2 so now was pass =
                   let whole = so.whole refl in

@@ -1,10 +1,10 @@
 -- A call that is given, and its answer: what is known of the call of a task, of one of the start, and of a list or a watch.
 use Rattle.std.proofs.Common.{◌≡◌, ◌∙◌, ℕ, zero, suc, ◌+◌, ◌≤◌, ◌<◌, List, [], ◌∷◌, Bool, true, false, true≢false, Option, Some, None, inl, inr, refl, sym, ap, subst, arith, if◌then◌else◌}
 use Rattle.std.specs.Prelude.{option_map, slice_get}
-use Rattle.kube_types.specs.declared.parts.Kind.{Kind}
-use Rattle.kube_types.specs.declared.objects.Object.{Object}
-use Rattle.kube_types.specs.declared.objects.Object.TheVariants.{Class, Node, Volume, Claim, Pod}
-use Rattle.kube_types.specs.Keys.{rows_of}
+use Rattle.kube_parts.specs.declared.parts.Kind.{Kind}
+use Rattle.kube_objects.specs.declared.objects.Object.{Object}
+use Rattle.kube_objects.specs.declared.objects.Object.TheVariants.{Class, Node, Volume, Claim, Pod}
+use Rattle.kube_objects.specs.Keys.{rows_of}
 use Rattle.call_types.specs.declared.entry.Entry.{Entry}
 use Rattle.call_types.specs.declared.reply.Refusal.TheVariants as refusals
 use Rattle.call_types.specs.declared.reply.Reply.{Reply}
@@ -126,7 +126,8 @@ pub record TaskCalled (x : ActorState) (request : Request) (reply : Reply) : Typ
 abbrev answers_done : Setup → World → SeatKind → Request → Bool
 answers_done setup w kind request = is_done (reply_to (effect setup w kind request))
 
-agent_call_kind : (setup : Setup) (w : World) (t : Task) (request : Request) → task_kind t ≡ seats.Agent → task_call t ≡ Some request → (is_take request ≡ false) × (answers_done setup w seats.Agent request ≡ false)
+agent_call_kind : (setup : Setup) (w : World) (t : Task) (request : Request) → task_kind t ≡ seats.Agent → task_call t ≡ Some request
+    → (is_take request ≡ false) × (answers_done setup w seats.Agent request ≡ false)
 unfolding agent_call
 agent_call_kind setup w (tasks.Agent op) request is call = (agent_takes_none op op.step request call, agent_done setup w op op.step request call)
 agent_call_kind setup w (tasks.Binder m) request is call = absurd (true≢false (sym (ap is_agent is)))
@@ -194,10 +195,13 @@ module _ (setup : Setup) (seat : ℕ) (x : ActorState) (request : Request) (repl
 -- a list, or a watch
 
 pub data Reads (setup : Setup) (seat : ℕ) (x : ActorState) (kind : Kind) (request : Request) (reply : Reply) (h : List Entry) : Type 0 where
-  Lists : from_of seat h kind ≡ None → request ≡ requests.List kind None → reply ≡ replies.Listed (rows_of kind (world setup h).store.rows) (world setup h).store.version → Reads setup seat x kind request reply h
-  FindsGone : (from version : ℕ) → from_of seat h kind ≡ Some from → passing x ≡ Some kind → request ≡ requests.Watch kind from → from < oldest (base setup) (world setup h).store.version → reply ≡ replies.Refused (refusals.Gone version)
+  Lists : from_of seat h kind ≡ None → request ≡ requests.List kind None
+      → reply ≡ replies.Listed (rows_of kind (world setup h).store.rows) (world setup h).store.version → Reads setup seat x kind request reply h
+  FindsGone : (from version : ℕ) → from_of seat h kind ≡ Some from → passing x ≡ Some kind → request ≡ requests.Watch kind from
+      → from < oldest (base setup) (world setup h).store.version → reply ≡ replies.Refused (refusals.Gone version)
       → Reads setup seat x kind request reply h
-  IsTold : (from : ℕ) → from_of seat h kind ≡ Some from → passing x ≡ Some kind → request ≡ requests.Watch kind from → from ≤ (world setup h).store.version → oldest (base setup) (world setup h).store.version ≤ from
+  IsTold : (from : ℕ) → from_of seat h kind ≡ Some from → passing x ≡ Some kind → request ≡ requests.Watch kind from
+      → from ≤ (world setup h).store.version → oldest (base setup) (world setup h).store.version ≤ from
       → reply ≡ replies.Events (told_events kind from (world setup h).store.version (world setup h).log) → Reads setup seat x kind request reply h
 
 pub record ReadCalled (setup : Setup) (seat : ℕ) (x : ActorState) (kind : Kind) (request : Request) (reply : Reply) (h : List Entry) : Type 0 where
@@ -209,7 +213,8 @@ pub record ReadCalled (setup : Setup) (seat : ℕ) (x : ActorState) (kind : Kind
   pub reads : Reads setup seat x kind request reply h
   pub stays : Stays (world setup h) (world setup (told_entry seat x request reply ∷ h)) request reply
 
-list_says : (setup : Setup) (w : World) (seat_kind : SeatKind) (kind : Kind) → reply_to (effect setup w seat_kind (requests.List kind None)) ≡ replies.Listed (rows_of kind w.store.rows) w.store.version
+list_says : (setup : Setup) (w : World) (seat_kind : SeatKind) (kind : Kind)
+    → reply_to (effect setup w seat_kind (requests.List kind None)) ≡ replies.Listed (rows_of kind w.store.rows) w.store.version
 unfolding effect on_devices device_answer outcome list reply_to reply_of
 list_says setup w seat_kind kind = refl
 
@@ -223,7 +228,8 @@ tells_write (replies.Done o) = true
 tells_write (replies.Left o) = true
 tells_write reply = false
 
-pub unwritten : (setup : Setup) (e : Entry) (past : List Entry) → e.reply ≡ reply_to (effect setup (world setup past) e.kind e.request) → tells_write e.reply ≡ false → Stays (world setup past) (world setup (e ∷ past)) e.request e.reply
+pub unwritten : (setup : Setup) (e : Entry) (past : List Entry) → e.reply ≡ reply_to (effect setup (world setup past) e.kind e.request)
+    → tells_write e.reply ≡ false → Stays (world setup past) (world setup (e ∷ past)) e.request e.reply
 unwritten setup e past answered none = elim (world_moves setup e past answered) [
   | inl stays ↦ stays
   | inr wrote ↦ elim wrote.rows [
@@ -259,7 +265,9 @@ module _ (setup : Setup) (seat : ℕ) (x : ActorState) (request : Request) (repl
       }
     where
       asks_it : (from : Option ℕ) → from_of seat h kind ≡ from → read_request kind (ask_from from) ≡ request
-      asks_it from e = one (read_request kind (ask_from from)) request (ap (λ f. Some (read_request kind (ask_from f))) (sym ((given.stands.caches.each kind).from ∙ (ap (λ k. watch_from (following_of (own seat h) k)) (given.stands.caches.kinds kind) ∙ e))) ∙ (ap (given_call x) (sym eg) ∙ given.ask))
+      asks_it from e = one (read_request kind (ask_from from)) request
+          (ap (λ f. Some (read_request kind (ask_from f)))
+          (sym ((given.stands.caches.each kind).from ∙ (ap (λ k. watch_from (following_of (own seat h) k)) (given.stands.caches.kinds kind) ∙ e))) ∙ (ap (given_call x) (sym eg) ∙ given.ask))
 
       watched : (from : ℕ) → from_of seat h kind ≡ Some from → request ≡ requests.Watch kind from → Reads setup seat x kind request reply h
       watched from e is = says (watch_says setup (world setup h) x.role.kind kind from (low_from kind from e))

@@ -2,9 +2,9 @@
 use Rattle.std.proofs.Common.{◌≡◌, ◌∙◌, ◌⊎◌, ℕ, ◌+◌, ◌≤◌, ◌<◌, List, [], ◌∷◌, length, Bool, true, false, Option, Some, None, inl, inr, refl, sym, ap, subst, arith, if◌then◌else◌}
 use Rattle.std.specs.Prelude.{◌==◌, nat_lt, not, option_map}
 use Rattle.std.proofs.lemmas.Bool.Decides.{nat_tests}
-use Rattle.kube_types.specs.declared.parts.Kind.{Kind}
-use Rattle.kube_types.specs.Keys.{same_kind}
-use Rattle.kube_types.proofs.SameKeys.{same_kind-Decides}
+use Rattle.kube_parts.specs.declared.parts.Kind.{Kind}
+use Rattle.kube_objects.specs.Keys.{same_kind}
+use Rattle.kube_objects.proofs.SameKeys.{same_kind-Decides}
 use Rattle.call_types.specs.declared.entry.Entry.{Entry}
 use Rattle.call_types.specs.declared.reply.Reply.{Reply}
 use Rattle.call_types.specs.declared.reply.Reply.TheVariants as replies
@@ -52,7 +52,8 @@ pub first_low : (setup : Setup) (h : List Entry) → base_of setup ≤ (world se
 first_low setup h = subst (λ es. base_of setup ≤ (world setup es).store.version) (nil_right h) (rises setup h [])
 
 -- what was reached, after one call
-module _ (setup : Setup) (seat base : ℕ) (x : ActorState) (request : Request) (reply : Reply) (h : List Entry) (given : IsCallGiven setup seat x request reply h) (begun : base ≤ (world setup h).store.version) where
+module _ (setup : Setup) (seat base : ℕ) (x : ActorState) (request : Request) (reply : Reply) (h : List Entry)
+    (given : IsCallGiven setup seat x request reply h) (begun : base ≤ (world setup h).store.version) where
   pub light_of : WritesLight x.role.kind reply
   light_of = by (given_so x request given.ask)
     where
@@ -87,7 +88,8 @@ module _ (setup : Setup) (seat base : ℕ) (x : ActorState) (request : Request) 
           let old = before f (ap (from_of seat h) (sym k_is) ∙ some) in
           up_to (length (told kind f (world setup h).log) == most_events) refl u old
         where
-          up_to : (full : Bool) → (length (told kind f (world setup h).log) == most_events) ≡ full → (told_events kind f (world setup h).store.version (world setup h).log).upto ≡ from → base ≤ f → base ≤ from
+          up_to : (full : Bool) → (length (told kind f (world setup h).log) == most_events) ≡ full
+              → (told_events kind f (world setup h).store.version (world setup h).log).upto ≡ from → base ≤ f → base ≤ from
           up_to true e u old = let r = (told_so setup h kind f true low e).reached refl in omega (arith, r, u, old)
           up_to false e u old = let r = (told_so setup h kind f false low e).whole refl in omega (arith, r, u, begun)
 
@@ -104,7 +106,8 @@ pub data TurnOf (s given : ActorState) : Type 0 where
 pub turn_of : (s given : ActorState) (request : Request) → IsTurn s given (Call request) → TurnOf s given
 turn_of s given request turn = by s.memory.stale s.under (start_call s.role s.memory) (unlisted s) (passing s) refl refl refl turn
   where
-    by : (stale : Bool) (u : Option Under) (start : Option Request) (l p : Option Kind) → s.under ≡ u → unlisted s ≡ l → passing s ≡ p → TurnBy s given (Call request) stale u start l p → TurnOf s given
+    by : (stale : Bool) (u : Option Under) (start : Option Request) (l p : Option Kind) → s.under ≡ u → unlisted s ≡ l → passing s ≡ p
+        → TurnBy s given (Call request) stale u start l p → TurnOf s given
     by true u start l p eu el ep t = none_some (sym (ap call_in t.idle))
     by false (Some u) start l p eu el ep t = IsBefore (Some givens.Task) t.state
     by false None (Some r) l p eu el ep t = IsBefore (Some givens.Start) t.state
@@ -137,7 +140,8 @@ at_or_before i n lt = by (nat_lt i n) refl
 
 module _ (setup : Setup) (seat : ℕ) where
   -- a call that was given and told
-  pub given_at : (s given : ActorState) (h : List Entry) (request : Request) (reply : Reply) → IsBuiltKind s.role.kind → IsReady seat s h → IsTurn s given (Call request) → IsHistory setup (told_entry seat given request reply ∷ h) → IsCallGiven setup seat given request reply h
+  pub given_at : (s given : ActorState) (h : List Entry) (request : Request) (reply : Reply) → IsBuiltKind s.role.kind → IsReady seat s h
+      → IsTurn s given (Call request) → IsHistory setup (told_entry seat given request reply ∷ h) → IsCallGiven setup seat given request reply h
   given_at s given h request reply built ready turn whole = record {
     built = subst (λ (r : Role). IsBuiltKind r.kind) (sym (turn_role s given (Call request) turn)) built;
     stands = turn_stands s given (Call request) (own seat h) ready.rows ready.stands.told turn;
@@ -152,31 +156,40 @@ module _ (setup : Setup) (seat : ℕ) where
   abbrev pub ReachedBehind : ℕ → Role → Pass → List Entry → Type 0
   ReachedBehind reached role pass h = (place : ℕ) (kind : Kind) (from : ℕ) → place < pass.behind → kind_in_order role place ≡ Some kind → from_of seat h kind ≡ Some from → reached ≤ from
 
-  pub pass_on : (x : ActorState) (request : Request) (reply : Reply) (h : List Entry) (given : IsCallGiven setup seat x request reply h) (caches : AllKnown) → PassOn seat x (told_to x caches request reply) (told_entry seat x request reply ∷ h) (world setup h).store.version
+  pub pass_on : (x : ActorState) (request : Request) (reply : Reply) (h : List Entry) (given : IsCallGiven setup seat x request reply h)
+      (caches : AllKnown) → PassOn seat x (told_to x caches request reply) (told_entry seat x request reply ∷ h) (world setup h).store.version
   pass_on x request reply h given caches = by (given_so x request given.ask)
     where
       is_read : (kind : Kind) → x.given ≡ Some (givens.Read kind) → told_to x caches request reply ≡ read_told (learned x caches request reply) kind request reply
       is_read kind eg = ap (given_told (learned x caches request reply) request reply) eg
 
-      behind_is : (kind : Kind) (q : Request) (a : Reply) → x.given ≡ Some (givens.Read kind) → request ≡ q → reply ≡ a → (told_to x caches request reply).pass.behind ≡ (pass_after x.pass (is_passing (passing x) kind) q a).behind
-      behind_is kind q a eg asks answered = ap (λ (y : ActorState). y.pass.behind) (is_read kind eg) ∙ (ap (λ r. (pass_after x.pass (is_passing (passing x) kind) r reply).behind) asks ∙ ap (λ r. (pass_after x.pass (is_passing (passing x) kind) q r).behind) answered)
+      behind_is : (kind : Kind) (q : Request) (a : Reply) → x.given ≡ Some (givens.Read kind) → request ≡ q → reply ≡ a
+          → (told_to x caches request reply).pass.behind ≡ (pass_after x.pass (is_passing (passing x) kind) q a).behind
+      behind_is kind q a eg asks answered = ap (λ (y : ActorState). y.pass.behind) (is_read kind eg)
+          ∙ (ap (λ r. (pass_after x.pass (is_passing (passing x) kind) r reply).behind) asks ∙ ap (λ r. (pass_after x.pass (is_passing (passing x) kind) q r).behind) answered)
 
-      told_by : (kind : Kind) (from : ℕ) → x.given ≡ Some (givens.Read kind) → from_of seat h kind ≡ Some from → passing x ≡ Some kind → request ≡ requests.Watch kind from → from ≤ (world setup h).store.version → reply ≡ replies.Events (told_events kind from (world setup h).store.version (world setup h).log)
-          → (full : Bool) → (length (told kind from (world setup h).log) == most_events) ≡ full → PassOn seat x (told_to x caches request reply) (told_entry seat x request reply ∷ h) (world setup h).store.version
+      told_by : (kind : Kind) (from : ℕ) → x.given ≡ Some (givens.Read kind) → from_of seat h kind ≡ Some from → passing x ≡ Some kind
+          → request ≡ requests.Watch kind from → from ≤ (world setup h).store.version → reply ≡ replies.Events (told_events kind from (world setup h).store.version (world setup h).log)
+          → (full : Bool) → (length (told kind from (world setup h).log) == most_events) ≡ full
+          → PassOn seat x (told_to x caches request reply) (told_entry seat x request reply ∷ h) (world setup h).store.version
       told_by kind from eg some passes asks low answered full e = with_full full e
         where
           goes : (f : Bool) → (length (told kind from (world setup h).log) == most_events) ≡ f → (told_to x caches request reply).pass.behind ≡ (if not f then x.pass.behind + 1 else x.pass.behind)
           goes f e2 =
               let is_p : is_passing (passing x) kind ≡ true = ap (λ k. is_passing k kind) passes ∙ (same_kind-Decides kind kind).1 refl in
-              behind_is kind (requests.Watch kind from) _ eg asks answered ∙ (ap (λ p. (pass_after x.pass p (requests.Watch kind from) (replies.Events (told_events kind from (world setup h).store.version (world setup h).log))).behind) is_p ∙ ap (λ f. if not f then x.pass.behind + 1 else x.pass.behind) e2)
+              behind_is kind (requests.Watch kind from) _ eg asks answered
+              ∙ (ap (λ p. (pass_after x.pass p (requests.Watch kind from)
+              (replies.Events (told_events kind from (world setup h).store.version (world setup h).log))).behind) is_p ∙ ap (λ f. if not f then x.pass.behind + 1 else x.pass.behind) e2)
 
-          with_full : (f : Bool) → (length (told kind from (world setup h).log) == most_events) ≡ f → PassOn seat x (told_to x caches request reply) (told_entry seat x request reply ∷ h) (world setup h).store.version
+          with_full : (f : Bool) → (length (told kind from (world setup h).log) == most_events) ≡ f
+              → PassOn seat x (told_to x caches request reply) (told_entry seat x request reply ∷ h) (world setup h).store.version
           with_full true e2 = Stands (goes true e2)
           with_full false e2 =
               let now = watched_from seat (told_entry seat x request reply) h refl refl kind from from (world setup h).store.version (world setup h).log asks answered some in
               GoesOn kind passes (now ∙ ap Some ((told_so setup h kind from false low e2).whole refl)) (goes false e2)
 
-      read_by : (kind : Kind) → x.given ≡ Some (givens.Read kind) → Reads setup seat x kind request reply h → PassOn seat x (told_to x caches request reply) (told_entry seat x request reply ∷ h) (world setup h).store.version
+      read_by : (kind : Kind) → x.given ≡ Some (givens.Read kind) → Reads setup seat x kind request reply h
+          → PassOn seat x (told_to x caches request reply) (told_entry seat x request reply ∷ h) (world setup h).store.version
       read_by kind eg (Lists none asks answered) = Stands (behind_is kind (requests.List kind None) reply eg asks refl)
       read_by kind eg (FindsGone from gone some passes asks old answered) = Stands (behind_is kind (requests.Watch kind from) _ eg asks answered)
       read_by kind eg (IsTold from some passes asks low within answered) = told_by kind from eg some passes asks low answered (length (told kind from (world setup h).log) == most_events) refl
@@ -189,7 +202,8 @@ module _ (setup : Setup) (seat : ℕ) where
       by (GivesRead kind eg) = read_by kind eg (read_called setup seat x request reply h given kind eg).reads
 
   -- and those behind it after one call have too
-  pub behind_on : (version : ℕ) (x : ActorState) (request : Request) (reply : Reply) (h : List Entry) → IsCallGiven setup seat x request reply h → version ≤ (world setup h).store.version → ReachedBehind version x.role x.pass h → (caches : AllKnown)
+  pub behind_on : (version : ℕ) (x : ActorState) (request : Request) (reply : Reply) (h : List Entry) → IsCallGiven setup seat x request reply h
+      → version ≤ (world setup h).store.version → ReachedBehind version x.role x.pass h → (caches : AllKnown)
       → ReachedBehind version (told_to x caches request reply).role (told_to x caches request reply).pass (told_entry seat x request reply ∷ h)
   behind_on version x request reply h given begun behind caches place kind from lt there is = on (pass_on x request reply h given caches)
     where

@@ -2,11 +2,11 @@
 -- lowers it.
 use Rattle.std.proofs.Common.{◌≡◌, ◌∙◌, ℕ, ◌+◌, ◌-◌, ◌≤◌, List, [], ◌∷◌, Bool, true, false, Option, Some, None, inl, inr, refl, sym, ap, subst, arith, if◌then◌else◌}
 use Rattle.std.specs.Prelude.{map}
-use Rattle.kube_types.specs.declared.key.Key.{Key}
-use Rattle.kube_types.specs.declared.parts.Kind.{Kind}
-use Rattle.kube_types.specs.declared.objects.Object.{Object}
-use Rattle.kube_types.specs.Keys.{key_of, kind_of, row_at}
-use Rattle.kube_types.proofs.KeyOrder.{row_at_key}
+use Rattle.kube_objects.specs.declared.key.Key.{Key}
+use Rattle.kube_parts.specs.declared.parts.Kind.{Kind}
+use Rattle.kube_objects.specs.declared.objects.Object.{Object}
+use Rattle.kube_objects.specs.Keys.{key_of, kind_of, row_at}
+use Rattle.kube_objects.proofs.KeyOrder.{row_at_key}
 use Rattle.call_types.specs.declared.entry.Entry.{Entry}
 use Rattle.call_types.specs.declared.request.Request.{Request}
 use Rattle.call_types.specs.declared.setup.Setup.{Setup}
@@ -64,9 +64,11 @@ module _ (role : Role) (memory : Memory) (rows : List Object) (stored : List Obj
       by None e = omega arith
       by (Some o) e = each o (row_at_key other o stored e)
 
-  dropped_cost : (first : First) (key : Key) (w : Work) → oldest_of w.waiting ≡ Some key → taken_keys w ≡ [] → GivesNone role memory rows key first → work_cost (key_cost role.kind stored) (dropped first key w) ≤ work_cost (key_cost role.kind stored) w
+  dropped_cost : (first : First) (key : Key) (w : Work) → oldest_of w.waiting ≡ Some key → taken_keys w ≡ [] → GivesNone role memory rows key first
+      → work_cost (key_cost role.kind stored) (dropped first key w) ≤ work_cost (key_cost role.kind stored) w
   dropped_cost firsts.Drops key w old none gives = let a = begun_cost (key_cost role.kind stored) key w old in let b = finished_cost (key_cost role.kind stored) key (begun w) in omega (arith, a, b)
-  dropped_cost (firsts.Begins task) key w old none gives = let a = begun_cost (key_cost role.kind stored) key w old in let b = finished_cost (key_cost role.kind stored) key (begun w) in omega (arith, a, b)
+  dropped_cost (firsts.Begins task) key w old none gives = let a = begun_cost (key_cost role.kind stored) key w old in let b =
+      finished_cost (key_cost role.kind stored) key (begun w) in omega (arith, a, b)
   dropped_cost (firsts.Queues other) key w old none gives =
       let q = queued_on role memory rows key other gives.decided in
       let own = row_cost key q.object q.there q.followed in
@@ -76,7 +78,8 @@ module _ (role : Role) (memory : Memory) (rows : List Object) (stored : List Obj
       let c = finished_cost (key_cost role.kind stored) key (added other (begun w)) in
       omega (arith, own, more, a, b, c)
 
-  decided_cost : (after : Work) (under : Option Under) (w : Work) → Decides role memory rows after under w → taken_keys w ≡ [] → under_left under + work_cost (key_cost role.kind stored) after ≤ work_cost (key_cost role.kind stored) w
+  decided_cost : (after : Work) (under : Option Under) (w : Work) → Decides role memory rows after under w → taken_keys w ≡ []
+      → under_left under + work_cost (key_cost role.kind stored) after ≤ work_cost (key_cost role.kind stored) w
   decided_cost after under w (Nothing empty same none) e = let a = ap (work_cost (key_cost role.kind stored)) same in let b = ap under_left none in omega (arith, a, b)
   decided_cost after under w (Begins u old gives same some) e =
       let b = begun_on role.kind role.node memory rows u.key u.task gives.decided in
@@ -92,7 +95,8 @@ module _ (role : Role) (memory : Memory) (rows : List Object) (stored : List Obj
       omega (arith, a, b)
 
 -- a turn that gives a call leaves the rest as it is
-pub turn_cost : (setup : Setup) (seat m high : ℕ) (s given : ActorState) (request : Request) (h : List Entry) → IsTurn s given (Call request) → (passing s ≡ None → SeesStore setup s h) → taken_keys s.work ≡ under_keys s.under
+pub turn_cost : (setup : Setup) (seat m high : ℕ) (s given : ActorState) (request : Request) (h : List Entry) → IsTurn s given (Call request)
+    → (passing s ≡ None → SeesStore setup s h) → taken_keys s.work ≡ under_keys s.under
     → second_cost setup seat s.role.kind m high given h ≤ second_cost setup seat s.role.kind m high s h
 turn_cost setup seat m high s given request h turn exact own_taken = by s.memory.stale s.under (start_call s.role s.memory) (unlisted s) (passing s) refl refl turn
   where
@@ -102,7 +106,8 @@ turn_cost setup seat m high s given request h turn exact own_taken = by s.memory
     same : (x : ActorState) → given ≡ x → cost x ≤ cost s → cost given ≤ cost s
     same x e le = subst (λ y. cost y ≤ cost s) (sym e) le
 
-    keys : (w : Work) (under : Option Under) → s.under ≡ None → passing s ≡ None → Decides s.role s.memory (all_objects s.caches) w under s.work → AfterKeys s given (Call request) w under → cost given ≤ cost s
+    keys : (w : Work) (under : Option Under) → s.under ≡ None → passing s ≡ None → Decides s.role s.memory (all_objects s.caches) w under s.work
+        → AfterKeys s given (Call request) w under → cost given ≤ cost s
     keys w (Some u) eu ep d b =
         let none : taken_keys s.work ≡ [] = own_taken ∙ ap under_keys eu in
         let c = decided_cost s.role s.memory (all_objects s.caches) (world setup h).store.rows (exact ep) w (Some u) s.work d none in

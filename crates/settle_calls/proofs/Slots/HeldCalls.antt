@@ -1,7 +1,7 @@
 -- Calls that are never held back (reads, and those of the start), and the tasks of those that are.
 use Rattle.std.proofs.Common.{◌≡◌, ◌∙◌, ℕ, ◌≤◌, List, Bool, true, false, true≢false, Option, Some, None, refl, sym, ap, arith}
 use Rattle.std.specs.Prelude.{is_some, option_map}
-use Rattle.kube_types.specs.declared.parts.Kind.{Kind}
+use Rattle.kube_parts.specs.declared.parts.Kind.{Kind}
 use Rattle.call_types.specs.declared.entry.Entry.{Entry}
 use Rattle.call_types.specs.declared.reply.Reply.TheVariants as replies
 use Rattle.call_types.specs.declared.request.Request.{Request}

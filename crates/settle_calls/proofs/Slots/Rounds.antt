@@ -3,8 +3,8 @@ use Rattle.std.proofs.Common.{◌≡◌, ℕ, suc, ◌+◌, ◌*◌, ◌-◌, �
 use Rattle.std.specs.Prelude.{◌/◌}
 use Rattle.std.proofs.Math.Nat.{add-mul}
 use Rattle.std.proofs.lemmas.Nat.{mul-le}
-use Rattle.kube_types.specs.declared.objects.Object.{Object}
-use Rattle.kube_types.specs.declared.objects.Object.TheVariants.{Class, Node, Volume, Claim, Pod}
+use Rattle.kube_objects.specs.declared.objects.Object.{Object}
+use Rattle.kube_objects.specs.declared.objects.Object.TheVariants.{Class, Node, Volume, Claim, Pod}
 use Rattle.call_types.specs.declared.entry.Entry.{Entry}
 use Rattle.call_types.specs.declared.request.SeatKind.{SeatKind}
 use Rattle.call_types.specs.declared.request.SeatKind.TheVariants as seats
@@ -71,14 +71,19 @@ total_sized (o ∷ os) = let a = sized o in let b = total_sized os in omega (ari
 
 -- over a slot
 module _ (setup : Setup) (lets : Lets) (seat : ℕ) (after : ActorState) (past : List Entry) (left : ℕ) (idle : Bool) where
-  run_costs : (s : ActorState) (h : List Entry) (b : ℕ) → Runs lets seat after past left idle s h b → IsBuiltKind s.role.kind → agent_cost setup past + 3 * (world setup h).store.version ≤ agent_cost setup h + 3 * (world setup past).store.version
-  run_costs s h b (IsSpent none state entries rest busy) built = subst (λ es. agent_cost setup es + 3 * (world setup h).store.version ≤ agent_cost setup h + 3 * (world setup es).store.version) (sym entries) (omega arith)
-  run_costs s h b (IsIdle some ready turn entries rest calm) built = subst (λ es. agent_cost setup es + 3 * (world setup h).store.version ≤ agent_cost setup h + 3 * (world setup es).store.version) (sym entries) (omega arith)
+  run_costs : (s : ActorState) (h : List Entry) (b : ℕ) → Runs lets seat after past left idle s h b → IsBuiltKind s.role.kind
+      → agent_cost setup past + 3 * (world setup h).store.version ≤ agent_cost setup h + 3 * (world setup past).store.version
+  run_costs s h b (IsSpent none state entries rest busy) built =
+      subst (λ es. agent_cost setup es + 3 * (world setup h).store.version ≤ agent_cost setup h + 3 * (world setup es).store.version) (sym entries) (omega arith)
+  run_costs s h b (IsIdle some ready turn entries rest calm) built =
+      subst (λ es. agent_cost setup es + 3 * (world setup h).store.version ≤ agent_cost setup h + 3 * (world setup es).store.version) (sym entries) (omega arith)
   run_costs s h b (Asks given next request reply some ready turn lets_it absorbs more) built =
-      let ih = run_costs next (told_entry seat given request reply ∷ h) (b - 1) more (subst (λ (r : Role). IsBuiltKind r.kind) (sym (still_role s given next (Call request) request (Told reply) turn absorbs)) built) in
+      let ih = run_costs next (told_entry seat given request reply ∷ h) (b - 1) more
+      (subst (λ (r : Role). IsBuiltKind r.kind) (sym (still_role s given next (Call request) request (Told reply) turn absorbs)) built) in
       let may : Licensed s.role.kind (own seat h) request = answer_licensed s given (Call request) (own seat h) built ready.rows ready.stands.told turn in
       let kind : given.role.kind ≡ s.role.kind = ap (λ (r : Role). r.kind) (turn_role s given (Call request) turn) in
-      let grows = (subst (λ k. Grows (world setup h) (world_after (world setup h) (effect setup (world setup h) k request))) (sym kind) (call_grows setup h s.role.kind (own seat h) request built may)).costs in
+      let grows = (subst (λ k. Grows (world setup h) (world_after (world setup h) (effect setup (world setup h) k request))) (sym kind)
+      (call_grows setup h s.role.kind (own seat h) request built may)).costs in
       omega (arith, ih, grows)
   run_costs s h b (IsHeld given next request some ready turn held absorbs more) built =
       run_costs next h (b - 1) more (subst (λ (r : Role). IsBuiltKind r.kind) (sym (still_role s given next (Call request) request Lost turn absorbs)) built)
@@ -98,14 +103,17 @@ module _ (setup : Setup) (lets : Lets) (passes : PassesReads lets) (past : List 
   abbrev part : ℕ
   part = (3 * size + 6 * ((world setup past).store.version - first)) + 5 * ((3 * size + 6 * ((world setup past).store.version - first) + 7) * (((world setup past).store.version - first) / 513)) + 62
 
-  rounds : (ds : List Drainer) (h : List Entry) (b : ℕ) (after : List Drainer) (whole : Bool) → IsRound lets past left ds h b after whole → AreBuilt (roles_of ds) → first ≤ (world setup h).store.version
-      → agent_cost setup h ≤ 3 * size + 3 * ((world setup h).store.version - first) → b ≤ left + (20 * ((world setup past).store.version - (world setup h).store.version) + all_left ds + length ds * part)
+  rounds : (ds : List Drainer) (h : List Entry) (b : ℕ) (after : List Drainer) (whole : Bool) → IsRound lets past left ds h b after whole
+      → AreBuilt (roles_of ds) → first ≤ (world setup h).store.version
+      → agent_cost setup h ≤ 3 * size + 3 * ((world setup h).store.version - first)
+      → b ≤ left + (20 * ((world setup past).store.version - (world setup h).store.version) + all_left ds + length ds * part)
   rounds ds h b after whole (Ends entries rest) built low small = omega (arith, rest)
   rounds _ h b _ _ (Turns {ds = ds} {after = later_} {whole = w} d ran middle rest idle seat run more) built low small =
       let ih = rounds ds middle rest later_ w more built.1 (omega (arith, low, up)) (omega (arith, costs, small, low, up)) in
       let slot = slots_are_short setup lets d.seat d.actor ran.actor h middle b rest idle built.0 before passes run in
       let cheap = total_less (calls_for seats.Agent) (calls_for d.actor.role.kind) (world setup h).store.rows (cheaper d.actor.role.kind) in
-      let bound = slot_part (under_left d.actor.under) (total (calls_for d.actor.role.kind) (world setup h).store.rows) size (writes_since setup h middle) ((world setup past).store.version - first) (omega (arith, low, up, on)) (omega (arith, cheap, small, low, up, on)) in
+      let bound = slot_part (under_left d.actor.under) (total (calls_for d.actor.role.kind) (world setup h).store.rows) size
+      (writes_since setup h middle) ((world setup past).store.version - first) (omega (arith, low, up, on)) (omega (arith, cheap, small, low, up, on)) in
       let one_more : suc (length ds) * part ≡ part + length ds * part = one_part (length ds) part in
       omega (arith, ih, slot, bound, one_more, up, on)
     where
@@ -116,15 +124,18 @@ module _ (setup : Setup) (lets : Lets) (passes : PassesReads lets) (past : List 
       up = later setup lets d.seat ran.actor middle rest idle (woken d.actor) h b run
 
       on : (world setup middle).store.version ≤ (world setup past).store.version
-      on = let g = round_grows lets past left ds middle rest later_ w more in subst (λ es. (world setup middle).store.version ≤ (world setup es).store.version) (sym g.longer.are) (rises setup g.longer.added middle)
+      on = let g = round_grows lets past left ds middle rest later_ w more in
+          subst (λ es. (world setup middle).store.version ≤ (world setup es).store.version) (sym g.longer.are) (rises setup g.longer.added middle)
 
       costs : agent_cost setup middle + 3 * (world setup h).store.version ≤ agent_cost setup h + 3 * (world setup middle).store.version
       costs = run_costs setup lets d.seat ran.actor middle rest idle (woken d.actor) h b run built.0
 
       one_part : (n p : ℕ) → suc n * p ≡ p + n * p
-      one_part n p = let e = add-mul n 1 p in let o : 1 * p ≡ p = omega arith in let s : suc n * p ≡ (n + 1) * p = ap (λ k. k * p) (let h2 : suc n ≡ n + 1 = omega arith in h2) in omega (arith, e, o, s)
+      one_part n p = let e = add-mul n 1 p in let o : 1 * p ≡ p = omega arith in let s : suc n * p ≡ (n + 1) * p =
+          ap (λ k. k * p) (let h2 : suc n ≡ n + 1 = omega arith in h2) in omega (arith, e, o, s)
 
 pub rounds_are_short : RoundsAreShort
 rounds_are_short setup lets ds after h past b left whole roles history passes round =
     let sized_all = total_sized (world setup h).store.rows in
-    rounds setup lets passes past left history (size_of_world (world setup h)) (world setup h).store.version ds h b after whole round (roles_built (roles_of ds) roles) (omega arith) (omega (arith, sized_all))
+    rounds setup lets passes past left history (size_of_world (world setup h)) (world setup h).store.version ds h b after whole round
+    (roles_built (roles_of ds) roles) (omega arith) (omega (arith, sized_all))

@@ -1,14 +1,14 @@
 -- What a decision begins makes no more calls than the object that stands there may cost, and a key that is queued in place of another costs no more.
 use Rattle.std.proofs.Common.{◌≡◌, ℕ, ◌+◌, ◌*◌, ◌-◌, ◌≤◌, List, [], length, Bool, true, false, true≢false, Option, Some, None, refl, sym, ap, subst, arith, if◌then◌else◌}
 use Rattle.std.specs.Prelude.{◌&&◌, bytes_eq, slice_get}
-use Rattle.kube_types.specs.declared.key.Key.{Key}
-use Rattle.kube_types.specs.declared.uid.Uid.{Uid}
-use Rattle.kube_types.specs.declared.objects.Object.{Object}
-use Rattle.kube_types.specs.declared.objects.Object.TheVariants.{Class, Node, Volume, Claim, Pod}
-use Rattle.kube_types.specs.declared.objects.Pod.{Pod as PodData}
-use Rattle.kube_types.specs.Bindings.{is_deleting, is_scheduled}
-use Rattle.kube_types.specs.Keys.{key_of, kind_index, kind_of, row_at}
-use Rattle.kube_types.proofs.KeyOrder.{row_at_key}
+use Rattle.kube_objects.specs.declared.key.Key.{Key}
+use Rattle.kube_parts.specs.declared.uid.Uid.{Uid}
+use Rattle.kube_objects.specs.declared.objects.Object.{Object}
+use Rattle.kube_objects.specs.declared.objects.Object.TheVariants.{Class, Node, Volume, Claim, Pod}
+use Rattle.kube_objects.specs.declared.objects.Pod.{Pod as PodData}
+use Rattle.kube_objects.specs.Bindings.{is_deleting, is_scheduled}
+use Rattle.kube_objects.specs.Keys.{key_of, kind_index, kind_of, row_at}
+use Rattle.kube_objects.proofs.KeyOrder.{row_at_key}
 use Rattle.call_types.specs.declared.reply.MountRow.{MountRow}
 use Rattle.call_types.specs.declared.request.SeatKind.{SeatKind}
 use Rattle.call_types.specs.declared.request.SeatKind.TheVariants as seats
@@ -160,7 +160,9 @@ agent_step p = by (slice_get p.claims 0)
 agent_op : (node : List ℕ) (epoch : ℕ) (mounts : List MountRow) (p : PodData) (op : AgentOp) → agent_for node epoch mounts p ≡ Some op → agent_left op ≤ 3 + 2 * length p.claims
 agent_op node epoch mounts p op e = by (is_scheduled p && bytes_eq p.node node) p.meta.uid e
   where
-    at : (uid : Uid) (deleting mounted : Bool) → (if deleting then Some (at_start node epoch p uid agent_steps.Unmounts) else if mounted then None else Some (at_start node epoch p uid (step_for p []))) ≡ Some op → agent_left op ≤ 3 + 2 * length p.claims
+    at : (uid : Uid) (deleting mounted : Bool)
+        → (if deleting then Some (at_start node epoch p uid agent_steps.Unmounts) else if mounted then None else Some
+        (at_start node epoch p uid (step_for p []))) ≡ Some op → agent_left op ≤ 3 + 2 * length p.claims
     at uid true mounted h = subst (λ o. agent_left o ≤ 3 + 2 * length p.claims) (one (at_start node epoch p uid agent_steps.Unmounts) op h) (omega arith)
     at uid false true h = none_some h
     at uid false false h = subst (λ o. agent_left o ≤ 3 + 2 * length p.claims) (one (at_start node epoch p uid (step_for p [])) op h) (agent_step p)
@@ -173,7 +175,8 @@ agent_op node epoch mounts p op e = by (is_scheduled p && bytes_eq p.node node) 
     by true x h = known x h
     by false x h = none_some h
 
-agent_begun : (node : List ℕ) (epoch : ℕ) (mounts : List MountRow) (row : Option Object) (task : Task) → firsts.Begins task ≡ agent_first (agent_begins node epoch mounts row) → BeginsOnRow seats.Agent row task
+agent_begun : (node : List ℕ) (epoch : ℕ) (mounts : List MountRow) (row : Option Object) (task : Task)
+    → firsts.Begins task ≡ agent_first (agent_begins node epoch mounts row) → BeginsOnRow seats.Agent row task
 agent_begun node epoch mounts (Some (Pod p)) task first = by (agent_for node epoch mounts p) refl (ap task_in first)
   where
     by : (x : Option AgentOp) → agent_for node epoch mounts p ≡ x → Some task ≡ task_in (agent_first x) → BeginsOnRow seats.Agent (Some (Pod p)) task
@@ -185,12 +188,14 @@ agent_begun node epoch mounts (Some (Class x)) task first = none_some (sym (ap t
 agent_begun node epoch mounts (Some (Node x)) task first = none_some (sym (ap task_in first))
 agent_begun node epoch mounts None task first = none_some (sym (ap task_in first))
 
-agent_any : (node : List ℕ) (epoch : Option ℕ) (mounts : Option (List MountRow)) (row : Option Object) (task : Task) → IsAgentFirst node epoch mounts row (firsts.Begins task) → BeginsOnRow seats.Agent row task
+agent_any : (node : List ℕ) (epoch : Option ℕ) (mounts : Option (List MountRow)) (row : Option Object) (task : Task)
+    → IsAgentFirst node epoch mounts row (firsts.Begins task) → BeginsOnRow seats.Agent row task
 agent_any node (Some epoch) (Some mounts) row task first = agent_begun node epoch mounts row task first
 agent_any node (Some epoch) None row task first = absurd first
 agent_any node None mounts row task first = absurd first
 
-pub begun_on : (kind : SeatKind) (node : List ℕ) (m : Memory) (rows : List Object) (key : Key) (task : Task) → IsFirstOf kind node m rows key (firsts.Begins task) → BeginsOnRow kind (row_at key rows) task
+pub begun_on : (kind : SeatKind) (node : List ℕ) (m : Memory) (rows : List Object) (key : Key) (task : Task)
+    → IsFirstOf kind node m rows key (firsts.Begins task) → BeginsOnRow kind (row_at key rows) task
 begun_on seats.Binder node m rows key (tasks.Binder machine) first = binder_begun rows (row_at key rows) machine first
 begun_on seats.Binder node m rows key _ first = absurd first
 begun_on seats.Ops node m rows key task first = ops_begun rows (row_at key rows) task first
@@ -235,7 +240,8 @@ queues first = false
 pub queued_on : (role : Role) (m : Memory) (rows : List Object) (key other : Key) → IsFirstOf role.kind role.node m rows key (firsts.Queues other) → QueuesOnRow role.kind (row_at key rows) other
 queued_on role m rows key other first = by role.kind first (queued_kinds role m rows key other first)
   where
-    binder : (row : Option Object) → row_at key rows ≡ row → IsFirst rows row (binder_firsts.Queues other) → (kind_index key.kind ≡ 2) × (kind_index other.kind ≡ 3) → QueuesOnRow seats.Binder (row_at key rows) other
+    binder : (row : Option Object) → row_at key rows ≡ row → IsFirst rows row (binder_firsts.Queues other) → (kind_index key.kind ≡ 2)
+        × (kind_index other.kind ≡ 3) → QueuesOnRow seats.Binder (row_at key rows) other
     binder None e f k = absurd (true≢false (ap binder_queues f))
     binder (Some (Volume v)) e f k = record { object = Volume v; there = e; followed = refl; heavy = λ o is. claim_is o other is k.1 }
     binder (Some (Claim c)) e f k = let own = ap (λ (x : Key). kind_index x.kind) (row_at_key key (Claim c) rows e) in let two = k.0 in absurd (omega (arith, own, two))

@@ -1,15 +1,43 @@
 -- Each call of a task is a write that is done, or leaves it fewer calls to make.
-use Rattle.std.proofs.Common.{◌≡◌, ◌∙◌, ℕ, ◌+◌, ◌*◌, ◌-◌, ◌≤◌, ◌<◌, List, [], ◌∷◌, ◌++◌, length, length-append, Bool, true, false, true≢false, Option, Some, None, refl, sym, ap, subst, arith, if◌then◌else◌}
+use Rattle.std.proofs.Common.{
+  ◌≡◌,
+  ◌∙◌,
+  ℕ,
+  ◌+◌,
+  ◌*◌,
+  ◌-◌,
+  ◌≤◌,
+  ◌<◌,
+  List,
+  [],
+  ◌∷◌,
+  ◌++◌,
+  length,
+  length-append,
+  Bool,
+  true,
+  false,
+  true≢false,
+  Option,
+  Some,
+  None,
+  refl,
+  sym,
+  ap,
+  subst,
+  arith,
+  if◌then◌else◌,
+}
 use Rattle.std.specs.Prelude.{◌&&◌, ◌||◌, bytes_eq, is_some, nat_lt, not, option_map, slice_get}
 use Rattle.std.specs.List.{list_any}
 use Rattle.std.proofs.lemmas.Option.{slice_get_within}
-use Rattle.kube_types.specs.declared.uid.Uid.{Uid}
-use Rattle.kube_types.specs.declared.objects.Claim.{Claim as ClaimData}
-use Rattle.kube_types.specs.declared.objects.Class.{Class as ClassData}
-use Rattle.kube_types.specs.declared.objects.Object.{Object}
-use Rattle.kube_types.specs.declared.objects.Object.TheVariants.{Volume, Claim}
-use Rattle.kube_types.specs.declared.objects.Volume.{Volume as VolumeData}
-use Rattle.kube_types.specs.Bindings.{carries, is_available, is_bound, is_empty, is_ended, is_protected_volume}
+use Rattle.kube_parts.specs.declared.uid.Uid.{Uid}
+use Rattle.kube_objects.specs.declared.objects.Claim.{Claim as ClaimData}
+use Rattle.kube_objects.specs.declared.objects.Class.{Class as ClassData}
+use Rattle.kube_objects.specs.declared.objects.Object.{Object}
+use Rattle.kube_objects.specs.declared.objects.Object.TheVariants.{Volume, Claim}
+use Rattle.kube_objects.specs.declared.objects.Volume.{Volume as VolumeData}
+use Rattle.kube_objects.specs.Bindings.{carries, is_available, is_bound, is_empty, is_ended, is_protected_volume}
 use Rattle.call_types.specs.declared.reply.Refusal.TheVariants as refusals
 use Rattle.call_types.specs.declared.reply.Reply.{Reply}
 use Rattle.call_types.specs.declared.reply.Reply.TheVariants as replies
@@ -117,7 +145,8 @@ freed v = by (refers_by_uid v) (is_available v.phase)
 claimed : (v : VolumeData) (c : ClaimData) → machine_left_if (machine_for v (claimed_action v c)) ≤ 2
 claimed v c = by (is_empty c.volume_name) (bytes_eq c.volume_name v.meta.name) (is_bound v.phase || not (is_protected_volume v)) _
   where
-    by : (a b d e : Bool) → machine_left_if (machine_for v (if a then actions.QueueClaim else if b then (if d then actions.Nothing else actions.Bound) else if e then actions.Release else actions.Unbind)) ≤ 2
+    by : (a b d e : Bool) → machine_left_if (machine_for v
+        (if a then actions.QueueClaim else if b then (if d then actions.Nothing else actions.Bound) else if e then actions.Release else actions.Unbind)) ≤ 2
     by true b d e = omega arith
     by false true true e = omega arith
     by false true false e = omega arith
@@ -132,7 +161,8 @@ read_claim : (v : VolumeData) (o : Option Object) → machine_left_if (machine_f
 unfolding volume_read
 read_claim v o = by (refers_by_uid v) (is_ended v.phase) (is_available v.phase) _ (referred v _)
   where
-    by : (a b d : Bool) (x : VolumeAction) → machine_left_if (machine_for v x) ≤ 2 → machine_left_if (machine_for v (if not a then (if d then actions.Nothing else actions.Available) else if b then actions.Nothing else x)) ≤ 2
+    by : (a b d : Bool) (x : VolumeAction) → machine_left_if (machine_for v x) ≤ 2
+        → machine_left_if (machine_for v (if not a then (if d then actions.Nothing else actions.Available) else if b then actions.Nothing else x)) ≤ 2
     by false b true x h = omega arith
     by false b false x h = omega arith
     by true true d x h = omega arith
@@ -163,7 +193,8 @@ machine_goes (ReadsVolume c) request _ call = omega arith
 
 -- claim protection and volume protection
 
-claim_goes : (step : ClaimGuardStep) (c : ClaimData) (request : Request) (reply : Reply) → claim_guard_call_at step c ≡ Some request → claim_guard_left (claim_guard_step_after step c reply) + 1 ≤ claim_guard_left step
+claim_goes : (step : ClaimGuardStep) (c : ClaimData) (request : Request) (reply : Reply) → claim_guard_call_at step c ≡ Some request
+    → claim_guard_left (claim_guard_step_after step c reply) + 1 ≤ claim_guard_left step
 claim_goes claim_steps.Done c request reply call = none_some call
 claim_goes claim_steps.Parked c request reply call = none_some call
 claim_goes claim_steps.Adds c request (replies.Refused refusal) call = omega arith
@@ -178,7 +209,8 @@ claim_goes claim_steps.ListsPods c request (replies.Listed items version) call =
     by false = omega arith
 claim_goes claim_steps.ListsPods c request _ call = omega arith
 
-volume_goes : (step : VolumeGuardStep) (v : VolumeData) (request : Request) (reply : Reply) → volume_guard_call_at step v ≡ Some request → volume_guard_left (volume_guard_step_after step reply) + 1 ≤ volume_guard_left step
+volume_goes : (step : VolumeGuardStep) (v : VolumeData) (request : Request) (reply : Reply) → volume_guard_call_at step v ≡ Some request
+    → volume_guard_left (volume_guard_step_after step reply) + 1 ≤ volume_guard_left step
 volume_goes volume_steps.Done v request reply call = none_some call
 volume_goes volume_steps.Parked v request reply call = none_some call
 volume_goes volume_steps.Adds v request (replies.Refused refusal) call = omega arith
@@ -188,7 +220,8 @@ volume_goes volume_steps.Drops v request _ call = omega arith
 
 -- the provisioner and the reclaimer
 
-provision_goes : (step : ProvisionStep) (c : ClaimData) (uid : Uid) (x : ClassData) (request : Request) (reply : Reply) → provision_call_at step c uid x ≡ Some request → provision_left (provision_step_after step x reply) + 1 ≤ provision_left step
+provision_goes : (step : ProvisionStep) (c : ClaimData) (uid : Uid) (x : ClassData) (request : Request) (reply : Reply)
+    → provision_call_at step c uid x ≡ Some request → provision_left (provision_step_after step x reply) + 1 ≤ provision_left step
 provision_goes provision_steps.Done c uid x request reply call = none_some call
 provision_goes provision_steps.Parked c uid x request reply call = none_some call
 provision_goes (provision_steps.Provisions labels) c uid x request (replies.Provisioned id topology) call = omega arith
@@ -240,7 +273,8 @@ written_done : (request : Request) (reply : Reply) → is_delete request ≡ fal
 written_done request (replies.Done o) none e = done_counts request o none
 written_done request _ none e = absurd (true≢false (sym e))
 
-schedule_goes : (writes : List Request) (step : ScheduleStep) (request : Request) (reply : Reply) → schedule_call_at writes step ≡ Some request → schedule_left (schedule_step_after writes step reply) + 1 ≤ schedule_left step + done_by request reply
+schedule_goes : (writes : List Request) (step : ScheduleStep) (request : Request) (reply : Reply) → schedule_call_at writes step ≡ Some request
+    → schedule_left (schedule_step_after writes step reply) + 1 ≤ schedule_left step + done_by request reply
 schedule_goes writes schedule_steps.Done request reply call = none_some call
 schedule_goes writes schedule_steps.Parked request reply call = none_some call
 schedule_goes writes (schedule_steps.Writes place) request reply call = by (is_refused reply) (is_written reply) (nat_lt place (length writes)) refl
@@ -256,7 +290,8 @@ schedule_goes writes (schedule_steps.Writes place) request reply call = by (is_r
         of None h = none_some h
         of (Some r) h = test (is_write r) r refl h
 
-    by : (a b d : Bool) → is_written reply ≡ b → schedule_left (if a then schedule_steps.Parked else if b && d then schedule_steps.Writes (place + 1) else schedule_steps.Done) + 1 ≤ 1 + done_by request reply
+    by : (a b d : Bool) → is_written reply ≡ b
+        → schedule_left (if a then schedule_steps.Parked else if b && d then schedule_steps.Writes (place + 1) else schedule_steps.Done) + 1 ≤ 1 + done_by request reply
     by true b d e = omega arith
     by false true true e = let h = written_done request reply none e in omega (arith, h)
     by false true false e = omega arith
@@ -292,7 +327,8 @@ agent_other op agent_steps.Done request reply call none = none_some call
 agent_other op agent_steps.Parked request reply call none = none_some call
 
 -- a claim is ready, and the next one is read
-next_left : (claims : List (List ℕ)) (ready : List ReadyClaim) (n : ℕ) → length ready ≡ n + 1 → mount_left (length claims - length ready) (next_step ready (slice_get claims (length ready))) + 1 ≤ 2 + 2 * (length claims - n)
+next_left : (claims : List (List ℕ)) (ready : List ReadyClaim) (n : ℕ) → length ready ≡ n + 1
+    → mount_left (length claims - length ready) (next_step ready (slice_get claims (length ready))) + 1 ≤ 2 + 2 * (length claims - n)
 next_left claims ready n count = by (slice_get claims (length ready)) refl
   where
     by : (x : Option (List ℕ)) → slice_get claims (length ready) ≡ x → mount_left (length claims - length ready) (next_step ready x) + 1 ≤ 2 + 2 * (length claims - n)
@@ -303,7 +339,8 @@ next_left claims ready n count = by (slice_get claims (length ready)) refl
         reads true lt = omega (arith, lt)
         reads false lt = omega (arith, lt, count)
 
-agent_goes : (op : AgentOp) (step : AgentStep) (request : Request) (reply : Reply) → agent_call_at op step ≡ Some request → after_left (agent_after op step (ready_by step reply) reply) + 1 ≤ mount_left (length op.pod.claims - length op.ready) step
+agent_goes : (op : AgentOp) (step : AgentStep) (request : Request) (reply : Reply) → agent_call_at op step ≡ Some request
+    → after_left (agent_after op step (ready_by step reply) reply) + 1 ≤ mount_left (length op.pod.claims - length op.ready) step
 agent_goes op step request reply call = by (ready_by step reply) refl
   where
     only_volumes : (s : AgentStep) (r : ReadyClaim) → ready_by s reply ≡ Some r → 2 + 2 * (length op.pod.claims - length op.ready) ≤ mount_left (length op.pod.claims - length op.ready) s

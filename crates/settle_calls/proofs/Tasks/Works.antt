@@ -2,9 +2,9 @@
 use Rattle.std.proofs.Common.{◌≡◌, ◌≢◌, ◌∙◌, ℕ, ◌+◌, ◌≤◌, List, [], ◌∷◌, ◌++◌, Bool, true, false, true≢false, Option, Some, None, refl, sym, ap, subst, arith, if◌then◌else◌}
 use Rattle.std.specs.Prelude.{cond, map, ◌||◌}
 use Rattle.std.specs.List.{list_any}
-use Rattle.kube_types.specs.declared.key.Key.{Key}
-use Rattle.kube_types.specs.Keys.{same_key}
-use Rattle.kube_types.proofs.SameKeys.{KeyCases, One, Two, key_cases, same_key-Decides}
+use Rattle.kube_objects.specs.declared.key.Key.{Key}
+use Rattle.kube_objects.specs.Keys.{same_key}
+use Rattle.kube_objects.proofs.SameKeys.{KeyCases, One, Two, key_cases, same_key-Decides}
 use Rattle.model_laws.proofs.Lists.{none_some, one}
 use Rattle.sync_queue.specs.Work.{AreOnce, Taken, Work, added, begin_oldest, begun, done_by, finished, is_of, mark, mark_of, oldest_of, put_off, retry_by, without_waiting}
 use Rattle.settle_calls.specs.Tasks.Costs.{again_cost, keys_cost, work_cost}
@@ -74,7 +74,8 @@ module _ (f : Key → ℕ) where
   unmarked k [] e = refl
   unmarked k (u ∷ us) e = by (is_of k u) refl e (unmarked k us)
     where
-      by : (b : Bool) → is_of k u ≡ b → (b || list_any (same_key k) (map (λ (x : Taken). x.key) us)) ≡ false → (list_any (same_key k) (map (λ (x : Taken). x.key) us) ≡ false → map (mark k) us ≡ us) → map (mark k) (u ∷ us) ≡ u ∷ us
+      by : (b : Bool) → is_of k u ≡ b → (b || list_any (same_key k) (map (λ (x : Taken). x.key) us)) ≡ false
+          → (list_any (same_key k) (map (λ (x : Taken). x.key) us) ≡ false → map (mark k) us ≡ us) → map (mark k) (u ∷ us) ≡ u ∷ us
       by true is none rest = absurd (true≢false none)
       by false is none rest = rw is (ap (λ xs. u ∷ xs) (rest none))
 
@@ -86,7 +87,8 @@ module _ (f : Key → ℕ) where
       by true is h =
           let same : k ≡ t.key = (same_key-Decides k t.key).0 is in
           let cost : f t.key ≡ f k = ap f (sym same) in
-          let rest : again_cost f (map (mark k) ts) ≡ again_cost f ts = ap (again_cost f) (unmarked k ts (subst (λ j. list_any (same_key j) (map (λ (u : Taken). u.key) ts) ≡ false) (sym same) once.0)) in
+          let rest : again_cost f (map (mark k) ts) ≡ again_cost f ts =
+          ap (again_cost f) (unmarked k ts (subst (λ j. list_any (same_key j) (map (λ (u : Taken). u.key) ts) ≡ false) (sym same) once.0)) in
           rw is (omega (arith, cost, rest))
       by false is h = rw is (omega (arith, h))
 
@@ -112,9 +114,11 @@ module _ (f g : Key → ℕ) (j : Key) (others : (k : Key) → k ≢ j → g k �
   again_without [] e = omega arith
   again_without (u ∷ us) e = by u.again (key_cases j u.key) (again_without us)
     where
-      by : (b : Bool) → KeyCases j u.key → (list_any (same_key j) (map (λ (x : Taken). x.key) us) ≡ false → again_cost g us ≤ again_cost f us) → (if b then g u.key else 0) + again_cost g us ≤ (if b then f u.key else 0) + again_cost f us
+      by : (b : Bool) → KeyCases j u.key → (list_any (same_key j) (map (λ (x : Taken). x.key) us) ≡ false → again_cost g us ≤ again_cost f us)
+          → (if b then g u.key else 0) + again_cost g us ≤ (if b then f u.key else 0) + again_cost f us
       by b (One is same) rest = absurd (true≢false (sym (ap (λ x. x || list_any (same_key j) (map (λ (v : Taken). v.key) us)) is) ∙ e))
-      by true (Two is differs) rest = let h = others u.key (λ s. differs (sym s)) in let r = rest (sym (ap (λ x. x || list_any (same_key j) (map (λ (v : Taken). v.key) us)) is) ∙ e) in omega (arith, h, r)
+      by true (Two is differs) rest = let h = others u.key (λ s. differs (sym s)) in let r =
+          rest (sym (ap (λ x. x || list_any (same_key j) (map (λ (v : Taken). v.key) us)) is) ∙ e) in omega (arith, h, r)
       by false (Two is differs) rest = let r = rest (sym (ap (λ x. x || list_any (same_key j) (map (λ (v : Taken). v.key) us)) is) ∙ e) in omega (arith, r)
 
 module _ (f g : Key → ℕ) (j : Key) (d : ℕ) (others : (k : Key) → k ≢ j → g k ≤ f k) (own : g j ≤ f j + d) where

@@ -11,9 +11,9 @@ use Rattle.call_types.specs.declared.setup.Setup.{Setup}
 use Rattle.settle_calls.specs.Tasks.Costs.{calls_for, key_cost}
 use Rattle.settle_calls.specs.Events.Counts.{pending}
 use Rattle.informer_cache.specs.Cache.{watch_from}
-use Rattle.kube_types.specs.Keys.{key_of}
-use Rattle.kube_types.specs.declared.key.Key.{Key}
-use Rattle.kube_types.specs.declared.parts.Kind.{Kind}
+use Rattle.kube_objects.specs.Keys.{key_of}
+use Rattle.kube_objects.specs.declared.key.Key.{Key}
+use Rattle.kube_parts.specs.declared.parts.Kind.{Kind}
 use Rattle.settle_measure.specs.Left.Measure.{total}
 use Rattle.worker_core.specs.Roles.{kinds_of}
 use Rattle.worker_core.specs.declared.turn.Pass.{Pass}

@@ -1,7 +1,7 @@
 -- What a seat has still to be told: how many events of a kind came after a version.
 -- A choice of this project, after the watch cache of Kubernetes.
 use Rattle.std.specs.Prelude.{ℕ, List, filter, length}
-use Rattle.kube_types.specs.declared.parts.Kind.{Kind}
+use Rattle.kube_parts.specs.declared.parts.Kind.{Kind}
 use Rattle.call_types.specs.declared.reply.Event.{Event}
 use Rattle.binder_model.specs.Watching.{is_later}
 

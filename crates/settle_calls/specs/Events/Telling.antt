@@ -12,7 +12,7 @@ use Rattle.call_types.specs.declared.request.SeatKind.TheVariants as seats
 use Rattle.call_types.specs.declared.setup.Setup.{Setup}
 use Rattle.settle_calls.specs.Tasks.Costs.{calls_for}
 use Rattle.settle_calls.specs.Events.Counts.{pending}
-use Rattle.kube_types.specs.declared.parts.Kind.{Kind}
+use Rattle.kube_parts.specs.declared.parts.Kind.{Kind}
 use Rattle.settle_measure.specs.Left.Measure.{total}
 use Rattle.worker_core.specs.Roles.{IsBuiltKind}
 
@@ -39,4 +39,5 @@ WatchesTellLess =
 -- a call that a controller may make
 abbrev pub CallsAddLittle : Type 0
 CallsAddLittle =
-    (setup : Setup) (h : List Entry) (kind : SeatKind) (mine : List Entry) (request : Request) → IsBuiltKind kind → Licensed kind mine request → Grows (world setup h) (world_after (world setup h) (effect setup (world setup h) kind request))
+    (setup : Setup) (h : List Entry) (kind : SeatKind) (mine : List Entry) (request : Request) → IsBuiltKind kind → Licensed kind mine request
+    → Grows (world setup h) (world_after (world setup h) (effect setup (world setup h) kind request))

@@ -17,7 +17,7 @@ use Rattle.settle_calls.specs.Tasks.Tasks.{under_left}
 use Rattle.settle_calls.specs.Events.Ahead.{Point, cost_at, from_of, kinds_cost, pass_cost, sum_over}
 use Rattle.settle_calls.specs.Events.Counts.{pending}
 use Rattle.informer_cache.specs.All.{AllKnown}
-use Rattle.kube_types.specs.declared.parts.Kind.{Kind}
+use Rattle.kube_parts.specs.declared.parts.Kind.{Kind}
 use Rattle.worker_core.specs.Absorbs.{absorbed}
 use Rattle.worker_core.specs.Roles.{IsBuiltKind, kinds_of}
 use Rattle.worker_core.specs.Stands.{StandsFor}
@@ -70,12 +70,14 @@ KindsHaveReached base seat seat_kind h = (kind : Kind) (from : ℕ) → follows 
 -- past the first pass each call whose answer is told leaves less to come
 abbrev pub CallsPay : Type 0
 CallsPay =
-    (setup : Setup) (seat base m high : ℕ) (x : ActorState) (request : Request) (reply : Reply) (h : List Entry) (caches : AllKnown) → IsCallGiven setup seat x request reply h → Point setup x.role.kind base m high h → base_of setup ≤ base
+    (setup : Setup) (seat base m high : ℕ) (x : ActorState) (request : Request) (reply : Reply) (h : List Entry) (caches : AllKnown)
+    → IsCallGiven setup seat x request reply h → Point setup x.role.kind base m high h → base_of setup ≤ base
     → KindsHaveReached base seat x.role.kind h → (world setup (told_entry seat x request reply ∷ h)).store.version ≤ high
     → second_cost setup seat x.role.kind m high (absorbed x caches request (Told reply)) (told_entry seat x request reply ∷ h) + 1 ≤ second_cost setup seat x.role.kind m high x h
 
 -- so does each call of the first pass
 abbrev pub FirstCallsPay : Type 0
 FirstCallsPay =
-    (setup : Setup) (seat base high : ℕ) (x : ActorState) (request : Request) (reply : Reply) (h : List Entry) (caches : AllKnown) → IsCallGiven setup seat x request reply h → (world setup (told_entry seat x request reply ∷ h)).store.version ≤ high
+    (setup : Setup) (seat base high : ℕ) (x : ActorState) (request : Request) (reply : Reply) (h : List Entry) (caches : AllKnown)
+    → IsCallGiven setup seat x request reply h → (world setup (told_entry seat x request reply ∷ h)).store.version ≤ high
     → first_cost setup seat x.role.kind base high (absorbed x caches request (Told reply)) (told_entry seat x request reply ∷ h) + 1 ≤ first_cost setup seat x.role.kind base high x h

@@ -11,8 +11,8 @@ use Rattle.call_types.specs.declared.request.SeatKind.{SeatKind}
 use Rattle.call_types.specs.declared.setup.Setup.{Setup}
 use Rattle.settle_calls.specs.Tasks.Costs.{calls_for}
 use Rattle.settle_calls.specs.Tasks.Tasks.{task_left, under_left}
-use Rattle.kube_types.specs.Keys.{kind_of, row_at}
-use Rattle.kube_types.specs.declared.objects.Object.{Object}
+use Rattle.kube_objects.specs.Keys.{kind_of, row_at}
+use Rattle.kube_objects.specs.declared.objects.Object.{Object}
 use Rattle.worker_core.specs.Memories.{Memory, memory_after}
 use Rattle.worker_core.specs.States.{start_call}
 use Rattle.worker_core.specs.Tasks.{GivesCall, task_call, under_after}

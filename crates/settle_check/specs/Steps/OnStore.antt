@@ -1,12 +1,12 @@
 -- The conditions of the tables where the store itself is seen. For the proofs alone.
 use Rattle.std.specs.Prelude.{Bool, true, List, [], ◌∷◌, ◌++◌, Option, Some, None, is_none}
-use Rattle.kube_types.specs.declared.uid.Uid.{Uid}
-use Rattle.kube_types.specs.declared.objects.Ref.{Ref}
-use Rattle.kube_types.specs.declared.objects.Claim.{Claim as ClaimData}
-use Rattle.kube_types.specs.declared.objects.Volume.{Volume as VolumeData}
-use Rattle.kube_types.specs.declared.objects.Object.{Object}
-use Rattle.kube_types.specs.Bindings.{is_delete, is_deleting, is_protected_volume}
-use Rattle.kube_types.specs.Keys.{row_at}
+use Rattle.kube_parts.specs.declared.uid.Uid.{Uid}
+use Rattle.kube_objects.specs.declared.objects.Ref.{Ref}
+use Rattle.kube_objects.specs.declared.objects.Claim.{Claim as ClaimData}
+use Rattle.kube_objects.specs.declared.objects.Volume.{Volume as VolumeData}
+use Rattle.kube_objects.specs.declared.objects.Object.{Object}
+use Rattle.kube_objects.specs.Bindings.{is_delete, is_deleting, is_protected_volume}
+use Rattle.kube_objects.specs.Keys.{row_at}
 use Rattle.binder_model.specs.BinderDue.{claim_with}
 use Rattle.binder_model.specs.Due.{claim_guard_due}
 use Rattle.binder_model.specs.ObjectKeys.{claim_key}

@@ -1,7 +1,7 @@
 -- The first object of a list for which something is due. For the proofs alone.
 use Rattle.std.specs.Prelude.{◌≡◌, ◌⊎◌, List, [], ◌∷◌, Option, Some, None}
-use Rattle.kube_types.specs.declared.names.Due.{Due}
-use Rattle.kube_types.specs.declared.objects.Object.{Object}
+use Rattle.kube_parts.specs.declared.names.Due.{Due}
+use Rattle.kube_objects.specs.declared.objects.Object.{Object}
 use Rattle.settle_check.specs.declared.first.FirstDue.{FirstDue}
 
 abbrev pub first_pair : Option FirstDue → Option (Object × Due)

@@ -1,14 +1,14 @@
 -- Where some node serves all claims of a pod and the devices can give what is to be provisioned there. For the proofs alone.
 use Rattle.std.specs.Prelude.{ℕ, ◌≡◌, Bool, true, false, List, Option, Some, None, slice_get}
 use Rattle.std.specs.List.{list_all}
-use Rattle.kube_types.specs.declared.key.Key.{Key}
-use Rattle.kube_types.specs.declared.parts.Kind.TheVariants as kinds
-use Rattle.kube_types.specs.declared.objects.Claim.{Claim as ClaimData}
-use Rattle.kube_types.specs.declared.objects.Node.{Node as NodeData}
-use Rattle.kube_types.specs.declared.objects.Pod.{Pod as PodData}
-use Rattle.kube_types.specs.declared.objects.Object.TheVariants.{Node}
-use Rattle.kube_types.specs.Bindings.{class_of_claim}
-use Rattle.kube_types.specs.Keys.{row_at, rows_of}
+use Rattle.kube_objects.specs.declared.key.Key.{Key}
+use Rattle.kube_parts.specs.declared.parts.Kind.TheVariants as kinds
+use Rattle.kube_objects.specs.declared.objects.Claim.{Claim as ClaimData}
+use Rattle.kube_objects.specs.declared.objects.Node.{Node as NodeData}
+use Rattle.kube_objects.specs.declared.objects.Pod.{Pod as PodData}
+use Rattle.kube_objects.specs.declared.objects.Object.TheVariants.{Node}
+use Rattle.kube_objects.specs.Bindings.{class_of_claim}
+use Rattle.kube_objects.specs.Keys.{row_at, rows_of}
 use Rattle.call_types.specs.declared.setup.Setup.{Setup}
 use Rattle.binder_model.specs.Choice.{Serves, Share, claim_in, others_of}
 use Rattle.binder_model.specs.Due.{is_served_on, shares_are_served}

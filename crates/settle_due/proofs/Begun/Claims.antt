@@ -2,17 +2,17 @@
 use Rattle.std.proofs.Common.{◌≡◌, ◌∙◌, List, Bool, true, false, true≢false, Option, Some, None, refl, ap, if◌then◌else◌}
 use Rattle.std.specs.Prelude.{◌&&◌, is_none}
 use Rattle.std.specs.List.{list_any}
-use Rattle.kube_types.specs.declared.names.Due.{Due}
-use Rattle.kube_types.specs.declared.names.Due.TheVariants as dues
+use Rattle.kube_parts.specs.declared.names.Due.{Due}
+use Rattle.kube_parts.specs.declared.names.Due.TheVariants as dues
 use Rattle.kube_types.specs.declared.lookup.Live.TheVariants.{NotAsked}
-use Rattle.kube_types.specs.declared.objects.Claim.{Claim as ClaimData}
-use Rattle.kube_types.specs.declared.objects.Ref.{Ref}
-use Rattle.kube_types.specs.declared.objects.Volume.{Volume as VolumeData}
-use Rattle.kube_types.specs.declared.objects.Object.{Object}
-use Rattle.kube_types.specs.declared.objects.Object.TheVariants.{Class, Node, Volume, Claim, Pod}
-use Rattle.kube_types.specs.Bindings.{is_completed, is_deleting, is_empty, is_for, is_lost, lacks_class}
-use Rattle.kube_types.specs.Keys.{AreRows, row_at}
-use Rattle.kube_types.specs.VolumeIndex.{as_volume}
+use Rattle.kube_objects.specs.declared.objects.Claim.{Claim as ClaimData}
+use Rattle.kube_objects.specs.declared.objects.Ref.{Ref}
+use Rattle.kube_objects.specs.declared.objects.Volume.{Volume as VolumeData}
+use Rattle.kube_objects.specs.declared.objects.Object.{Object}
+use Rattle.kube_objects.specs.declared.objects.Object.TheVariants.{Class, Node, Volume, Claim, Pod}
+use Rattle.kube_objects.specs.Bindings.{is_completed, is_deleting, is_empty, is_for, is_lost, lacks_class}
+use Rattle.kube_objects.specs.Keys.{AreRows, row_at}
+use Rattle.volume_index.specs.VolumeIndex.{as_volume}
 use Rattle.call_types.specs.declared.request.SeatKind.TheVariants as seats
 use Rattle.binder_model.specs.BinderDue.{claim_due, class_due, completed_due, has_other_uid, is_default_row, lost_due, named_due}
 use Rattle.binder_model.specs.Matching.{fits, has_match}
@@ -68,7 +68,8 @@ module _ (c : ClaimData) where
   unfolding completed_due
   completed_with v = by (has_other_uid v c) (has_write v c)
     where
-      by : (other writes : Bool) → due_by (if other then unless_lost c steps.Lost else if writes then steps.Bind else steps.Nothing) ≡ (if other then lost_due c else if writes then Some dues.Bind else None)
+      by : (other writes : Bool) → due_by (if other then unless_lost c steps.Lost else if writes then steps.Bind else steps.Nothing) ≡ (if other then
+          lost_due c else if writes then Some dues.Bind else None)
       by true writes = lost_so
       by false true = refl
       by false false = refl
@@ -109,7 +110,8 @@ module _ (c : ClaimData) where
         by (has_match cached c) (may_assign cached c)
         ∙ (λ i. if (match_same cached rows c ordered order agree) i then Some dues.Bind else if lacks_class c && default_seen i then Some dues.AssignClass else None)
       where
-        by : (found may : Bool) → due_by (if found then steps.Bind else if may then steps.AssignClass else steps.Nothing) ≡ (if found then Some dues.Bind else if may then Some dues.AssignClass else None)
+        by : (found may : Bool) → due_by (if found then steps.Bind else if may then steps.AssignClass else steps.Nothing) ≡ (if found then Some
+            dues.Bind else if may then Some dues.AssignClass else None)
         by true may = refl
         by false true = refl
         by false false = refl
@@ -125,8 +127,10 @@ module _ (c : ClaimData) where
     claim_begins_due = by (is_completed c) (is_empty c.volume_name) (is_deleting c.meta)
       where
         by : (completed empty deleting : Bool)
-            → due_by (if completed then (if empty then unless_lost c steps.Lost else completed_step c NotAsked (named_volume cached c)) else if deleting then steps.Nothing else if empty then unnamed_step cached c else named_step c (named_volume cached c))
-            ≡ (if completed then (if empty then lost_due c else completed_due c (row_at (volume_key c.volume_name) rows)) else if deleting then None else if empty then (if has_match rows c then Some dues.Bind else class_due rows c) else named_due c (row_at (volume_key c.volume_name) rows))
+            → due_by (if completed then (if empty then unless_lost c steps.Lost else completed_step c NotAsked (named_volume cached c)) else if
+            deleting then steps.Nothing else if empty then unnamed_step cached c else named_step c (named_volume cached c))
+            ≡ (if completed then (if empty then lost_due c else completed_due c (row_at (volume_key c.volume_name) rows)) else if deleting then None
+            else if empty then (if has_match rows c then Some dues.Bind else class_due rows c) else named_due c (row_at (volume_key c.volume_name) rows))
         by true true deleting = lost_so
         by true false deleting = completed_here
         by false empty true = refl

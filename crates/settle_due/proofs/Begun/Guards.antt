@@ -1,14 +1,14 @@
 -- What the protection controllers begin lasts: they begin only what is due.
 use Rattle.std.proofs.Common.{◌≡◌, ◌∙◌, ℕ, List, Bool, true, false, true≢false, Option, Some, None, refl, sym, ap, subst}
-use Rattle.kube_types.specs.declared.key.Key.{Key}
-use Rattle.kube_types.specs.declared.names.Due.{Due}
-use Rattle.kube_types.specs.declared.objects.Claim.{Claim as ClaimData}
-use Rattle.kube_types.specs.declared.objects.Volume.{Volume as VolumeData}
-use Rattle.kube_types.specs.declared.objects.Object.{Object}
-use Rattle.kube_types.specs.declared.objects.Object.TheVariants.{Class, Node, Volume, Claim, Pod}
-use Rattle.kube_types.specs.Bindings.{is_deleting, is_protected_claim, uses}
-use Rattle.kube_types.specs.Keys.{key_of, row_at}
-use Rattle.kube_types.proofs.KeyOrder.{row_at_key}
+use Rattle.kube_objects.specs.declared.key.Key.{Key}
+use Rattle.kube_parts.specs.declared.names.Due.{Due}
+use Rattle.kube_objects.specs.declared.objects.Claim.{Claim as ClaimData}
+use Rattle.kube_objects.specs.declared.objects.Volume.{Volume as VolumeData}
+use Rattle.kube_objects.specs.declared.objects.Object.{Object}
+use Rattle.kube_objects.specs.declared.objects.Object.TheVariants.{Class, Node, Volume, Claim, Pod}
+use Rattle.kube_objects.specs.Bindings.{is_deleting, is_protected_claim, uses}
+use Rattle.kube_objects.specs.Keys.{key_of, row_at}
+use Rattle.kube_objects.proofs.KeyOrder.{row_at_key}
 use Rattle.call_types.specs.declared.entry.Entry.{Entry}
 use Rattle.call_types.specs.declared.request.SeatKind.{SeatKind}
 use Rattle.call_types.specs.declared.request.SeatKind.TheVariants as seats
@@ -42,7 +42,8 @@ is_drop first = false
 pub not_dropped : {X : Type 0} (task : Task) → firsts.Begins task ≡ firsts.Drops → X
 not_dropped task e = absurd (true≢false (sym (ap is_drop e)))
 
-module _ (setup : Setup) (seat : ℕ) (role : Role) (start : List Entry) (pass : ImportsPass setup.imports) (s : ActorState) (h : List Entry) (u : Under) (p : IsDecisionPoint setup seat role start s h) (gives : GivesCall s.role s.memory (all_objects s.caches) u) where
+module _ (setup : Setup) (seat : ℕ) (role : Role) (start : List Entry) (pass : ImportsPass setup.imports) (s : ActorState) (h : List Entry)
+    (u : Under) (p : IsDecisionPoint setup seat role start s h) (gives : GivesCall s.role s.memory (all_objects s.caches) u) where
   abbrev cached : List Object
   cached = all_objects s.caches
 
@@ -69,7 +70,8 @@ module _ (setup : Setup) (seat : ℕ) (role : Role) (start : List Entry) (pass :
 
   -- volume protection
 
-  of_volume : role.kind ≡ seats.VolumeProtect → (v : VolumeData) → row_at u.key rows ≡ Some (Volume v) → (action : Option Due) → volume_guard_due v ≡ action → firsts.Begins u.task ≡ volume_guard_first (volume_guard_for v action) → WouldHere
+  of_volume : role.kind ≡ seats.VolumeProtect → (v : VolumeData) → row_at u.key rows ≡ Some (Volume v) → (action : Option Due)
+      → volume_guard_due v ≡ action → firsts.Begins u.task ≡ volume_guard_first (volume_guard_for v action) → WouldHere
   of_volume kind v there None due begins = not_dropped u.task begins
   of_volume kind v there (Some action) due begins = by_acting setup seat role start s h u p gives (volume_guards_act setup seat role h u.key v action pass kind there due)
 
@@ -92,7 +94,8 @@ module _ (setup : Setup) (seat : ℕ) (role : Role) (start : List Entry) (pass :
       ap (guard_due (is_deleting c.meta) (is_protected_claim c))
       (any_seen seats.ClaimProtect cached rows p.ready.rows (rows_stand_in_order setup h) (agree seats.ClaimProtect kind) (uses c) (λ o e. ap (λ x. follows seats.ClaimProtect x) (uses_pod c o e)))
 
-  of_claim : role.kind ≡ seats.ClaimProtect → (c : ClaimData) → row_at u.key rows ≡ Some (Claim c) → (action : Option Due) → claim_guard_due cached c ≡ action → firsts.Begins u.task ≡ claim_guard_first (claim_guard_for c action) → WouldHere
+  of_claim : role.kind ≡ seats.ClaimProtect → (c : ClaimData) → row_at u.key rows ≡ Some (Claim c) → (action : Option Due)
+      → claim_guard_due cached c ≡ action → firsts.Begins u.task ≡ claim_guard_first (claim_guard_for c action) → WouldHere
   of_claim kind c there None due begins = not_dropped u.task begins
   of_claim kind c there (Some action) due begins = by_acting setup seat role start s h u p gives (claim_guards_act setup seat role h u.key c action pass kind there (sym (due_seen kind c) ∙ due))
 

@@ -1,13 +1,13 @@
 -- What the provisioner and reclaimer begins lasts, where it is due: on each volume, and on each claim but where nothing is due of provisioning.
 use Rattle.std.proofs.Common.{◌≡◌, ◌∙◌, ◌⊎◌, ℕ, List, true, Option, Some, None, inl, inr, refl, sym, ap, subst}
-use Rattle.kube_types.specs.declared.key.Key.{Key}
-use Rattle.kube_types.specs.declared.names.Due.{Due}
-use Rattle.kube_types.specs.declared.objects.Claim.{Claim as ClaimData}
-use Rattle.kube_types.specs.declared.objects.Volume.{Volume as VolumeData}
-use Rattle.kube_types.specs.declared.objects.Object.{Object}
-use Rattle.kube_types.specs.declared.objects.Object.TheVariants.{Class, Node, Volume, Claim, Pod}
-use Rattle.kube_types.specs.Keys.{key_of, row_at}
-use Rattle.kube_types.proofs.KeyOrder.{row_at_key}
+use Rattle.kube_objects.specs.declared.key.Key.{Key}
+use Rattle.kube_parts.specs.declared.names.Due.{Due}
+use Rattle.kube_objects.specs.declared.objects.Claim.{Claim as ClaimData}
+use Rattle.kube_objects.specs.declared.objects.Volume.{Volume as VolumeData}
+use Rattle.kube_objects.specs.declared.objects.Object.{Object}
+use Rattle.kube_objects.specs.declared.objects.Object.TheVariants.{Class, Node, Volume, Claim, Pod}
+use Rattle.kube_objects.specs.Keys.{key_of, row_at}
+use Rattle.kube_objects.proofs.KeyOrder.{row_at_key}
 use Rattle.call_types.specs.declared.entry.Entry.{Entry}
 use Rattle.call_types.specs.declared.request.SeatKind.TheVariants as seats
 use Rattle.call_types.specs.declared.setup.Setup.{Setup}
@@ -30,7 +30,8 @@ use Rattle.settle_due.specs.Begun.Begun.{IsOfNoneDue, OpsLast}
 use Rattle.settle_due.proofs.Begun.Guards.{not_dropped}
 use Rattle.settle_due.proofs.Begun.Seeing.{by_acting}
 
-module _ (setup : Setup) (seat : ℕ) (role : Role) (start : List Entry) (pass : ImportsPass setup.imports) (kind : role.kind ≡ seats.Ops) (s : ActorState) (h : List Entry) (u : Under) (p : IsDecisionPoint setup seat role start s h) (gives : GivesCall s.role s.memory (all_objects s.caches) u) where
+module _ (setup : Setup) (seat : ℕ) (role : Role) (start : List Entry) (pass : ImportsPass setup.imports) (kind : role.kind ≡ seats.Ops)
+    (s : ActorState) (h : List Entry) (u : Under) (p : IsDecisionPoint setup seat role start s h) (gives : GivesCall s.role s.memory (all_objects s.caches) u) where
   abbrev cached : List Object
   cached = all_objects s.caches
 

@@ -1,12 +1,12 @@
 -- What the scheduler begins lasts: it binds the pod to a node, or takes a volume, or gives claims their node, one of which has none.
 use Rattle.std.proofs.Common.{◌≡◌, ◌∙◌, ℕ, List, [], ◌∷◌, Bool, true, false, Option, Some, None, refl, sym, ap, subst}
 use Rattle.std.specs.Prelude.{map}
-use Rattle.kube_types.specs.declared.objects.Claim.{Claim as ClaimData}
-use Rattle.kube_types.specs.declared.objects.Pod.{Pod as PodData}
-use Rattle.kube_types.specs.declared.objects.Object.{Object}
-use Rattle.kube_types.specs.declared.objects.Object.TheVariants.{Class, Node, Volume, Claim, Pod}
-use Rattle.kube_types.specs.Bindings.{is_scheduled}
-use Rattle.kube_types.specs.Keys.{AreRows, key_of, row_at}
+use Rattle.kube_objects.specs.declared.objects.Claim.{Claim as ClaimData}
+use Rattle.kube_objects.specs.declared.objects.Pod.{Pod as PodData}
+use Rattle.kube_objects.specs.declared.objects.Object.{Object}
+use Rattle.kube_objects.specs.declared.objects.Object.TheVariants.{Class, Node, Volume, Claim, Pod}
+use Rattle.kube_objects.specs.Bindings.{is_scheduled}
+use Rattle.kube_objects.specs.Keys.{AreRows, key_of, row_at}
 use Rattle.call_types.specs.declared.entry.Entry.{Entry}
 use Rattle.call_types.specs.declared.request.Request.{Request}
 use Rattle.call_types.specs.declared.request.Request.TheVariants.{BindPod}
@@ -61,7 +61,8 @@ first_is : (first : Request) (rest : List Request) → is_write first ≡ true �
 unfolding schedule_call
 first_is first rest is = rw is refl
 
-module _ (setup : Setup) (seat : ℕ) (role : Role) (start : List Entry) (pass : ImportsPass setup.imports) (kind : role.kind ≡ seats.Scheduler) (s : ActorState) (h : List Entry) (u : Under) (point : IsDecisionPoint setup seat role start s h) (gives : GivesCall s.role s.memory (all_objects s.caches) u) where
+module _ (setup : Setup) (seat : ℕ) (role : Role) (start : List Entry) (pass : ImportsPass setup.imports) (kind : role.kind ≡ seats.Scheduler)
+    (s : ActorState) (h : List Entry) (u : Under) (point : IsDecisionPoint setup seat role start s h) (gives : GivesCall s.role s.memory (all_objects s.caches) u) where
   controller : is_user role.kind ≡ false
   controller = ap is_user kind
 
@@ -85,7 +86,8 @@ module _ (setup : Setup) (seat : ℕ) (role : Role) (start : List Entry) (pass :
 
   -- the scheduler has cached the rows of the store
   decided : IsPodFirst rows refused (row_at u.key rows) (firsts.Begins u.task)
-  decided = subst (λ xs. IsPodFirst xs refused (row_at u.key xs) (firsts.Begins u.task)) (schedulers_see_all setup seat role start s h kind point) (subst (λ k. IsFirstOf k s.role.node s.memory (all_objects s.caches) u.key (firsts.Begins u.task)) s_kind gives.decided)
+  decided = subst (λ xs. IsPodFirst xs refused (row_at u.key xs) (firsts.Begins u.task)) (schedulers_see_all setup seat role start s h kind point)
+      (subst (λ k. IsFirstOf k s.role.node s.memory (all_objects s.caches) u.key (firsts.Begins u.task)) s_kind gives.decided)
 
   module _ (op : ScheduleOp) (task : u.task ≡ tasks.Schedule op) where
     -- by its first write
@@ -106,14 +108,16 @@ module _ (setup : Setup) (seat : ℕ) (role : Role) (start : List Entry) (pass :
           let uid = has_uid p.meta.uid (rows_known setup h pass u.key (Pod p) there) in
           let node_valid = rows_are_valid setup h pass (node_key a.node.meta.name) (Node a.node) a.first.there in
           let lasts : Lasts setup (world setup h) role.kind (BindPod (key_of (Pod p)) uid.uid name) =
-          subst (λ x. Lasts setup (world setup h) role.kind (BindPod (key_of (Pod p)) uid.uid x)) (sym a.named) (bind_lasts setup (world setup h) role.kind controller p uid.uid on_store uid.is unscheduled a.node a.first.there node_valid) in
+          subst (λ x. Lasts setup (world setup h) role.kind (BindPod (key_of (Pod p)) uid.uid x)) (sym a.named)
+          (bind_lasts setup (world setup h) role.kind controller p uid.uid on_store uid.is unscheduled a.node a.first.there node_valid) in
           begins_with (BindPod (key_of (Pod p)) uid.uid name) [] (binding p p.meta.uid name) begins (ap (λ x. binding p x name) uid.is) refl (AtOnce point.alike lasts)
 
       -- the first write that takes a volume lasts; of those that give claims the node one does
       prepares : (name : List ℕ) (writes : List Request) → AreWritesOn rows p name writes → SomeOpen (others_of rows p) → Some op ≡ begun_with writes → WouldHere
       prepares name writes (Takes v c rest are apart) some begins =
           let uid = has_uid c.meta.uid apart.known in
-          let lasts = reference_lasts setup (world setup h) role.kind v c uid.uid controller (stored setup h (key_of (Volume v)) (Volume v) pass apart.volume) (rows_are_valid setup h pass (key_of (Claim c)) (Claim c) apart.claim) uid.is apart.uncarried in
+          let lasts = reference_lasts setup (world setup h) role.kind v c uid.uid controller
+          (stored setup h (key_of (Volume v)) (Volume v) pass apart.volume) (rows_are_valid setup h pass (key_of (Claim c)) (Claim c) apart.claim) uid.is apart.uncarried in
           begins_with (write_reference v c) rest writes begins are refl (AtOnce point.alike lasts)
       prepares name writes (Places are) some begins = by (others_of rows p) (others_stored rows p) (others_apart rows p (claims_once p on_store.valid)) some are
         where

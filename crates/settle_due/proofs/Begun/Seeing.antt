@@ -1,9 +1,9 @@
 -- What is begun where an actor decides, from what it does on the world as it stands there; and tests that are the same on the caches and on the store.
 use Rattle.std.proofs.Common.{◌≡◌, ◌∙◌, ℕ, List, Bool, true, false, refl, sym}
 use Rattle.std.specs.List.{list_any}
-use Rattle.kube_types.specs.declared.key.Key.{Key}
-use Rattle.kube_types.specs.declared.objects.Object.{Object}
-use Rattle.kube_types.specs.Keys.{AreRows, key_of, row_at}
+use Rattle.kube_objects.specs.declared.key.Key.{Key}
+use Rattle.kube_objects.specs.declared.objects.Object.{Object}
+use Rattle.kube_objects.specs.Keys.{AreRows, key_of, row_at}
 use Rattle.call_types.specs.declared.entry.Entry.{Entry}
 use Rattle.call_types.specs.declared.request.SeatKind.{SeatKind}
 use Rattle.call_types.specs.declared.setup.Setup.{Setup}
@@ -24,12 +24,14 @@ use Rattle.settle_due.proofs.Upkeep.Claims.{none_among}
 use Rattle.settle_due.proofs.Binding.Matches.{some_among}
 
 -- what would last from a world that is like that of the start would last from the start
-from_start : (setup : Setup) (seat : ℕ) (kind : SeatKind) (start middle : List Entry) → AreAlike (world setup start) (world setup middle) → (h : List Entry) (u : Under) → WouldLast setup seat kind middle h u → WouldLast setup seat kind start h u
+from_start : (setup : Setup) (seat : ℕ) (kind : SeatKind) (start middle : List Entry) → AreAlike (world setup start) (world setup middle)
+    → (h : List Entry) (u : Under) → WouldLast setup seat kind middle h u → WouldLast setup seat kind start h u
 from_start setup seat kind start middle same h u (AtOnce alike lasts) = AtOnce (then_alike _ _ _ same alike) lasts
 from_start setup seat kind start middle same h u (Later alike next follows more) = Later (then_alike _ _ _ same alike) next follows (from_start setup seat kind start middle same _ next more)
 
 -- where the actor acts on the key, as the world stands, what it begins for it would last
-pub by_acting : (setup : Setup) (seat : ℕ) (role : Role) (start : List Entry) (s : ActorState) (h : List Entry) (u : Under) → IsDecisionPoint setup seat role start s h → GivesCall s.role s.memory (all_objects s.caches) u
+pub by_acting : (setup : Setup) (seat : ℕ) (role : Role) (start : List Entry) (s : ActorState) (h : List Entry) (u : Under)
+    → IsDecisionPoint setup seat role start s h → GivesCall s.role s.memory (all_objects s.caches) u
     → WouldActOn setup seat role h u.key → WouldLast setup seat role.kind start h u
 by_acting setup seat role start s h u p gives acts = from_start setup seat role.kind start h p.alike h u (acts.lasts s h u here refl gives)
   where

@@ -1,13 +1,13 @@
 -- The best volume of a claim is for the claim where any is.
 use Rattle.std.proofs.Common.{◌≡◌, ◌∙◌, ℕ, zero, suc, List, [], ◌∷◌, Bool, true, false, Some, None, inl, inr, refl, ap}
 use Rattle.std.specs.Prelude.{cond, filter, slice_get}
-use Rattle.kube_types.specs.declared.parts.Kind.TheVariants as kinds
-use Rattle.kube_types.specs.declared.objects.Claim.{Claim as ClaimData}
-use Rattle.kube_types.specs.declared.objects.Volume.{Volume as VolumeData}
-use Rattle.kube_types.specs.declared.objects.Object.{Object}
-use Rattle.kube_types.specs.declared.objects.Object.TheVariants.{Volume}
-use Rattle.kube_types.specs.Bindings.{is_for}
-use Rattle.kube_types.specs.Keys.{is_of_kind, rows_of}
+use Rattle.kube_parts.specs.declared.parts.Kind.TheVariants as kinds
+use Rattle.kube_objects.specs.declared.objects.Claim.{Claim as ClaimData}
+use Rattle.kube_objects.specs.declared.objects.Volume.{Volume as VolumeData}
+use Rattle.kube_objects.specs.declared.objects.Object.{Object}
+use Rattle.kube_objects.specs.declared.objects.Object.TheVariants.{Volume}
+use Rattle.kube_objects.specs.Bindings.{is_for}
+use Rattle.kube_objects.specs.Keys.{is_of_kind, rows_of}
 use Rattle.binder_model.specs.Matching.{IsCandidate, only_own_passes}
 use Rattle.model_laws.proofs.Lists.{IsIn}
 use Rattle.settle_due.specs.Binding.Best.{BestIsOwn}
@@ -41,7 +41,13 @@ best_is_own rows c only_own place best u i fits own = by (is_for best.volume c) 
     found = at_place (Volume u) (rows_of kinds.PersistentVolume rows) (kept (is_of_kind kinds.PersistentVolume) (Volume u) rows i refl)
 
     candidate : IsCandidate rows c None only_own [] (at_place (Volume u) (rows_of kinds.PersistentVolume rows) (kept (is_of_kind kinds.PersistentVolume) (Volume u) rows i refl)).place u
-    candidate = record { there = (at_place (Volume u) (rows_of kinds.PersistentVolume rows) (kept (is_of_kind kinds.PersistentVolume) (Volume u) rows i refl)).is; open_to = refl; own = own_passes only_own u c own; eligible = fits }
+    candidate = record {
+      there = (at_place (Volume u) (rows_of kinds.PersistentVolume rows)
+          (kept (is_of_kind kinds.PersistentVolume) (Volume u) rows i refl)).is;
+      open_to = refl;
+      own = own_passes only_own u c own;
+      eligible = fits;
+    }
 
     by : (b : Bool) → is_for best.volume c ≡ b → is_for best.volume c ≡ true
     by true e = e

@@ -4,21 +4,21 @@ use Rattle.std.specs.Prelude.{◌&&◌, ◌||◌, bytes_eq, is_none, is_some, no
 use Rattle.std.specs.List.{list_any}
 use Rattle.std.proofs.lemmas.Bool.{and_from, or_right}
 use Rattle.std.proofs.lemmas.Slice.Eq.{bytes_eq-Decides}
-use Rattle.kube_types.specs.declared.key.Key.{Key}
-use Rattle.kube_types.specs.declared.names.Due.{Due}
-use Rattle.kube_types.specs.declared.names.Due.TheVariants as dues
+use Rattle.kube_objects.specs.declared.key.Key.{Key}
+use Rattle.kube_parts.specs.declared.names.Due.{Due}
+use Rattle.kube_parts.specs.declared.names.Due.TheVariants as dues
 use Rattle.kube_types.specs.declared.lookup.Live.TheVariants.{NotAsked}
-use Rattle.kube_types.specs.declared.parts.Kind.TheVariants as kinds
-use Rattle.kube_types.specs.declared.parts.VolumePhase.{VolumePhase}
-use Rattle.kube_types.specs.declared.parts.VolumePhase.TheVariants as volumes
-use Rattle.kube_types.specs.declared.objects.Class.{Class as ClassData}
-use Rattle.kube_types.specs.declared.objects.Claim.{Claim as ClaimData}
-use Rattle.kube_types.specs.declared.objects.Volume.{Volume as VolumeData}
-use Rattle.kube_types.specs.declared.objects.Object.{Object}
-use Rattle.kube_types.specs.declared.objects.Object.TheVariants.{Class, Node, Volume, Claim, Pod}
-use Rattle.kube_types.specs.Bindings.{carries, is_available, is_completed, is_deleting, is_empty, is_ended, is_for, is_lost, is_protected_volume, lacks_class}
-use Rattle.kube_types.specs.Keys.{is_of_kind, key_of, kind_index, row_at, rows_of}
-use Rattle.kube_types.proofs.KeyOrder.{row_at_key}
+use Rattle.kube_parts.specs.declared.parts.Kind.TheVariants as kinds
+use Rattle.kube_parts.specs.declared.parts.VolumePhase.{VolumePhase}
+use Rattle.kube_parts.specs.declared.parts.VolumePhase.TheVariants as volumes
+use Rattle.kube_objects.specs.declared.objects.Class.{Class as ClassData}
+use Rattle.kube_objects.specs.declared.objects.Claim.{Claim as ClaimData}
+use Rattle.kube_objects.specs.declared.objects.Volume.{Volume as VolumeData}
+use Rattle.kube_objects.specs.declared.objects.Object.{Object}
+use Rattle.kube_objects.specs.declared.objects.Object.TheVariants.{Class, Node, Volume, Claim, Pod}
+use Rattle.kube_objects.specs.Bindings.{carries, is_available, is_completed, is_deleting, is_empty, is_ended, is_for, is_lost, is_protected_volume, lacks_class}
+use Rattle.kube_objects.specs.Keys.{is_of_kind, key_of, kind_index, row_at, rows_of}
+use Rattle.kube_objects.proofs.KeyOrder.{row_at_key}
 use Rattle.call_types.specs.declared.entry.Entry.{Entry}
 use Rattle.call_types.specs.declared.request.Request.{Request}
 use Rattle.call_types.specs.declared.request.Request.TheVariants.{Get}
@@ -27,8 +27,8 @@ use Rattle.call_types.specs.declared.setup.Setup.{Setup}
 use Rattle.binder_model.specs.Answers.{is_user}
 use Rattle.binder_model.specs.BinderDue.{claim_due, class_due, completed_due, has_other_uid, is_default_row, lost_due, named_due}
 use Rattle.binder_model.specs.BindWrites.{next_write}
-use Rattle.kube_types.specs.declared.names.Field.{Field}
-use Rattle.kube_types.specs.declared.names.Field.TheVariants as fields
+use Rattle.kube_parts.specs.declared.names.Field.{Field}
+use Rattle.kube_parts.specs.declared.names.Field.TheVariants as fields
 use Rattle.binder_model.specs.Fields.{class_fault, create_fault, faulty, has_twice, is_subdomain, kind_fault}
 use Rattle.binder_model.specs.Imports.{ImportsPass}
 use Rattle.binder_model.specs.Matching.{IsBestAt, eligible, fits, has_match, is_selected, waits_for_pod}
@@ -39,7 +39,7 @@ use Rattle.informer_cache.specs.All.{all_objects}
 use Rattle.model_laws.proofs.Histories.{rows_stand_in_order}
 use Rattle.model_laws.proofs.Lists.{IsIn, none_some, one, some_filter}
 use Rattle.model_laws.proofs.Readings.{member_stands}
-use Rattle.kube_types.specs.VolumeIndex.{as_volume}
+use Rattle.volume_index.specs.VolumeIndex.{as_volume}
 use Rattle.claim_sync.specs.declared.action.ClaimStep.{ClaimStep}
 use Rattle.claim_sync.specs.declared.action.ClaimStep.TheVariants as claim_steps
 use Rattle.claim_sync.specs.ClaimDecision.{IsVolumeFor, claim_decision, completed_step, may_assign, named_step, named_volume, read_step, unless_lost, unnamed_step}
@@ -83,7 +83,8 @@ record MachineLasts (setup : Setup) (seat : ℕ) (role : Role) (start : List Ent
   will : WouldLast setup seat role.kind start h (record { key = key; task = tasks.Binder machine; call = call })
 
 -- a decision of the binder is one of a machine
-by_machine : (setup : Setup) (seat : ℕ) (role : Role) (start : List Entry) (key : Key) (h : List Entry) (rows : List Object) → ((f : BinderFirst) → IsFirst rows (row_at key rows) f → MachineLasts setup seat role start key h f)
+by_machine : (setup : Setup) (seat : ℕ) (role : Role) (start : List Entry) (key : Key) (h : List Entry) (rows : List Object)
+    → ((f : BinderFirst) → IsFirst rows (row_at key rows) f → MachineLasts setup seat role start key h f)
     → (first : First) → IsBinderFirst rows key first → DecisionLasts setup seat role start key h first
 by_machine setup seat role start key h rows each firsts.Drops i = let m = each binder_firsts.Drops i in absurd (true≢false (sym (ap begins_one m.is)))
 by_machine setup seat role start key h rows each (firsts.Queues other) i = let m = each (binder_firsts.Queues other) i in absurd (true≢false (sym (ap begins_one m.is)))
@@ -167,7 +168,8 @@ class_unplaced : (x : ClassData) → IsValid (Class x) → is_empty x.meta.names
 unfolding create_fault kind_fault class_fault
 class_unplaced x e = by (not (is_subdomain x.meta.name)) (is_empty x.meta.namespace) e
   where
-    by : (a b : Bool) → faulty a fields.Name (faulty (not b) fields.Namespace (faulty (is_empty x.provisioner) fields.Provisioner (faulty (has_twice x.meta.finalizers) fields.Finalizers None))) ≡ None → b ≡ true
+    by : (a b : Bool) → faulty a fields.Name
+        (faulty (not b) fields.Namespace (faulty (is_empty x.provisioner) fields.Provisioner (faulty (has_twice x.meta.finalizers) fields.Finalizers None))) ≡ None → b ≡ true
     by true b e = fault_not _ _ e
     by false true e = refl
     by false false e = fault_not _ _ (fault_next _ _ e)
@@ -186,9 +188,11 @@ available_stays volumes.Released e = absurd (true≢false (sym e))
 available_stays volumes.Failed e = absurd (true≢false (sym e))
 
 fitting : (v : VolumeData) (c : ClaimData) → eligible v c None ≡ true → IsFitting v c
-fitting v c e = by (is_deleting v.meta) (is_protected_volume v) (fits v c) (is_selected c.selector v.meta.labels) (is_for v c) (is_ended v.phase) (is_available v.phase) (is_none v.claim_ref) refl refl refl refl refl e
+fitting v c e = by (is_deleting v.meta) (is_protected_volume v) (fits v c) (is_selected c.selector v.meta.labels) (is_for v c) (is_ended v.phase)
+    (is_available v.phase) (is_none v.claim_ref) refl refl refl refl refl e
   where
-    by : (deleting guarded fit selected own ended available free : Bool) → is_protected_volume v ≡ guarded → is_for v c ≡ own → is_ended v.phase ≡ ended → is_available v.phase ≡ available → is_none v.claim_ref ≡ free
+    by : (deleting guarded fit selected own ended available free : Bool) → is_protected_volume v ≡ guarded → is_for v c ≡ own
+        → is_ended v.phase ≡ ended → is_available v.phase ≡ available → is_none v.claim_ref ≡ free
         → (not deleting && guarded && fit && selected && true && ((own && not ended) || (available && free))) ≡ true → IsFitting v c
     by false true true true true false available free eg eo ee ea ef h = record { guarded = eg; staying = ee; open_to = rw eo (or_true (is_none v.claim_ref)) }
     by false true true true false ended true true eg eo ee ea ef h = record { guarded = eg; staying = available_stays v.phase ea; open_to = rw ef refl }
@@ -207,7 +211,8 @@ module _ (setup : Setup) (seat : ℕ) (role : Role) (start : List Entry) (key : 
   controller : is_user role.kind ≡ false
   controller = ap is_user kind
 
-  module _ (s : ActorState) (h : List Entry) (p : IsDecisionPoint setup seat role start s h) (d : ClaimData) (is : row_at key (world setup h).store.rows ≡ Some (Claim d)) (same : plain_claim d ≡ plain_claim c) where
+  module _ (s : ActorState) (h : List Entry) (p : IsDecisionPoint setup seat role start s h) (d : ClaimData)
+      (is : row_at key (world setup h).store.rows ≡ Some (Claim d)) (same : plain_claim d ≡ plain_claim c) where
     abbrev rows : List Object
     rows = (world setup h).store.rows
 
@@ -245,7 +250,14 @@ module _ (setup : Setup) (seat : ℕ) (role : Role) (start : List Entry) (key : 
 
     loses : is_lost d.phase ≡ false → LastsFor (binder_firsts.Begins (machines.Loses d))
     unfolding call_of
-    loses open_ = record { machine = machines.Loses d; is = refl; call = write_lost d; asks = refl; will = AtOnce p.alike (lost_lasts setup (world setup h) role.kind d d.got_modes d.got controller on_store open_) }
+    loses open_ = record {
+      machine = machines.Loses d;
+      is = refl;
+      call = write_lost d;
+      asks = refl;
+      will = AtOnce p.alike
+          (lost_lasts setup (world setup h) role.kind d d.got_modes d.got controller on_store open_);
+    }
 
     abbrev reading : Under
     reading = record { key = key; task = tasks.Binder (machines.ReadsVolume d); call = Get (volume_key d.volume_name) }
@@ -258,21 +270,25 @@ module _ (setup : Setup) (seat : ℕ) (role : Role) (start : List Entry) (key : 
     read_so None completed named step = rw (completed, named, step) refl
     read_so (Some o) completed named step = rw (completed, named, step) refl
 
-    reads_volume : is_completed d ≡ true → is_empty d.volume_name ≡ false → is_lost d.phase ≡ false → read_step d (as_volume (row_at (volume_key d.volume_name) rows)) ≡ claim_steps.Lost → LastsFor (binder_firsts.Begins (machines.ReadsVolume d))
+    reads_volume : is_completed d ≡ true → is_empty d.volume_name ≡ false → is_lost d.phase ≡ false
+        → read_step d (as_volume (row_at (volume_key d.volume_name) rows)) ≡ claim_steps.Lost → LastsFor (binder_firsts.Begins (machines.ReadsVolume d))
     unfolding call_of
     reads_volume completed named open_ step = record {
       machine = machines.ReadsVolume d;
       is = refl;
       call = Get (volume_key d.volume_name);
       asks = rw known_some refl;
-      will = Later p.alike losing (ap (under_after reading) (get_said setup (world setup h) role.kind (volume_key d.volume_name)) ∙ read_so (row_at (volume_key d.volume_name) rows) completed named step)
-          (AtOnce (subst (AreAlike (world setup start)) (sym same_world) p.alike) (lost_lasts setup _ role.kind d d.got_modes d.got controller (subst (λ w. IsStored w (Claim d)) (sym same_world) on_store) open_));
+      will = Later p.alike losing (ap (under_after reading) (get_said setup (world setup h) role.kind (volume_key d.volume_name)) ∙ read_so
+          (row_at (volume_key d.volume_name) rows) completed named step)
+          (AtOnce (subst (AreAlike (world setup start)) (sym same_world) p.alike)
+          (lost_lasts setup _ role.kind d d.got_modes d.got controller (subst (λ w. IsStored w (Claim d)) (sym same_world) on_store) open_));
     }
       where
         same_world : world setup (own_entry setup seat role.kind h (Get (volume_key d.volume_name)) ∷ h) ≡ world setup h
         same_world = get_stays setup (world setup h) role.kind (volume_key d.volume_name)
 
-    binds : (v : VolumeData) → IsStored (world setup h) (Volume v) → (is_none v.claim_ref || is_for v d) ≡ true → (is_empty d.volume_name || bytes_eq d.volume_name v.meta.name) ≡ true → is_some (next_write v d) ≡ true → IsOpenTo v d → LastsFor (binder_firsts.Begins (machines.Binds v d))
+    binds : (v : VolumeData) → IsStored (world setup h) (Volume v) → (is_none v.claim_ref || is_for v d) ≡ true
+        → (is_empty d.volume_name || bytes_eq d.volume_name v.meta.name) ≡ true → is_some (next_write v d) ≡ true → IsOpenTo v d → LastsFor (binder_firsts.Begins (machines.Binds v d))
     unfolding call_of
     binds v sv open_to named writes open_ =
         let r = has_request (next_write v d) writes in
@@ -324,27 +340,33 @@ module _ (setup : Setup) (seat : ℕ) (role : Role) (start : List Entry) (key : 
         → IsClaimFirst cached d (unless_lost d claim_steps.ReadVolume) f → LastsFor f
     completed_away f on completed named e i =
         let open_ = lost_open d action e in
-        of_one f _ (subst (λ st. IsClaimFirst cached d st f) (stays_lost claim_steps.ReadVolume open_) i) (reads_volume completed named open_ (ap (λ x. read_step d (as_volume x)) on ∙ stays_lost claim_steps.Lost open_))
+        of_one f _ (subst (λ st. IsClaimFirst cached d st f) (stays_lost claim_steps.ReadVolume open_) i)
+        (reads_volume completed named open_ (ap (λ x. read_step d (as_volume x)) on ∙ stays_lost claim_steps.Lost open_))
 
-    completed_on : (v : VolumeData) (f : BinderFirst) → row_at (volume_key d.volume_name) rows ≡ Some (Volume v) → is_completed d ≡ true → is_empty d.volume_name ≡ false → completed_due d (Some (Volume v)) ≡ Some action
+    completed_on : (v : VolumeData) (f : BinderFirst) → row_at (volume_key d.volume_name) rows ≡ Some (Volume v) → is_completed d ≡ true
+        → is_empty d.volume_name ≡ false → completed_due d (Some (Volume v)) ≡ Some action
         → IsClaimFirst cached d (completed_step d NotAsked (Some v)) f → LastsFor f
     unfolding completed_due
     completed_on v f on completed named e i = by (has_other_uid v d) (is_none v.claim_ref || carries v d) (is_some (next_write v d)) refl refl refl e i
       where
-        by : (other carried writes : Bool) → has_other_uid v d ≡ other → (is_none v.claim_ref || carries v d) ≡ carried → is_some (next_write v d) ≡ writes → (if other then lost_due d else if carried && writes then Some dues.Bind else None) ≡ Some action
+        by : (other carried writes : Bool) → has_other_uid v d ≡ other → (is_none v.claim_ref || carries v d) ≡ carried
+            → is_some (next_write v d) ≡ writes → (if other then lost_due d else if carried && writes then Some dues.Bind else None) ≡ Some action
             → IsClaimFirst cached d (if other then unless_lost d claim_steps.Lost else if carried && writes then claim_steps.Bind else claim_steps.Nothing) f → LastsFor f
         by true carried writes eo ec ew e i =
             let open_ = lost_open d action e in
             of_one f _ (subst (λ st. IsClaimFirst cached d st f) (stays_lost claim_steps.Lost open_) i ∙ ap (λ b. binder_firsts.Begins (lost_for b d)) named)
-            (reads_volume completed named open_ (ap (λ x. read_step d (as_volume x)) on ∙ (ap (λ b. if b then unless_lost d claim_steps.Lost else claim_steps.Nothing) eo ∙ stays_lost claim_steps.Lost open_)))
+            (reads_volume completed named open_ (ap (λ x. read_step d (as_volume x)) on ∙
+            (ap (λ b. if b then unless_lost d claim_steps.Lost else claim_steps.Nothing) eo ∙ stays_lost claim_steps.Lost open_)))
         by false true true eo ec ew e i = binds_named f named i (λ u at.
             let is_v : u ≡ v = ap (volume_in v) (sym at ∙ on) in
             subst (λ x. LastsFor (binder_firsts.Begins (machines.Binds x d))) (sym is_v)
-            (binds v (stored setup h (volume_key d.volume_name) (Volume v) pass on) (carried_open v d ec) (named_so v on) ew (inr (and_from (is_completed d) (bytes_eq d.volume_name v.meta.name) completed ((bytes_eq-Decides d.volume_name v.meta.name).1 (named_by v on))))))
+            (binds v (stored setup h (volume_key d.volume_name) (Volume v) pass on) (carried_open v d ec) (named_so v on) ew
+            (inr (and_from (is_completed d) (bytes_eq d.volume_name v.meta.name) completed ((bytes_eq-Decides d.volume_name v.meta.name).1 (named_by v on))))))
         by false true false eo ec ew e i = none_some e
         by false false writes eo ec ew e i = none_some e
 
-    completed_so : (f : BinderFirst) → is_completed d ≡ true → is_empty d.volume_name ≡ false → completed_due d (row_at (volume_key d.volume_name) rows) ≡ Some action → IsClaimFirst cached d (completed_step d NotAsked (named_volume cached d)) f → LastsFor f
+    completed_so : (f : BinderFirst) → is_completed d ≡ true → is_empty d.volume_name ≡ false
+        → completed_due d (row_at (volume_key d.volume_name) rows) ≡ Some action → IsClaimFirst cached d (completed_step d NotAsked (named_volume cached d)) f → LastsFor f
     unfolding completed_due
     completed_so f completed named e i = by (volume_or d.volume_name rows (row_at (volume_key d.volume_name) rows) refl)
       where
@@ -356,7 +378,8 @@ module _ (setup : Setup) (seat : ℕ) (role : Role) (start : List Entry) (key : 
         by (IsOne v on) = completed_on v f on completed named (sym (ap (completed_due d) on) ∙ e) (seen_step (Some (Volume v)) on)
 
     -- open, and it names a volume
-    named_on : (v : VolumeData) (f : BinderFirst) → row_at (volume_key d.volume_name) rows ≡ Some (Volume v) → is_completed d ≡ false → is_empty d.volume_name ≡ false → named_due d (Some (Volume v)) ≡ Some action → IsClaimFirst cached d (named_step d (Some v)) f → LastsFor f
+    named_on : (v : VolumeData) (f : BinderFirst) → row_at (volume_key d.volume_name) rows ≡ Some (Volume v) → is_completed d ≡ false
+        → is_empty d.volume_name ≡ false → named_due d (Some (Volume v)) ≡ Some action → IsClaimFirst cached d (named_step d (Some v)) f → LastsFor f
     unfolding named_due
     named_on v f on open_ named e i = by (is_deleting v.meta) (is_protected_volume v) (is_ended v.phase) (is_none v.claim_ref) (fits v d) (is_for v d) refl refl refl refl refl e i
       where
@@ -364,7 +387,8 @@ module _ (setup : Setup) (seat : ℕ) (role : Role) (start : List Entry) (key : 
         go guarded staying open_to b = binds_named f named b (λ u at.
             let is_v : u ≡ v = ap (volume_in v) (sym at ∙ on) in
             subst (λ x. LastsFor (binder_firsts.Begins (machines.Binds x d))) (sym is_v)
-            (binds v (stored setup h (volume_key d.volume_name) (Volume v) pass on) open_to (named_so v on) (next_some v d staying guarded (ap (λ b. b && bytes_eq d.volume_name v.meta.name) open_)) (inl (open_, inr (named_by v on)))))
+            (binds v (stored setup h (volume_key d.volume_name) (Volume v) pass on) open_to (named_so v on)
+            (next_some v d staying guarded (ap (λ b. b && bytes_eq d.volume_name v.meta.name) open_)) (inl (open_, inr (named_by v on)))))
 
         by : (deleting guarded ended free fit own : Bool) → is_protected_volume v ≡ guarded → is_ended v.phase ≡ ended → is_none v.claim_ref ≡ free → fits v d ≡ fit → is_for v d ≡ own
             → (if deleting || not guarded || ended then None else if free then (if fit then Some dues.Bind else None) else if own then Some dues.Bind else None) ≡ Some action
@@ -377,7 +401,8 @@ module _ (setup : Setup) (seat : ℕ) (role : Role) (start : List Entry) (key : 
         by false true false false fit true eg ee ef et eo e i = go eg ee (rw (ef, eo) refl) i
         by false true false false fit false eg ee ef et eo e i = none_some e
 
-    named_rest : (f : BinderFirst) → is_completed d ≡ false → is_empty d.volume_name ≡ false → named_due d (row_at (volume_key d.volume_name) rows) ≡ Some action → IsClaimFirst cached d (named_step d (named_volume cached d)) f → LastsFor f
+    named_rest : (f : BinderFirst) → is_completed d ≡ false → is_empty d.volume_name ≡ false
+        → named_due d (row_at (volume_key d.volume_name) rows) ≡ Some action → IsClaimFirst cached d (named_step d (named_volume cached d)) f → LastsFor f
     unfolding named_due
     named_rest f open_ named e i = by (volume_or d.volume_name rows (row_at (volume_key d.volume_name) rows) refl)
       where
@@ -408,20 +433,27 @@ module _ (setup : Setup) (seat : ℕ) (role : Role) (start : List Entry) (key : 
         let best : IsBestAt cached d None (waits_for_pod cached d) [] b.place = subst (λ x. IsVolumeFor x cached d (Some b.place)) empty b.choice in
         let is_v : b.volume ≡ best.volume = ap (volume_in b.volume) (sym b.there ∙ best.candidate.there) in
         let fit = fitting b.volume d (ap (λ v. eligible v d None) is_v ∙ best.candidate.eligible) in
-        let there_ : IsIn (Volume b.volume) cached = some_filter (λ z. z ≡ Volume b.volume) (is_of_kind kinds.PersistentVolume) cached (at_place_in (rows_of kinds.PersistentVolume cached) b.place (Volume b.volume) b.there) in
+        let there_ : IsIn (Volume b.volume) cached =
+        some_filter (λ z. z ≡ Volume b.volume) (is_of_kind kinds.PersistentVolume) cached (at_place_in (rows_of kinds.PersistentVolume cached) b.place (Volume b.volume) b.there) in
         let on : row_at (key_of (Volume b.volume)) rows ≡ Some (Volume b.volume) = member_stands (Volume b.volume) rows (rows_stand_in_order setup h) (of_cache (Volume b.volume) refl there_) in
         of_one f _ b.begins
-        (binds b.volume (stored setup h (key_of (Volume b.volume)) (Volume b.volume) pass on) fit.open_to (ap (λ x. x || bytes_eq d.volume_name b.volume.meta.name) empty) (next_some b.volume d fit.staying fit.guarded (ap (λ x. x && bytes_eq d.volume_name b.volume.meta.name) open_)) (inl (open_, inl empty)))
+        (binds b.volume (stored setup h (key_of (Volume b.volume)) (Volume b.volume) pass on) fit.open_to
+        (ap (λ x. x || bytes_eq d.volume_name b.volume.meta.name) empty)
+        (next_some b.volume d fit.staying fit.guarded (ap (λ x. x && bytes_eq d.volume_name b.volume.meta.name) open_)) (inl (open_, inl empty)))
 
-    unnamed_so : (f : BinderFirst) → is_completed d ≡ false → is_empty d.volume_name ≡ true → (if has_match rows d then Some dues.Bind else class_due rows d) ≡ Some action → IsClaimFirst cached d (unnamed_step cached d) f → LastsFor f
+    unnamed_so : (f : BinderFirst) → is_completed d ≡ false → is_empty d.volume_name ≡ true
+        → (if has_match rows d then Some dues.Bind else class_due rows d) ≡ Some action → IsClaimFirst cached d (unnamed_step cached d) f → LastsFor f
     unnamed_so f open_ empty e i = by (has_match rows d) (lacks_class d) (list_any is_default_row rows) refl refl refl e
       where
-        by : (found lacks marked : Bool) → has_match rows d ≡ found → lacks_class d ≡ lacks → list_any is_default_row rows ≡ marked → (if found then Some dues.Bind else if lacks && marked then Some dues.AssignClass else None) ≡ Some action → LastsFor f
-        by true lacks marked ef el em e = matched f open_ empty (subst (λ b. IsClaimFirst cached d (if b then claim_steps.Bind else if may_assign cached d then claim_steps.AssignClass else claim_steps.Nothing) f) (match_seen ∙ ef) i)
+        by : (found lacks marked : Bool) → has_match rows d ≡ found → lacks_class d ≡ lacks → list_any is_default_row rows ≡ marked
+            → (if found then Some dues.Bind else if lacks && marked then Some dues.AssignClass else None) ≡ Some action → LastsFor f
+        by true lacks marked ef el em e = matched f open_ empty (subst
+            (λ b. IsClaimFirst cached d (if b then claim_steps.Bind else if may_assign cached d then claim_steps.AssignClass else claim_steps.Nothing) f) (match_seen ∙ ef) i)
         by false true true ef el em e =
             let none : has_match cached d ≡ false = match_seen ∙ ef in
             let may : may_assign cached d ≡ true = and_from (lacks_class d) (list_any is_default_row cached) el (default_seen em) in
-            let a : IsAssignmentOf cached d f = subst (λ b. IsClaimFirst cached d (if b then claim_steps.AssignClass else claim_steps.Nothing) f) may (subst (λ b. IsClaimFirst cached d (if b then claim_steps.Bind else if may_assign cached d then claim_steps.AssignClass else claim_steps.Nothing) f) none i) in
+            let a : IsAssignmentOf cached d f = subst (λ b. IsClaimFirst cached d (if b then claim_steps.AssignClass else claim_steps.Nothing) f) may
+            (subst (λ b. IsClaimFirst cached d (if b then claim_steps.Bind else if may_assign cached d then claim_steps.AssignClass else claim_steps.Nothing) f) none i) in
             of_one f _ a.begins (assigns a.class a.default.there el open_)
         by false true false ef el em e = none_some e
         by false false marked ef el em e = none_some e
@@ -431,8 +463,11 @@ module _ (setup : Setup) (seat : ℕ) (role : Role) (start : List Entry) (key : 
     each f i = by (is_completed d) (is_empty d.volume_name) (is_deleting d.meta) refl refl due_here (subst (λ x. IsFirst cached x f) seen i)
       where
         by : (completed empty deleting : Bool) → is_completed d ≡ completed → is_empty d.volume_name ≡ empty
-            → (if completed then (if empty then lost_due d else completed_due d (row_at (volume_key d.volume_name) rows)) else if deleting then None else if empty then (if has_match rows d then Some dues.Bind else class_due rows d) else named_due d (row_at (volume_key d.volume_name) rows)) ≡ Some action
-            → IsClaimFirst cached d (if completed then (if empty then unless_lost d claim_steps.Lost else completed_step d NotAsked (named_volume cached d)) else if deleting then claim_steps.Nothing else if empty then unnamed_step cached d else named_step d (named_volume cached d)) f
+            → (if completed then (if empty then lost_due d else completed_due d (row_at (volume_key d.volume_name) rows)) else if deleting then None
+            else if empty then (if has_match rows d then Some dues.Bind else class_due rows d) else named_due d (row_at (volume_key d.volume_name) rows)) ≡ Some action
+            → IsClaimFirst cached d (if completed then
+            (if empty then unless_lost d claim_steps.Lost else completed_step d NotAsked (named_volume cached d)) else if deleting then
+            claim_steps.Nothing else if empty then unnamed_step cached d else named_step d (named_volume cached d)) f
             → LastsFor f
         by true true deleting ec ee e i =
             let open_ = lost_open d action e in
@@ -445,7 +480,8 @@ module _ (setup : Setup) (seat : ℕ) (role : Role) (start : List Entry) (key : 
     decides : (first : First) → IsDecision s.role s.memory (all_objects s.caches) key first → DecisionLasts setup seat role start key h first
     decides first x = by_machine setup seat role start key h cached each first (subst (λ k. IsFirstOf k s.role.node s.memory cached key first) s_kind x)
 
-  at_point : (s : ActorState) (h : List Entry) → IsDecisionPoint setup seat role start s h → (first : First) → IsDecision s.role s.memory (all_objects s.caches) key first → DecisionLasts setup seat role start key h first
+  at_point : (s : ActorState) (h : List Entry) → IsDecisionPoint setup seat role start s h → (first : First)
+      → IsDecision s.role s.memory (all_objects s.caches) key first → DecisionLasts setup seat role start key h first
   at_point s h p first x = let at = claim_alike (world setup start) (world setup h) key c p.alike there in decides s h p at.claim at.is at.same first x
 
 pub claims_act : ClaimsAct

@@ -1,13 +1,13 @@
 -- The next of the four writes of a binding, on a volume and a claim as they stand, lasts.
 use Rattle.std.proofs.Common.{◌≡◌, ◌≢◌, ◌∙◌, ◌⊎◌, Bool, true, false, true≢false, Option, Some, None, inl, inr, refl, sym, ap, subst, if◌then◌else◌}
 use Rattle.std.specs.Prelude.{◌&&◌, ◌||◌, is_some, not}
-use Rattle.kube_types.specs.declared.uid.Uid.{Uid}
-use Rattle.kube_types.specs.declared.parts.VolumePhase.TheVariants as volumes
-use Rattle.kube_types.specs.declared.objects.Ref.{Ref}
-use Rattle.kube_types.specs.declared.objects.Claim.{Claim as ClaimData}
-use Rattle.kube_types.specs.declared.objects.Volume.{Volume as VolumeData}
-use Rattle.kube_types.specs.declared.objects.Object.TheVariants.{Claim, Volume}
-use Rattle.kube_types.specs.Bindings.{carries, is_bound, is_completed, is_empty, is_ended, is_for, is_protected_volume, names_claim, refers_carrying, refers_for, uid_carries, uid_fits}
+use Rattle.kube_parts.specs.declared.uid.Uid.{Uid}
+use Rattle.kube_parts.specs.declared.parts.VolumePhase.TheVariants as volumes
+use Rattle.kube_objects.specs.declared.objects.Ref.{Ref}
+use Rattle.kube_objects.specs.declared.objects.Claim.{Claim as ClaimData}
+use Rattle.kube_objects.specs.declared.objects.Volume.{Volume as VolumeData}
+use Rattle.kube_objects.specs.declared.objects.Object.TheVariants.{Claim, Volume}
+use Rattle.kube_objects.specs.Bindings.{carries, is_bound, is_completed, is_empty, is_ended, is_for, is_protected_volume, names_claim, refers_carrying, refers_for, uid_carries, uid_fits}
 use Rattle.call_types.specs.declared.request.Request.{Request}
 use Rattle.call_types.specs.declared.request.SeatKind.{SeatKind}
 use Rattle.call_types.specs.declared.setup.Setup.{Setup}
@@ -37,7 +37,8 @@ carries_for v c e = by v.claim_ref e
 abbrev pub IsOpenTo : VolumeData → ClaimData → Type 0
 IsOpenTo v c = ((is_completed c ≡ false) × ((is_empty c.volume_name ≡ true) ⊎ (c.volume_name ≡ v.meta.name))) ⊎ (is_completed_with c v ≡ true)
 
-module _ (setup : Setup) (w : World) (kind : SeatKind) (controller : is_user kind ≡ false) (v : VolumeData) (c : ClaimData) (sv : IsStored w (Volume v)) (sc : IsStored w (Claim c)) (uid : Uid) (has : c.meta.uid ≡ Some uid) (open_to : IsOpenTo v c) where
+module _ (setup : Setup) (w : World) (kind : SeatKind) (controller : is_user kind ≡ false) (v : VolumeData) (c : ClaimData)
+    (sv : IsStored w (Volume v)) (sc : IsStored w (Claim c)) (uid : Uid) (has : c.meta.uid ≡ Some uid) (open_to : IsOpenTo v c) where
   of_request : (given request : Request) → Some given ≡ Some request → Lasts setup w kind given → Lasts setup w kind request
   of_request given request e lasts = subst (Lasts setup w kind) (one given request e) lasts
 
@@ -53,7 +54,9 @@ module _ (setup : Setup) (w : World) (kind : SeatKind) (controller : is_user kin
       not_bound f is = true≢false (sym (ap is_bound is) ∙ f)
 
       by : (carrying ended bound guarded completed shown : Bool) → carries v c ≡ carrying → is_bound v.phase ≡ bound → is_completed_with c v ≡ completed → shows_bound c v ≡ shown
-          → (if not carrying then (if ended then None else Some (write_reference v c)) else if not bound then (if ended || not guarded then None else Some (write_bound v)) else if not completed then Some (write_completion v c) else if not shown then Some (write_claim_status v c) else None) ≡ Some request
+          → (if not carrying then (if ended then None else Some (write_reference v c)) else if not bound then
+          (if ended || not guarded then None else Some (write_bound v)) else if not completed then Some
+          (write_completion v c) else if not shown then Some (write_claim_status v c) else None) ≡ Some request
           → Lasts setup w kind request
       by false true bound guarded completed shown ec eb ed es n = none_some n
       by false false bound guarded completed shown ec eb ed es n = of_request _ request n (reference_lasts setup w kind v c uid controller sv sc.valid has ec)
@@ -70,7 +73,8 @@ unfolding next_write claim_write
 next_some v c open_ guarded incomplete = by (carries v c) (is_bound v.phase)
   where
     by : (carrying bound : Bool)
-        → is_some (if not carrying then (if is_ended v.phase then None else Some (write_reference v c)) else if not bound then (if is_ended v.phase || not (is_protected_volume v) then None else Some (write_bound v))
+        → is_some (if not carrying then (if is_ended v.phase then None else Some (write_reference v c)) else if not bound then
+        (if is_ended v.phase || not (is_protected_volume v) then None else Some (write_bound v))
         else if not (is_completed_with c v) then Some (write_completion v c) else if not (shows_bound c v) then Some (write_claim_status v c) else None) ≡ true
     by false bound = rw open_ refl
     by true false = rw (open_, guarded) refl

@@ -3,10 +3,10 @@ use Rattle.std.proofs.Common.{◌≡◌, ◌∙◌, ℕ, ◌+◌, List, [], ◌�
 use Rattle.std.specs.Prelude.{◌&&◌, ◌||◌, bytes_eq, is_some}
 use Rattle.std.specs.List.{list_any}
 use Rattle.plain_data.specs.Pairs.{Pair}
-use Rattle.kube_types.specs.declared.uid.Uid.{Uid}
-use Rattle.kube_types.specs.declared.objects.Class.{Class as ClassData}
-use Rattle.kube_types.specs.declared.objects.Claim.{Claim as ClaimData}
-use Rattle.kube_types.specs.declared.objects.DataId.{DataId}
+use Rattle.kube_parts.specs.declared.uid.Uid.{Uid}
+use Rattle.kube_objects.specs.declared.objects.Class.{Class as ClassData}
+use Rattle.kube_objects.specs.declared.objects.Claim.{Claim as ClaimData}
+use Rattle.kube_objects.specs.declared.objects.DataId.{DataId}
 use Rattle.call_types.specs.declared.reply.Refusal.TheVariants.{BackFault, Exhausted}
 use Rattle.call_types.specs.declared.reply.Reply.{Reply}
 use Rattle.call_types.specs.declared.reply.Reply.TheVariants.{Provisioned, Refused}
@@ -30,7 +30,8 @@ named_is : (name : List ℕ) (stored : List Data) → list_any (λ x. x.there &&
 named_is name [] = refl
 named_is name (x ∷ xs) = by (x.there && bytes_eq x.name name) (named_is name xs)
   where
-    by : (b : Bool) → list_any (λ x. x.there && bytes_eq x.name name) xs ≡ is_some (data_named name xs) → (b || list_any (λ x. x.there && bytes_eq x.name name) xs) ≡ is_some (if b then Some x else data_named name xs)
+    by : (b : Bool) → list_any (λ x. x.there && bytes_eq x.name name) xs ≡ is_some (data_named name xs)
+        → (b || list_any (λ x. x.there && bytes_eq x.name name) xs) ≡ is_some (if b then Some x else data_named name xs)
     by true rest = refl
     by false rest = rest
 
@@ -58,7 +59,8 @@ module _ (setup : Setup) (w : World) (kind : SeatKind) (controller : is_user kin
   provision_says = rw controller (by (is_planned (w.devices.calls + 1) setup.faults) refl)
     where
       by : (b : Bool) → is_planned (w.devices.calls + 1) setup.faults ≡ b
-          → ProvisionSays (is_served setup w.devices c uid x labels) (unless_planned setup w.devices (provision setup.pools w.devices (data_name uid) x.provisioner c.amount.bytes labels (data_named (data_name uid) w.devices.stored))).reply
+          → ProvisionSays (is_served setup w.devices c uid x labels)
+          (unless_planned setup w.devices (provision setup.pools w.devices (data_name uid) x.provisioner c.amount.bytes labels (data_named (data_name uid) w.devices.stored))).reply
       by true e = rw e (Fails (w.devices.calls + 1) refl)
       by false e = rw e (found_so (data_named (data_name uid) w.devices.stored) refl)
 

@@ -2,17 +2,17 @@
 use Rattle.std.proofs.Common.{◌≡◌, ◌∙◌, ℕ, List, ◌∷◌, Bool, true, false, true≢false, Option, Some, None, inl, inr, refl, sym, ap, subst, if◌then◌else◌}
 use Rattle.std.specs.Prelude.{is_none}
 use Rattle.plain_data.specs.Pairs.{Pair}
-use Rattle.kube_types.specs.declared.key.Key.{Key}
-use Rattle.kube_types.specs.declared.uid.Uid.{Uid}
-use Rattle.kube_types.specs.declared.names.Due.{Due}
-use Rattle.kube_types.specs.declared.names.Due.TheVariants as dues
-use Rattle.kube_types.specs.declared.objects.Class.{Class as ClassData}
-use Rattle.kube_types.specs.declared.objects.Claim.{Claim as ClaimData}
-use Rattle.kube_types.specs.declared.objects.DataId.{DataId}
-use Rattle.kube_types.specs.declared.objects.Object.{Object}
-use Rattle.kube_types.specs.declared.objects.Object.TheVariants.{Claim}
-use Rattle.kube_types.specs.Keys.{key_of, row_at}
-use Rattle.kube_types.proofs.KeyOrder.{row_at_key}
+use Rattle.kube_objects.specs.declared.key.Key.{Key}
+use Rattle.kube_parts.specs.declared.uid.Uid.{Uid}
+use Rattle.kube_parts.specs.declared.names.Due.{Due}
+use Rattle.kube_parts.specs.declared.names.Due.TheVariants as dues
+use Rattle.kube_objects.specs.declared.objects.Class.{Class as ClassData}
+use Rattle.kube_objects.specs.declared.objects.Claim.{Claim as ClaimData}
+use Rattle.kube_objects.specs.declared.objects.DataId.{DataId}
+use Rattle.kube_objects.specs.declared.objects.Object.{Object}
+use Rattle.kube_objects.specs.declared.objects.Object.TheVariants.{Claim}
+use Rattle.kube_objects.specs.Keys.{key_of, row_at}
+use Rattle.kube_objects.proofs.KeyOrder.{row_at_key}
 use Rattle.call_types.specs.declared.entry.Entry.{Entry}
 use Rattle.call_types.specs.declared.reply.Refusal.TheVariants.{Exhausted}
 use Rattle.call_types.specs.declared.reply.Reply.TheVariants.{Refused}
@@ -79,7 +79,8 @@ row_free : (row : Option Object) (action : Due) → (if is_none row then Some du
 row_free None action e = refl
 row_free (Some o) action e = none_some e
 
-worth_asking : (served : Bool) (x : ClassData) (uid : Uid) (rows : List Object) (action : Due) → (if served then provision_if_new rows uid else if x.delayed then Some dues.ClearNode else None) ≡ Some action → IsWorthAsking served x uid rows
+worth_asking : (served : Bool) (x : ClassData) (uid : Uid) (rows : List Object) (action : Due)
+    → (if served then provision_if_new rows uid else if x.delayed then Some dues.ClearNode else None) ≡ Some action → IsWorthAsking served x uid rows
 worth_asking true x uid rows action e = record { free = λ s. row_free (row_at (volume_key (data_name uid)) rows) action e; late = λ s. absurd (true≢false s) }
 worth_asking false x uid rows action e = record { free = λ s. absurd (true≢false (sym s)); late = λ s. by x.delayed e }
   where
@@ -92,7 +93,8 @@ module _ (setup : Setup) (seat : ℕ) (role : Role) (start : List Entry) (key : 
   controller : is_user role.kind ≡ false
   controller = ap is_user kind
 
-  module _ (s : ActorState) (h : List Entry) (p : IsDecisionPoint setup seat role start s h) (d : ClaimData) (is : row_at key (world setup h).store.rows ≡ Some (Claim d)) (same : plain_claim d ≡ plain_claim c) where
+  module _ (s : ActorState) (h : List Entry) (p : IsDecisionPoint setup seat role start s h) (d : ClaimData)
+      (is : row_at key (world setup h).store.rows ≡ Some (Claim d)) (same : plain_claim d ≡ plain_claim c) where
     s_kind : s.role.kind ≡ seats.Ops
     s_kind = ap (λ (r : Role). r.kind) p.role_is ∙ kind
 
@@ -114,7 +116,8 @@ module _ (setup : Setup) (seat : ℕ) (role : Role) (start : List Entry) (key : 
     beginning uid x step = firsts.Begins (tasks.Provision (at_step d uid x step))
 
     -- the decision on the caches is the one on the store
-    decided : (uid : Uid) (x : ClassData) (step : ProvisionStep) → claim_for (world setup h).store.rows d ≡ Some (at_step d uid x step) → (first : First) → IsDecision s.role s.memory (all_objects s.caches) key first → first ≡ beginning uid x step
+    decided : (uid : Uid) (x : ClassData) (step : ProvisionStep) → claim_for (world setup h).store.rows d ≡ Some (at_step d uid x step)
+        → (first : First) → IsDecision s.role s.memory (all_objects s.caches) key first → first ≡ beginning uid x step
     decided uid x step on first f =
         (subst (λ k. IsFirstOf k s.role.node s.memory (all_objects s.caches) key first) s_kind f)
         ∙ (ap (λ y. ops_first (claim_begins (all_objects s.caches) y) (volume_begins y)) seen
@@ -161,7 +164,8 @@ module _ (setup : Setup) (seat : ℕ) (role : Role) (start : List Entry) (key : 
           Later p.alike clearing (ap (under_after asking) e ∙ refused free late)
           (AtOnce (then_alike _ _ _ p.alike alike) (clears h_asked stays (node_late d x (steps.Provisions labels) chosen late)))
 
-    by_step : (uid : Uid) (x : ClassData) (step : ProvisionStep) → claim_for (world setup h).store.rows d ≡ Some (at_step d uid x step) → IsChosen d x step → due_at setup (world setup h) (at_step d uid x step) step ≡ Some action → BeginsLasting setup seat role start key s h
+    by_step : (uid : Uid) (x : ClassData) (step : ProvisionStep) → claim_for (world setup h).store.rows d ≡ Some (at_step d uid x step)
+        → IsChosen d x step → due_at setup (world setup h) (at_step d uid x step) step ≡ Some action → BeginsLasting setup seat role start key s h
     unfolding provision_call
     by_step uid x (steps.Provisions labels) on chosen e = record {
       task = tasks.Provision (at_step d uid x (steps.Provisions labels));
@@ -169,7 +173,8 @@ module _ (setup : Setup) (seat : ℕ) (role : Role) (start : List Entry) (key : 
       only = decided uid x (steps.Provisions labels) on;
       asks = refl;
       will = asks uid x labels chosen (worth_asking (is_served setup (world setup h).devices d uid x labels) x uid (world setup h).store.rows action e)
-          (calls_last_or_leave_alike setup (world setup h) role.kind (ask_call d uid x labels) (rows_stand_in_order setup h)) (provision_says setup (world setup h) role.kind controller d uid x labels);
+          (calls_last_or_leave_alike setup (world setup h) role.kind (ask_call d uid x labels) (rows_stand_in_order setup h))
+          (provision_says setup (world setup h) role.kind controller d uid x labels);
     }
     by_step uid x steps.ClearsNode on chosen e = record {
       task = tasks.Provision (at_step d uid x steps.ClearsNode);

@@ -2,15 +2,15 @@
 use Rattle.std.proofs.Common.{◌≡◌, ◌∙◌, ℕ, List, [], ◌∷◌, Bool, true, false, true≢false, Option, Some, None, refl, sym, ap, subst, if◌then◌else◌}
 use Rattle.std.specs.Prelude.{◌&&◌, map, not}
 use Rattle.std.specs.List.{list_all}
-use Rattle.kube_types.specs.declared.key.Key.{Key}
-use Rattle.kube_types.specs.declared.names.Due.{Due}
-use Rattle.kube_types.specs.declared.names.Due.TheVariants as dues
-use Rattle.kube_types.specs.declared.objects.Claim.{Claim as ClaimData}
-use Rattle.kube_types.specs.declared.objects.Pod.{Pod as PodData}
-use Rattle.kube_types.specs.declared.objects.Object.{Object}
-use Rattle.kube_types.specs.declared.objects.Object.TheVariants.{Claim, Node, Pod, Volume}
-use Rattle.kube_types.specs.Bindings.{is_deleting, is_scheduled}
-use Rattle.kube_types.specs.Keys.{AreRows, key_of, row_at}
+use Rattle.kube_objects.specs.declared.key.Key.{Key}
+use Rattle.kube_parts.specs.declared.names.Due.{Due}
+use Rattle.kube_parts.specs.declared.names.Due.TheVariants as dues
+use Rattle.kube_objects.specs.declared.objects.Claim.{Claim as ClaimData}
+use Rattle.kube_objects.specs.declared.objects.Pod.{Pod as PodData}
+use Rattle.kube_objects.specs.declared.objects.Object.{Object}
+use Rattle.kube_objects.specs.declared.objects.Object.TheVariants.{Claim, Node, Pod, Volume}
+use Rattle.kube_objects.specs.Bindings.{is_deleting, is_scheduled}
+use Rattle.kube_objects.specs.Keys.{AreRows, key_of, row_at}
 use Rattle.call_types.specs.declared.entry.Entry.{Entry}
 use Rattle.call_types.specs.declared.request.Request.{Request}
 use Rattle.call_types.specs.declared.request.Request.TheVariants.{BindPod}
@@ -71,8 +71,10 @@ record BeginsWith (setup : Setup) (seat : ℕ) (role : Role) (start : List Entry
   will : WouldLast setup seat role.kind start h (record { key = key; task = tasks.Schedule machine; call = call })
 
 -- by its first write
-begins_with : (setup : Setup) (seat : ℕ) (role : Role) (start : List Entry) (key : Key) (h : List Entry) (op : Option ScheduleOp) (first : Request) (rest writes : List Request) → op ≡ begun_with writes → writes ≡ first ∷ rest → is_write first ≡ true
-    → WouldLast setup seat role.kind start h (record { key = key; task = tasks.Schedule (record { writes = first ∷ rest; step = steps.Writes 0 }); call = first }) → BeginsWith setup seat role start key h op
+begins_with : (setup : Setup) (seat : ℕ) (role : Role) (start : List Entry) (key : Key) (h : List Entry) (op : Option ScheduleOp) (first : Request)
+    (rest writes : List Request) → op ≡ begun_with writes → writes ≡ first ∷ rest → is_write first ≡ true
+    → WouldLast setup seat role.kind start h
+    (record { key = key; task = tasks.Schedule (record { writes = first ∷ rest; step = steps.Writes 0 }); call = first }) → BeginsWith setup seat role start key h op
 unfolding schedule_call
 begins_with setup seat role start key h op first rest writes begins are is_one will = record {
   machine = record { writes = first ∷ rest; step = steps.Writes 0 };
@@ -83,7 +85,8 @@ begins_with setup seat role start key h op first rest writes begins are is_one w
 }
 
 -- a decision of the scheduler is one of a machine
-by_machine : (setup : Setup) (seat : ℕ) (role : Role) (start : List Entry) (key : Key) (h : List Entry) (rows : List Object) (refused : List Tried) (row : Option Object) → ((op : Option ScheduleOp) → BeginsOn rows refused row op → BeginsWith setup seat role start key h op)
+by_machine : (setup : Setup) (seat : ℕ) (role : Role) (start : List Entry) (key : Key) (h : List Entry) (rows : List Object) (refused : List Tried)
+    (row : Option Object) → ((op : Option ScheduleOp) → BeginsOn rows refused row op → BeginsWith setup seat role start key h op)
     → (first : First) → IsPodFirst rows refused row first → DecisionLasts setup seat role start key h first
 by_machine setup seat role start key h rows refused row each firsts.Drops i = let m = each None i in none_some m.is
 by_machine setup seat role start key h rows refused row each (firsts.Queues other) i = absurd i
@@ -102,7 +105,8 @@ module _ (setup : Setup) (seat : ℕ) (role : Role) (start : List Entry) (key : 
   controller = ap is_user kind
 
   -- the pod as it stands in a world that is like that of the start
-  module _ (h : List Entry) (alike : AreAlike (world setup start) (world setup h)) (p : PodData) (there : row_at key (world setup h).store.rows ≡ Some (Pod p)) (unscheduled : is_scheduled p ≡ false) (last : Option (List ℕ)) where
+  module _ (h : List Entry) (alike : AreAlike (world setup start) (world setup h)) (p : PodData)
+      (there : row_at key (world setup h).store.rows ≡ Some (Pod p)) (unscheduled : is_scheduled p ≡ false) (last : Option (List ℕ)) where
     abbrev rows : List Object
     rows = (world setup h).store.rows
 
@@ -121,14 +125,17 @@ module _ (setup : Setup) (seat : ℕ) (role : Role) (start : List Entry) (key : 
         let uid = has_uid p.meta.uid (rows_known setup h pass key (Pod p) there) in
         let node_valid = rows_are_valid setup h pass (node_key a.node.meta.name) (Node a.node) a.first.there in
         let lasts : Lasts setup (world setup h) role.kind (BindPod (key_of (Pod p)) uid.uid name) =
-        subst (λ x. Lasts setup (world setup h) role.kind (BindPod (key_of (Pod p)) uid.uid x)) (sym a.named) (bind_lasts setup (world setup h) role.kind controller p uid.uid on_store uid.is unscheduled a.node a.first.there node_valid) in
+        subst (λ x. Lasts setup (world setup h) role.kind (BindPod (key_of (Pod p)) uid.uid x)) (sym a.named)
+        (bind_lasts setup (world setup h) role.kind controller p uid.uid on_store uid.is unscheduled a.node a.first.there node_valid) in
         begins_with setup seat role start key h op (BindPod (key_of (Pod p)) uid.uid name) [] (binding p p.meta.uid name) begins (ap (λ u. binding p u name) uid.is) refl (AtOnce alike lasts)
 
     -- the writes that prepare a node: the first that takes a volume lasts; of those that give claims the node one does
-    writes_last : (name : List ℕ) (writes : List Request) → AreWritesOn rows p name writes → SomeOpen (others_of rows p) → (op : Option ScheduleOp) → op ≡ begun_with writes → BeginsWith setup seat role start key h op
+    writes_last : (name : List ℕ) (writes : List Request) → AreWritesOn rows p name writes → SomeOpen (others_of rows p) → (op : Option ScheduleOp)
+        → op ≡ begun_with writes → BeginsWith setup seat role start key h op
     writes_last name writes (Takes v c rest are apart) some op begins =
         let uid = has_uid c.meta.uid apart.known in
-        let lasts = reference_lasts setup (world setup h) role.kind v c uid.uid controller (stored setup h (key_of (Volume v)) (Volume v) pass apart.volume) (rows_are_valid setup h pass (key_of (Claim c)) (Claim c) apart.claim) uid.is apart.uncarried in
+        let lasts = reference_lasts setup (world setup h) role.kind v c uid.uid controller
+        (stored setup h (key_of (Volume v)) (Volume v) pass apart.volume) (rows_are_valid setup h pass (key_of (Claim c)) (Claim c) apart.claim) uid.is apart.uncarried in
         begins_with setup seat role start key h op (write_reference v c) rest writes begins are refl (AtOnce alike lasts)
     writes_last name writes (Places are) some op begins = by (others_of rows p) (others_stored rows p) (others_apart rows p (claims_once p on_store.valid)) some are
       where
@@ -138,21 +145,26 @@ module _ (setup : Setup) (seat : ℕ) (role : Role) (start : List Entry) (key : 
             begins_with setup seat role start key h op (placing name c) (map (placing name) cs) writes begins e refl
             (places_last setup seat role start key pass kind name (map (placing name) (c ∷ cs)) c cs 0 h alike (all_from (map (placing name) (c ∷ cs))) stand apart open_)
 
-    prepares : (name : List ℕ) (binds : List (Key × Key)) (provisions : List Key) → IsChoice rows p last (Prepare name binds provisions) → (op : Option ScheduleOp) → op ≡ begun_with (writes_for rows p (Prepare name binds provisions)) → BeginsWith setup seat role start key h op
+    prepares : (name : List ℕ) (binds : List (Key × Key)) (provisions : List Key) → IsChoice rows p last (Prepare name binds provisions)
+        → (op : Option ScheduleOp) → op ≡ begun_with (writes_for rows p (Prepare name binds provisions)) → BeginsWith setup seat role start key h op
     prepares name binds provisions f op begins =
         let search = search_of rows p last name binds provisions f in
         writes_last name _ (are_writes rows order p known last name binds provisions search) (some_open rows p search.waiting) op begins
 
-    begins_by : (action : Due) (choice : Choice) → IsChoice rows p last choice → IsDueBy setup (world setup h) p choice (Some action) → (op : Option ScheduleOp) → op ≡ begun_with (writes_for rows p choice) → BeginsWith setup seat role start key h op
+    begins_by : (action : Due) (choice : Choice) → IsChoice rows p last choice → IsDueBy setup (world setup h) p choice (Some action)
+        → (op : Option ScheduleOp) → op ≡ begun_with (writes_for rows p choice) → BeginsWith setup seat role start key h op
     begins_by action (Assign name) f due op begins = assigns name f op begins
     begins_by action (Prepare name binds provisions) f due op begins = prepares name binds provisions f op begins
     begins_by action Wait f due op begins = none_some (sym due)
     begins_by action NoNode f due op begins = none_some (sym due)
 
-  module _ (p : PodData) (action : Due) (there : row_at key (world setup start).store.rows ≡ Some (Pod p)) (unscheduled : is_scheduled p ≡ false) (due : IsDue setup (world setup start) (Pod p) (Some action)) where
-    at_point : (s : ActorState) (h : List Entry) → IsDecisionPoint setup seat role start s h → (first : First) → IsDecision s.role s.memory (all_objects s.caches) key first → DecisionLasts setup seat role start key h first
+  module _ (p : PodData) (action : Due) (there : row_at key (world setup start).store.rows ≡ Some (Pod p)) (unscheduled : is_scheduled p ≡ false)
+      (due : IsDue setup (world setup start) (Pod p) (Some action)) where
+    at_point : (s : ActorState) (h : List Entry) → IsDecisionPoint setup seat role start s h → (first : First)
+        → IsDecision s.role s.memory (all_objects s.caches) key first → DecisionLasts setup seat role start key h first
     at_point s h point first decided =
-        by_machine setup seat role start key h (world setup h).store.rows s.memory.tries.refused (Some (Pod at.pod)) each first (subst (λ x. IsPodFirst (world setup h).store.rows s.memory.tries.refused x first) at.is on_rows)
+        by_machine setup seat role start key h (world setup h).store.rows s.memory.tries.refused (Some (Pod at.pod)) each first
+        (subst (λ x. IsPodFirst (world setup h).store.rows s.memory.tries.refused x first) at.is on_rows)
       where
         at : IsPodAt (row_at key (world setup h).store.rows) p
         at = pod_alike (world setup start) (world setup h) key p point.alike there
@@ -167,7 +179,8 @@ module _ (setup : Setup) (seat : ℕ) (role : Role) (start : List Entry) (key : 
         s_kind = ap (λ (r : Role). r.kind) point.role_is ∙ kind
 
         on_rows : IsPodFirst (world setup h).store.rows s.memory.tries.refused (row_at key (world setup h).store.rows) first
-        on_rows = subst (λ rows. IsPodFirst rows s.memory.tries.refused (row_at key rows) first) (schedulers_see_all setup seat role start s h kind point) (subst (λ k. IsFirstOf k s.role.node s.memory (all_objects s.caches) key first) s_kind decided)
+        on_rows = subst (λ rows. IsPodFirst rows s.memory.tries.refused (row_at key rows) first)
+            (schedulers_see_all setup seat role start s h kind point) (subst (λ k. IsFirstOf k s.role.node s.memory (all_objects s.caches) key first) s_kind decided)
 
         each : (op : Option ScheduleOp) → BeginsOn (world setup h).store.rows s.memory.tries.refused (Some (Pod at.pod)) op → BeginsWith setup seat role start key h op
         each op begins =

@@ -4,28 +4,62 @@ use Rattle.std.specs.Prelude.{◌&&◌, ◌||◌, cond, filter, is_some, map, no
 use Rattle.std.specs.List.{list_all, list_any}
 use Rattle.std.specs.Ordering.{is_gt}
 use Rattle.plain_data.specs.Pairs.{value_at}
-use Rattle.kube_types.specs.declared.key.Key.{Key}
-use Rattle.kube_types.specs.declared.parts.Kind.TheVariants as kinds
-use Rattle.kube_types.specs.declared.objects.Claim.{Claim as ClaimData}
-use Rattle.kube_types.specs.declared.objects.Node.{Node as NodeData}
-use Rattle.kube_types.specs.declared.objects.Pod.{Pod as PodData}
-use Rattle.kube_types.specs.declared.objects.Volume.{Volume as VolumeData}
-use Rattle.kube_types.specs.declared.objects.Object.{Object}
-use Rattle.kube_types.specs.declared.objects.Object.TheVariants.{Class, Node, Volume, Claim, Pod}
-use Rattle.kube_types.specs.Bindings.{carries, is_completed, selected_node}
-use Rattle.kube_types.specs.Keys.{AreRows, key_of, meta_of, row_at}
-use Rattle.kube_types.proofs.RowPlaces.{row_at_place}
+use Rattle.kube_objects.specs.declared.key.Key.{Key}
+use Rattle.kube_parts.specs.declared.parts.Kind.TheVariants as kinds
+use Rattle.kube_objects.specs.declared.objects.Claim.{Claim as ClaimData}
+use Rattle.kube_objects.specs.declared.objects.Node.{Node as NodeData}
+use Rattle.kube_objects.specs.declared.objects.Pod.{Pod as PodData}
+use Rattle.kube_objects.specs.declared.objects.Volume.{Volume as VolumeData}
+use Rattle.kube_objects.specs.declared.objects.Object.{Object}
+use Rattle.kube_objects.specs.declared.objects.Object.TheVariants.{Class, Node, Volume, Claim, Pod}
+use Rattle.kube_objects.specs.Bindings.{carries, is_completed, selected_node}
+use Rattle.kube_objects.specs.Keys.{AreRows, key_of, meta_of, row_at}
+use Rattle.kube_objects.proofs.RowPlaces.{row_at_place}
 use Rattle.binder_model.specs.BindWrites.{write_reference}
-use Rattle.binder_model.specs.Choice.{AreShares, IsProvisioned, Share, TakesVolume, are_completed, by_size, carries_claim, claim_cmp, claim_in, claim_named, claims_of, has_carrier, insert_claim, is_other, is_served_elsewhere, is_under_way, lacks_claim}
+use Rattle.binder_model.specs.Choice.{
+  AreShares,
+  IsProvisioned,
+  Share,
+  TakesVolume,
+  are_completed,
+  by_size,
+  carries_claim,
+  claim_cmp,
+  claim_in,
+  claim_named,
+  claims_of,
+  has_carrier,
+  insert_claim,
+  is_other,
+  is_served_elsewhere,
+  is_under_way,
+  lacks_claim,
+}
 use Rattle.binder_model.specs.ObjectKeys.{claim_key}
-use Rattle.kube_types.specs.VolumeIndex.{as_volume}
+use Rattle.volume_index.specs.VolumeIndex.{as_volume}
 use Rattle.call_types.specs.declared.request.Request.{Request}
 use Rattle.volume_match.specs.Volumes.{volume_at}
 use Rattle.model_laws.proofs.Lists.{IsIn}
 use Rattle.model_laws.proofs.Readings.{found_stands}
 use Rattle.delayed_binding.specs.declared.choice.Choice.{Choice}
 use Rattle.delayed_binding.specs.declared.choice.Choice.TheVariants.{Assign, Prepare}
-use Rattle.delayed_binding.specs.Choices.{IsAssigned, IsChoice, IsChoiceAt, IsCompleted, IsPrepared, IsSearching, IsServedElsewhere, IsUnderWay, LacksClaim, Stage, binds_of, others_in, pair_of, provisions_of, set_aside}
+use Rattle.delayed_binding.specs.Choices.{
+  IsAssigned,
+  IsChoice,
+  IsChoiceAt,
+  IsCompleted,
+  IsPrepared,
+  IsSearching,
+  IsServedElsewhere,
+  IsUnderWay,
+  LacksClaim,
+  Stage,
+  binds_of,
+  others_in,
+  pair_of,
+  provisions_of,
+  set_aside,
+}
 use Rattle.delayed_binding.specs.Writes.{bind_write, node_write, reference_write, selecting_write}
 use Rattle.delayed_binding.proofs.Known.{Each, IsSought, IsStored as Stands, others_sought, others_stored}
 use Rattle.delayed_binding.proofs.Written.{bound_at}
@@ -42,7 +76,8 @@ abbrev pub is_assign : Choice → Bool
 is_assign (Assign name) = true
 is_assign choice = false
 
-pub assigned_of : (stage : Stage) (rows : List Object) (claims : List ClaimData) (last : Option (List ℕ)) (name : List ℕ) → IsChoiceAt stage rows claims last (Assign name) → IsAssigned rows claims name
+pub assigned_of : (stage : Stage) (rows : List Object) (claims : List ClaimData) (last : Option (List ℕ)) (name : List ℕ)
+    → IsChoiceAt stage rows claims last (Assign name) → IsAssigned rows claims name
 assigned_of LacksClaim rows claims last name f = absurd (true≢false (ap is_assign f))
 assigned_of IsCompleted rows claims last name f = f
 assigned_of IsServedElsewhere rows claims last name f = absurd (true≢false (ap is_assign f))
@@ -62,8 +97,10 @@ pub record IsSearch (rows : List Object) (p : PodData) (last : Option (List ℕ)
   pub waiting : list_all (is_under_way rows) (claims_of rows p) ≡ false
 
 module _ (rows : List Object) (p : PodData) (last : Option (List ℕ)) (name : List ℕ) (binds : List (Key × Key)) (provisions : List Key) where
-  search_at : (lacks done elsewhere under : Bool) → lacks_claim rows p ≡ lacks → list_any (is_served_elsewhere rows) (claims_of rows p) ≡ elsewhere → list_all (is_under_way rows) (claims_of rows p) ≡ under
-      → IsChoiceAt (if lacks then LacksClaim else if done then IsCompleted else if elsewhere then IsServedElsewhere else if under then IsUnderWay else IsSearching) rows (claims_of rows p) last (Prepare name binds provisions)
+  search_at : (lacks done elsewhere under : Bool) → lacks_claim rows p ≡ lacks → list_any (is_served_elsewhere rows) (claims_of rows p) ≡ elsewhere
+      → list_all (is_under_way rows) (claims_of rows p) ≡ under
+      → IsChoiceAt (if lacks then LacksClaim else if done then IsCompleted else if elsewhere then IsServedElsewhere else if under then IsUnderWay
+      else IsSearching) rows (claims_of rows p) last (Prepare name binds provisions)
       → IsSearch rows p last name binds provisions
   search_at true done elsewhere under l e u f = absurd (true≢false (ap is_prepare f))
   search_at false true elsewhere under l e u f = absurd f
@@ -80,7 +117,8 @@ open_in : (rows : List Object) (cs : List ClaimData) → list_all (is_under_way 
 open_in rows [] e = absurd (true≢false e)
 open_in rows (c ∷ cs) e = by (is_completed c) (has_carrier rows c) (value_at selected_node c.meta.annotations) refl e (open_in rows cs)
   where
-    by : (done carried : Bool) (x : Option (List ℕ)) → value_at selected_node c.meta.annotations ≡ x → ((done || carried || is_some x) && list_all (is_under_way rows) cs) ≡ false → (list_all (is_under_way rows) cs ≡ false → SomeOpen (filter (is_other rows) cs))
+    by : (done carried : Bool) (x : Option (List ℕ)) → value_at selected_node c.meta.annotations ≡ x
+        → ((done || carried || is_some x) && list_all (is_under_way rows) cs) ≡ false → (list_all (is_under_way rows) cs ≡ false → SomeOpen (filter (is_other rows) cs))
         → SomeOpen (cond (not done && not carried) (c ∷ filter (is_other rows) cs) (filter (is_other rows) cs))
     by false false None is e rest = inl is
     by false false (Some node) is e rest = inr (rest e)
@@ -143,7 +181,8 @@ abbrev pub is_empty_list : {X : Type 0} → List X → Bool
 is_empty_list [] = true
 is_empty_list (x ∷ xs) = false
 
-all_provided : (rows : List Object) (n : NodeData) (cs : List ClaimData) (shares : List Share) (taken : List ℕ) → AreShares rows n taken cs shares → binds_of rows cs shares ≡ [] → provisions_of cs shares ≡ map (λ c. key_of (Claim c)) cs
+all_provided : (rows : List Object) (n : NodeData) (cs : List ClaimData) (shares : List Share) (taken : List ℕ) → AreShares rows n taken cs shares
+    → binds_of rows cs shares ≡ [] → provisions_of cs shares ≡ map (λ c. key_of (Claim c)) cs
 all_provided rows n [] [] taken are none = refl
 all_provided rows n [] (TakesVolume place ∷ shares) taken are none = absurd are
 all_provided rows n [] (IsProvisioned ∷ shares) taken are none = absurd are
@@ -181,10 +220,12 @@ module _ (rows : List Object) (order : AreRows rows) (p : PodData) (known : are_
       ∙ ap (λ x. reference_write (Some c) x) (ap as_volume (ap (λ k. row_at k rows) second ∙ apart.volume))
 
   -- where a volume is taken, its reference is written first
-  pub takes_first : (pair : Key × Key) (more : List (Key × Key)) (provisions : List Key) → IsSearch rows p last name (pair ∷ more) provisions → TakesFirst rows (writes_for rows p (Prepare name (pair ∷ more) provisions))
+  pub takes_first : (pair : Key × Key) (more : List (Key × Key)) (provisions : List Key) → IsSearch rows p last name (pair ∷ more) provisions
+      → TakesFirst rows (writes_for rows p (Prepare name (pair ∷ more) provisions))
   takes_first pair more provisions search =
       let shares = search.prepared.prepares.shares in
-      let b = bound_at rows search.prepared.node {P = IsSought rows} others shares (set_aside rows) (others_sought rows p (all_known rows p known) search.here) search.prepared.prepares.serves.shared 0 pair (ap (λ bs. slice_get bs 0) (sym search.prepared.prepares.binds_are)) in
+      let b = bound_at rows search.prepared.node {P = IsSought rows} others shares (set_aside rows)
+      (others_sought rows p (all_known rows p known) search.here) search.prepared.prepares.serves.shared 0 pair (ap (λ bs. slice_get bs 0) (sym search.prepared.prepares.binds_are)) in
       let there = row_at_place kinds.PersistentVolume b.place (Volume b.volume) rows order b.there in
       let apart : IsApart rows b.volume b.claim = record {
         volume = there;
@@ -203,6 +244,7 @@ module _ (rows : List Object) (order : AreRows rows) (p : PodData) (known : are_
   pub are_writes : (binds : List (Key × Key)) (provisions : List Key) → IsSearch rows p last name binds provisions → AreWritesOn rows p name (writes_for rows p (Prepare name binds provisions))
   are_writes [] provisions search =
       let shares = search.prepared.prepares.shares in
-      let provided = search.prepared.prepares.provisions_are ∙ all_provided rows search.prepared.node others shares (set_aside rows) search.prepared.prepares.serves.shared (sym search.prepared.prepares.binds_are) in
+      let provided = search.prepared.prepares.provisions_are
+      ∙ all_provided rows search.prepared.node others shares (set_aside rows) search.prepared.prepares.serves.shared (sym search.prepared.prepares.binds_are) in
       Places (written [] provisions ∙ (ap (λ ks. present (map (node_write rows name) ks)) provided ∙ node_writes rows name others (others_stored rows p)))
   are_writes (pair ∷ more) provisions search = let first = takes_first pair more provisions search in Takes first.volume first.claim first.rest first.are first.apart

@@ -7,10 +7,10 @@ use Rattle.std.specs.Ordering.{is_gt, ordering_reverse}
 use Rattle.std.proofs.lemmas.Cmp.{nat_list_cmp_total, tied_itself}
 use Rattle.plain_data.specs.Pairs.{text_cmp}
 use Rattle.plain_data.specs.Rows.{IsRising}
-use Rattle.kube_types.specs.declared.objects.Node.{Node as NodeData}
-use Rattle.kube_types.specs.declared.objects.Pod.{Pod as PodData}
-use Rattle.kube_types.specs.declared.objects.Object.TheVariants.{Node}
-use Rattle.kube_types.specs.Keys.{AreRows, key_of}
+use Rattle.kube_objects.specs.declared.objects.Node.{Node as NodeData}
+use Rattle.kube_objects.specs.declared.objects.Pod.{Pod as PodData}
+use Rattle.kube_objects.specs.declared.objects.Object.TheVariants.{Node}
+use Rattle.kube_objects.specs.Keys.{AreRows, key_of}
 use Rattle.call_types.specs.declared.setup.Setup.{Setup}
 use Rattle.binder_model.specs.Choice.{nodes_of, others_of}
 use Rattle.binder_model.specs.Due.{shares_are_served}
@@ -116,12 +116,14 @@ cut_by refused (x ∷ xs) rises = by (is_after refused x) refl (cut_by refused x
             let under : text_cmp refused x.meta.name ≡ Less = nat_list_cmp_total.antisymm refused x.meta.name ∙ ap ordering_reverse o in
             ap is_gt (nat_list_cmp_total.antisymm m.meta.name refused ∙ ap ordering_reverse (nat_list_cmp_total.trans refused x.meta.name m.meta.name under less))
 
-    by : (b : Bool) → is_after refused x ≡ b → filter (λ m. not (is_after refused m)) xs ++ filter (is_after refused) xs ≡ xs → cond (not b) (x ∷ filter (λ m. not (is_after refused m)) xs) (filter (λ m. not (is_after refused m)) xs) ++ cond b (x ∷ filter (is_after refused) xs) (filter (is_after refused) xs) ≡ x ∷ xs
+    by : (b : Bool) → is_after refused x ≡ b → filter (λ m. not (is_after refused m)) xs ++ filter (is_after refused) xs ≡ xs
+        → cond (not b) (x ∷ filter (λ m. not (is_after refused m)) xs) (filter (λ m. not (is_after refused m)) xs) ++ cond b (x ∷ filter (is_after refused) xs) (filter (is_after refused) xs) ≡ x ∷ xs
     by true e rest = let all = all_after refused xs (above e) in (λ i. all.1 i ++ (x ∷ all.0 i))
     by false e rest = ap (λ ys. x ∷ ys) rest
 
 -- the turn from a node on
-turns_on : (refused : Option (List ℕ)) (ns before : List NodeData) (n : NodeData) (behind : List NodeData) → IsRising text_cmp name_of ns → in_turn refused ns ≡ before ++ n ∷ behind → in_turn (Some n.meta.name) ns ≡ behind ++ (before ++ n ∷ [])
+turns_on : (refused : Option (List ℕ)) (ns before : List NodeData) (n : NodeData) (behind : List NodeData) → IsRising text_cmp name_of ns
+    → in_turn refused ns ≡ before ++ n ∷ behind → in_turn (Some n.meta.name) ns ≡ behind ++ (before ++ n ∷ [])
 turns_on refused ns before n behind rises are = by refused are
   where
     cut : (xs ys : List NodeData) → ns ≡ xs ++ n ∷ ys → in_turn (Some n.meta.name) ns ≡ ys ++ (xs ++ n ∷ [])
@@ -133,7 +135,8 @@ turns_on refused ns before n behind rises are = by refused are
     by None e = cut before behind e
     by (Some r) e = found (in_one (filter (is_after r) ns) (filter (λ m. not (is_after r m)) ns) before n behind e)
       where
-        found : InFirst (filter (is_after r) ns) (filter (λ m. not (is_after r m)) ns) before n behind ⊎ InSecond (filter (is_after r) ns) (filter (λ m. not (is_after r m)) ns) before n behind → in_turn (Some n.meta.name) ns ≡ behind ++ (before ++ n ∷ [])
+        found : InFirst (filter (is_after r) ns) (filter (λ m. not (is_after r m)) ns) before n behind
+            ⊎ InSecond (filter (is_after r) ns) (filter (λ m. not (is_after r m)) ns) before n behind → in_turn (Some n.meta.name) ns ≡ behind ++ (before ++ n ∷ [])
         found (inl f) =
             let low = filter (λ m. not (is_after r m)) ns in
             cut (low ++ before) f.rest (sym (cut_by r ns rises) ∙ (ap (λ xs. low ++ xs) f.first ∙ sym (append_assoc low before (n ∷ f.rest))))
@@ -163,7 +166,9 @@ all_in_turn (Some r) m ns there = by (is_after r m) refl
     by false e = some_right (λ y. y ≡ m) (filter (is_after r) ns) (filter (λ x. not (is_after r x)) ns) (in_passing (λ x. not (is_after r x)) m ns there (ap not e))
 
 -- a node that gives stands behind one that serves and cannot give, where none serves before
-some_gives : (setup : Setup) (w : World) (p : PodData) → SharesAreOne w p → (before : List NodeData) (n : NodeData) (behind : List NodeData) (m : NodeData) → NoneServes w p before → IsOn setup w p false n → IsOn setup w p true m → IsIn m (before ++ n ∷ behind) → SomeGives setup w p behind
+some_gives : (setup : Setup) (w : World) (p : PodData) → SharesAreOne w p
+    → (before : List NodeData) (n : NodeData) (behind : List NodeData) (m : NodeData) → NoneServes w p before → IsOn setup w p false n
+    → IsOn setup w p true m → IsIn m (before ++ n ∷ behind) → SomeGives setup w p behind
 some_gives setup w p one [] n behind m none on gives (inl is) =
     let there = subst (λ x. IsOn setup w p true x) (sym is) gives in
     absurd (true≢false (sym there.given_is ∙ (ap (shares_are_served setup w n (others_of w.store.rows p)) (one n there.shares on.shares there.serves on.serves) ∙ on.given_is)))
@@ -180,7 +185,8 @@ some_gives setup w p one (b ∷ before) n behind m none on gives (inr more) = so
 
 shares_are_one : (w : World) → AreRows w.store.rows → HaveNoNamespace w.store.rows → (p : PodData) → SharesAreOne w p
 shares_are_one w order plain p n a b s t =
-    one_sharing w.store.rows n order (others_of w.store.rows p) (set_aside w.store.rows) a b (set_aside_is w.store.rows) (serves_here w.store.rows order plain p n a s).shared (serves_here w.store.rows order plain p n b t).shared
+    one_sharing w.store.rows n order (others_of w.store.rows p) (set_aside w.store.rows) a b (set_aside_is w.store.rows)
+    (serves_here w.store.rows order plain p n a s).shared (serves_here w.store.rows order plain p n b t).shared
 
 pub one_node_less : OneNodeLess
 one_node_less setup past p refused node k pass can first on tries =

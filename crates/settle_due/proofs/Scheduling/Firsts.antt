@@ -1,8 +1,8 @@
 -- Where a pod is to be prepared, the scheduler writes the first node that serves.
 use Rattle.std.proofs.Common.{◌≡◌, ℕ, List, [], ◌∷◌, Bool, true, false, true≢false, Option, Some, refl, sym, ap, subst}
-use Rattle.kube_types.specs.declared.names.Due.{Due}
-use Rattle.kube_types.specs.declared.names.Due.TheVariants as dues
-use Rattle.kube_types.specs.declared.objects.Pod.{Pod as PodData}
+use Rattle.kube_parts.specs.declared.names.Due.{Due}
+use Rattle.kube_parts.specs.declared.names.Due.TheVariants as dues
+use Rattle.kube_objects.specs.declared.objects.Pod.{Pod as PodData}
 use Rattle.call_types.specs.declared.entry.Entry.{Entry}
 use Rattle.call_types.specs.declared.request.Request.{Request}
 use Rattle.call_types.specs.declared.setup.Setup.{Setup}
@@ -35,7 +35,8 @@ is_assign (Some dues.Assign) = true
 is_assign x = false
 
 module _ (setup : Setup) (past : List Entry) (pass : ImportsPass setup.imports) (p : PodData) (last : Option (List ℕ)) (op : ScheduleOp) where
-  written : (choice : Choice) → IsChoice (world setup past).store.rows p last choice → IsDueBy setup (world setup past) p choice (Some dues.Prepare) → Some op ≡ begun_with (writes_for (world setup past).store.rows p choice) → WritesOnFirst (world setup past) p last op.writes
+  written : (choice : Choice) → IsChoice (world setup past).store.rows p last choice → IsDueBy setup (world setup past) p choice (Some dues.Prepare)
+      → Some op ≡ begun_with (writes_for (world setup past).store.rows p choice) → WritesOnFirst (world setup past) p last op.writes
   written (Assign name) f due begins = absurd (true≢false (sym (ap is_assign due)))
   written Wait f due begins = none_some (sym due)
   written NoNode f due begins = none_some (sym due)
@@ -47,7 +48,8 @@ module _ (setup : Setup) (past : List Entry) (pass : ImportsPass setup.imports) 
       record {
         node = search.prepared.node;
         first = first_serving (world setup past) order (none_in_a_namespace setup pass past) p last search.prepared.node search.prepared.first;
-        are = subst (AreWritesOn rows p search.prepared.node.meta.name) (sym (begun_writes _ op begins)) (subst (λ x. AreWritesOn rows p x (writes_for rows p (Prepare name binds provisions))) search.prepared.named writes);
+        are = subst (AreWritesOn rows p search.prepared.node.meta.name) (sym (begun_writes _ op begins))
+            (subst (λ x. AreWritesOn rows p x (writes_for rows p (Prepare name binds provisions))) search.prepared.named writes);
       }
 
 pub first_is_written : FirstIsWritten
@@ -55,5 +57,6 @@ first_is_written setup past p refused op pass there due begins =
     let rows = (world setup past).store.rows in
     let open_ = for_scheduler setup (world setup past) p dues.Prepare refl due in
     let b : BeginsFor rows refused p (Some op) = subst (λ x. BeginsIf x rows refused p (Some op)) open_ begins in
-    let chosen = choices_are_due setup (world setup past) p (last_refused rows p refused) b.choice (Some dues.Prepare) (rows_stand_in_order setup past) (none_in_a_namespace setup pass past) open_ b.chosen in
+    let chosen = choices_are_due setup (world setup past) p (last_refused rows p refused) b.choice (Some dues.Prepare)
+    (rows_stand_in_order setup past) (none_in_a_namespace setup pass past) open_ b.chosen in
     written setup past pass p (last_refused rows p refused) op b.choice b.chosen (chosen.0 due) b.begins

@@ -6,14 +6,14 @@ use Rattle.std.proofs.lemmas.Option.{slice_get_within}
 use Rattle.std.proofs.lemmas.Slice.Eq.{bytes_eq-Decides}
 use Rattle.std.proofs.lemmas.Bool.{and_right}
 use Rattle.plain_data.specs.Pairs.{put_pair, value_at}
-use Rattle.kube_types.specs.declared.key.Key.{Key}
-use Rattle.kube_types.specs.declared.objects.Meta.{Meta}
-use Rattle.kube_types.specs.declared.objects.Claim.{Claim as ClaimData}
-use Rattle.kube_types.specs.declared.objects.Object.{Object}
-use Rattle.kube_types.specs.declared.objects.Object.TheVariants.{Claim}
-use Rattle.kube_types.specs.Bindings.{is_deleting, is_empty, selected_node}
-use Rattle.kube_types.specs.Keys.{key_of, row_at}
-use Rattle.kube_types.proofs.KeyOrder.{row_at-put_row_other}
+use Rattle.kube_objects.specs.declared.key.Key.{Key}
+use Rattle.kube_objects.specs.declared.objects.Meta.{Meta}
+use Rattle.kube_objects.specs.declared.objects.Claim.{Claim as ClaimData}
+use Rattle.kube_objects.specs.declared.objects.Object.{Object}
+use Rattle.kube_objects.specs.declared.objects.Object.TheVariants.{Claim}
+use Rattle.kube_objects.specs.Bindings.{is_deleting, is_empty, selected_node}
+use Rattle.kube_objects.specs.Keys.{key_of, row_at}
+use Rattle.kube_objects.proofs.KeyOrder.{row_at-put_row_other}
 use Rattle.call_types.specs.declared.entry.Entry.{Entry}
 use Rattle.call_types.specs.declared.reply.Reply.TheVariants.{Done}
 use Rattle.call_types.specs.declared.request.Request.{Request}
@@ -105,7 +105,8 @@ module _ (writes : List Request) where
   all_from i = let same : 0 + i ≡ i = omega arith in ap (slice_get writes) same
 
 -- claims stand where one with another key was written
-pub still_stand : (old new : List Object) (c : ClaimData) (cs : List ClaimData) → ((k : Key) → key_of (Claim c) ≢ k → row_at k new ≡ row_at k old) → Each (Differ c) cs → Each (Stands old) cs → Each (Stands new) cs
+pub still_stand : (old new : List Object) (c : ClaimData) (cs : List ClaimData) → ((k : Key) → key_of (Claim c) ≢ k → row_at k new ≡ row_at k old)
+    → Each (Differ c) cs → Each (Stands old) cs → Each (Stands new) cs
 still_stand old new c [] kept apart stand = tt
 still_stand old new c (d ∷ ds) kept apart stand = (kept (key_of (Claim d)) apart.0 ∙ stand.0, still_stand old new c ds kept apart.1 stand.1)
 
@@ -115,7 +116,8 @@ module _ (key : Key) (name : List ℕ) (writes : List Request) where
   at_place place c = record { key = key; task = tasks.Schedule (record { writes = writes; step = steps.Writes place }); call = placing name c }
 
   -- a write that was done leads to the next
-  pub goes_on : (place : ℕ) (c d new : ClaimData) → slice_get writes place ≡ Some (placing name c) → slice_get writes (place + 1) ≡ Some (placing name d) → under_after (at_place place c) (Done (Claim new)) ≡ Some (at_place (place + 1) d)
+  pub goes_on : (place : ℕ) (c d new : ClaimData) → slice_get writes place ≡ Some (placing name c)
+      → slice_get writes (place + 1) ≡ Some (placing name d) → under_after (at_place place c) (Done (Claim new)) ≡ Some (at_place (place + 1) d)
   unfolding schedule_call schedule_moved
   goes_on place c d new here next =
       let within = slice_get_within writes place (placing name c) here in
@@ -127,20 +129,24 @@ module _ (setup : Setup) (seat : ℕ) (role : Role) (start : List Entry) (key : 
   controller : is_user role.kind ≡ false
   controller = ap is_user kind
 
-  pub places_last : (c : ClaimData) (cs : List ClaimData) (place : ℕ) (h : List Entry) → AreAlike (world setup start) (world setup h) → AreFrom writes place (map (placing name) (c ∷ cs)) → Each (Stands (world setup h).store.rows) (c ∷ cs) → AreApart (c ∷ cs)
+  pub places_last : (c : ClaimData) (cs : List ClaimData) (place : ℕ) (h : List Entry) → AreAlike (world setup start) (world setup h)
+      → AreFrom writes place (map (placing name) (c ∷ cs)) → Each (Stands (world setup h).store.rows) (c ∷ cs) → AreApart (c ∷ cs)
       → SomeOpen (c ∷ cs) → WouldLast setup seat role.kind start h (at_place key name writes place c)
   places_last c cs place h alike are stand apart (inl open_) =
       AtOnce alike (node_lasts setup (world setup h) role.kind c name controller (stored setup h (key_of (Claim c)) (Claim c) pass stand.0) (λ e. none_some (sym open_ ∙ e)))
   places_last c [] place h alike are stand apart (inr none) = absurd none
   places_last c (d ∷ ds) place h alike are stand apart (inr more) =
       by_leaving (leaves (placed setup (world setup h) name c on_store)) refl
-      (λ alike_next stand_next. places_last d ds (place + 1) (own_entry setup seat role.kind h (placing name c) ∷ h) alike_next (later_from writes place (placing name c) (map (placing name) (d ∷ ds)) are) stand_next apart.1 more)
+      (λ alike_next stand_next. places_last d ds (place + 1) (own_entry setup seat role.kind h (placing name c) ∷ h) alike_next
+      (later_from writes place (placing name c) (map (placing name) (d ∷ ds)) are) stand_next apart.1 more)
     where
       on_store : IsStored (world setup h) (Claim c)
       on_store = stored setup h (key_of (Claim c)) (Claim c) pass stand.0
 
       by_leaving : (b : Bool) → leaves (placed setup (world setup h) name c on_store) ≡ b
-          → (AreAlike (world setup start) (world setup (own_entry setup seat role.kind h (placing name c) ∷ h)) → Each (Stands (world setup (own_entry setup seat role.kind h (placing name c) ∷ h)).store.rows) (d ∷ ds) → WouldLast setup seat role.kind start (own_entry setup seat role.kind h (placing name c) ∷ h) (at_place key name writes (place + 1) d))
+          → (AreAlike (world setup start) (world setup (own_entry setup seat role.kind h (placing name c) ∷ h))
+          → Each (Stands (world setup (own_entry setup seat role.kind h (placing name c) ∷ h)).store.rows) (d ∷ ds)
+          → WouldLast setup seat role.kind start (own_entry setup seat role.kind h (placing name c) ∷ h) (at_place key name writes (place + 1) d))
           → WouldLast setup seat role.kind start h (at_place key name writes place c)
       by_leaving true e rest = AtOnce alike (inl (leaving setup (world setup h) name c on_store role.kind kind e))
       by_leaving false e rest = by (calls_last_or_leave_alike setup (world setup h) role.kind (placing name c) (rows_stand_in_order setup h))
@@ -152,4 +158,5 @@ module _ (setup : Setup) (seat : ℕ) (role : Role) (start : List Entry) (key : 
               let here = at_from writes place (map (placing name) (c ∷ d ∷ ds)) are in
               let after_it = at_from writes (place + 1) (map (placing name) (d ∷ ds)) (later_from writes place (placing name c) (map (placing name) (d ∷ ds)) are) in
               Later alike (at_place key name writes (place + 1) d) (ap (under_after (at_place key name writes place c)) said.1 ∙ goes_on key name writes place c d said.0 here after_it)
-              (rest (then_alike _ _ _ alike same) (still_stand (world setup h).store.rows (world setup (own_entry setup seat role.kind h (placing name c) ∷ h)).store.rows c (d ∷ ds) (others_stay setup (world setup h) name c on_store role.kind kind e) apart.0 stand.1))
+              (rest (then_alike _ _ _ alike same) (still_stand (world setup h).store.rows
+              (world setup (own_entry setup seat role.kind h (placing name c) ∷ h)).store.rows c (d ∷ ds) (others_stay setup (world setup h) name c on_store role.kind kind e) apart.0 stand.1))

@@ -6,12 +6,12 @@ use Rattle.std.specs.Ordering.{nat_cmp, ordering_reverse, ordering_then}
 use Rattle.std.proofs.lemmas.Cmp.{nat_list_cmp_total}
 use Rattle.plain_data.specs.Pairs.{text_cmp}
 use Rattle.plain_data.specs.Rows.{IsAfter, IsRising}
-use Rattle.kube_types.specs.declared.parts.Kind.TheVariants as kinds
-use Rattle.kube_types.specs.declared.objects.Node.{Node as NodeData}
-use Rattle.kube_types.specs.declared.objects.Pod.{Pod as PodData}
-use Rattle.kube_types.specs.declared.objects.Object.{Object}
-use Rattle.kube_types.specs.declared.objects.Object.TheVariants.{Class, Node, Volume, Claim, Pod}
-use Rattle.kube_types.specs.Keys.{AreRows, key_cmp, key_of, row_at}
+use Rattle.kube_parts.specs.declared.parts.Kind.TheVariants as kinds
+use Rattle.kube_objects.specs.declared.objects.Node.{Node as NodeData}
+use Rattle.kube_objects.specs.declared.objects.Pod.{Pod as PodData}
+use Rattle.kube_objects.specs.declared.objects.Object.{Object}
+use Rattle.kube_objects.specs.declared.objects.Object.TheVariants.{Class, Node, Volume, Claim, Pod}
+use Rattle.kube_objects.specs.Keys.{AreRows, key_cmp, key_of, row_at}
 use Rattle.binder_model.specs.Choice.{claims_of, nodes_of}
 use Rattle.binder_model.specs.ObjectKeys.{node_key}
 use Rattle.binder_model.specs.World.{World}
@@ -106,7 +106,8 @@ record IsSplit (Q : NodeData → Type 0) (p : NodeData → Bool) (ns : List Node
 
 split : (Q : NodeData → Type 0) (p : NodeData → Bool) (ns : List NodeData) (n : NodeData) → IsRising text_cmp name_of ns → Each Q ns → IsIn n ns → p n ≡ true → IsSplit Q p ns n
 split Q p [] n rises each there passes = absurd there
-split Q p (x ∷ xs) n rises each (inl is) passes = record { before = []; behind = filter p xs; are = ap (λ b. cond b (x ∷ filter p xs) (filter p xs)) (ap p is ∙ passes) ∙ ap (λ y. y ∷ filter p xs) is; each = tt }
+split Q p (x ∷ xs) n rises each (inl is) passes =
+    record { before = []; behind = filter p xs; are = ap (λ b. cond b (x ∷ filter p xs) (filter p xs)) (ap p is ∙ passes) ∙ ap (λ y. y ∷ filter p xs) is; each = tt }
 split Q p (x ∷ xs) n rises each (inr more) passes = by (p x) refl (split Q p xs n rises.1 each.1 more passes)
   where
     by : (b : Bool) → p x ≡ b → IsSplit Q p xs n → IsSplit Q p (x ∷ xs) n
@@ -153,7 +154,8 @@ later_across last n b en eb = by (is_past last n) (is_past last b) en eb
     by true y e f = absurd (true≢false e)
     by false false e f = absurd (true≢false (sym f))
 
-module _ (w : World) (order : AreRows w.store.rows) (plain : HaveNoNamespace w.store.rows) (p : PodData) (last : Option (List ℕ)) (node : NodeData) (first : IsFirstNode w.store.rows last (ServesClaims w.store.rows (claims_of w.store.rows p)) node) where
+module _ (w : World) (order : AreRows w.store.rows) (plain : HaveNoNamespace w.store.rows) (p : PodData) (last : Option (List ℕ)) (node : NodeData)
+    (first : IsFirstNode w.store.rows last (ServesClaims w.store.rows (claims_of w.store.rows p)) node) where
   abbrev nodes : List NodeData
   nodes = nodes_of w.store.rows
 
@@ -161,7 +163,8 @@ module _ (w : World) (order : AreRows w.store.rows) (plain : HaveNoNamespace w.s
   are_plain n i = plain.nodes (key_of (Node n)) n (member_stands (Node n) w.store.rows order i)
 
   stand : Each (IsThere w.store.rows) nodes
-  stand = each_node (IsThere w.store.rows) w.store.rows (λ n i. ap (λ s. row_at (record { kind = kinds.Node; namespace = s; name = n.meta.name }) w.store.rows) (sym (are_plain n i)) ∙ member_stands (Node n) w.store.rows order i)
+  stand = each_node (IsThere w.store.rows) w.store.rows
+      (λ n i. ap (λ s. row_at (record { kind = kinds.Node; namespace = s; name = n.meta.name }) w.store.rows) (sym (are_plain n i)) ∙ member_stands (Node n) w.store.rows order i)
 
   rises : IsRising text_cmp name_of nodes
   rises = rising_nodes w.store.rows are_plain order
@@ -178,9 +181,17 @@ module _ (w : World) (order : AreRows w.store.rows) (plain : HaveNoNamespace w.s
   none_serve (n ∷ ns) each = (each.0, none_serve ns each.1)
 
   serving : (before behind : List NodeData) → in_turn last nodes ≡ before ++ node ∷ behind → Each (ServesNot w p) before → IsFirstServing w p last node
-  serving before behind are each = record { before = before; behind = behind; are = are; none = none_serve before each; shares = first.holds.0; serves = serves_there w.store.rows order plain p node first.holds.0 first.holds.1 }
+  serving before behind are each = record {
+    before = before;
+    behind = behind;
+    are = are;
+    none = none_serve before each;
+    shares = first.holds.0;
+    serves = serves_there w.store.rows order plain p node first.holds.0 first.holds.1;
+  }
 
-pub first_serving : (w : World) → AreRows w.store.rows → HaveNoNamespace w.store.rows → (p : PodData) (last : Option (List ℕ)) (node : NodeData) → IsFirstNode w.store.rows last (ServesClaims w.store.rows (claims_of w.store.rows p)) node → IsFirstServing w p last node
+pub first_serving : (w : World) → AreRows w.store.rows → HaveNoNamespace w.store.rows → (p : PodData) (last : Option (List ℕ)) (node : NodeData)
+    → IsFirstNode w.store.rows last (ServesClaims w.store.rows (claims_of w.store.rows p)) node → IsFirstServing w p last node
 first_serving w order plain p None node first =
     let nodes = nodes_of w.store.rows in
     let s = split (IsThere w.store.rows) (λ n. true) nodes node (rises w order plain p None node first) (stand w order plain p None node first) (there w order plain p None node first) refl in
@@ -196,15 +207,18 @@ first_serving w order plain p (Some refused) node first = by (is_after refused n
     by true e =
         let ns = nodes_of w.store.rows in
         let others = filter (λ n. not (is_after refused n)) ns in
-        let s = split (IsThere w.store.rows) (is_after refused) ns node (rises w order plain p (Some refused) node first) (stand w order plain p (Some refused) node first) (there w order plain p (Some refused) node first) e in
+        let s = split (IsThere w.store.rows) (is_after refused) ns node (rises w order plain p (Some refused) node first)
+        (stand w order plain p (Some refused) node first) (there w order plain p (Some refused) node first) e in
         serving w order plain p (Some refused) node first s.before (s.behind ++ others) (ap (λ xs. xs ++ others) s.are ∙ append_assoc s.before (node ∷ s.behind) others)
         (each_map (λ b x. serves_not w order plain p (Some refused) node first b x.holds (later_within (Some refused) node b true e x.passes x.less)) s.before s.each)
     by false e =
         let ns = nodes_of w.store.rows in
         let ahead = filter (is_after refused) ns in
         let there_ = stand w order plain p (Some refused) node first in
-        let s = split (IsThere w.store.rows) (λ n. not (is_after refused n)) ns node (rises w order plain p (Some refused) node first) there_ (there w order plain p (Some refused) node first) (ap not e) in
+        let s = split (IsThere w.store.rows) (λ n. not (is_after refused n)) ns node (rises w order plain p (Some refused) node first) there_
+        (there w order plain p (Some refused) node first) (ap not e) in
         serving w order plain p (Some refused) node first (ahead ++ s.before) s.behind (ap (λ xs. ahead ++ xs) s.are ∙ sym (append_assoc ahead s.before (node ∷ s.behind)))
         (each_both (ServesNot w p) ahead s.before
-        (each_map (λ b x. serves_not w order plain p (Some refused) node first b x.0 (later_across (Some refused) node b e x.1)) ahead (each_passing (IsThere w.store.rows) (is_after refused) ns there_))
+        (each_map (λ b x. serves_not w order plain p (Some refused) node first b x.0 (later_across (Some refused) node b e x.1)) ahead
+        (each_passing (IsThere w.store.rows) (is_after refused) ns there_))
         (each_map (λ b x. serves_not w order plain p (Some refused) node first b x.holds (later_within (Some refused) node b false e (no (is_after refused b) x.passes) x.less)) s.before s.each))

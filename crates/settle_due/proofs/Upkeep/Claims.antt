@@ -2,16 +2,16 @@
 use Rattle.std.proofs.Common.{◌≡◌, ◌∙◌, ℕ, List, [], ◌∷◌, Bool, true, false, true≢false, Option, Some, inl, inr, refl, sym, ap, subst}
 use Rattle.std.specs.Prelude.{◌||◌, is_some}
 use Rattle.std.specs.List.{list_any}
-use Rattle.kube_types.specs.declared.key.Key.{Key}
-use Rattle.kube_types.specs.declared.names.Due.{Due}
-use Rattle.kube_types.specs.declared.names.Due.TheVariants as dues
-use Rattle.kube_types.specs.declared.parts.Kind.TheVariants as kinds
-use Rattle.kube_types.specs.declared.objects.Claim.{Claim as ClaimData}
-use Rattle.kube_types.specs.declared.objects.Object.{Object}
-use Rattle.kube_types.specs.declared.objects.Object.TheVariants.{Class, Node, Volume, Claim, Pod}
-use Rattle.kube_types.specs.Bindings.{is_deleting, is_protected_claim, uses}
-use Rattle.kube_types.specs.Keys.{key_of, row_at}
-use Rattle.kube_types.proofs.KeyOrder.{row_at_key}
+use Rattle.kube_objects.specs.declared.key.Key.{Key}
+use Rattle.kube_parts.specs.declared.names.Due.{Due}
+use Rattle.kube_parts.specs.declared.names.Due.TheVariants as dues
+use Rattle.kube_parts.specs.declared.parts.Kind.TheVariants as kinds
+use Rattle.kube_objects.specs.declared.objects.Claim.{Claim as ClaimData}
+use Rattle.kube_objects.specs.declared.objects.Object.{Object}
+use Rattle.kube_objects.specs.declared.objects.Object.TheVariants.{Class, Node, Volume, Claim, Pod}
+use Rattle.kube_objects.specs.Bindings.{is_deleting, is_protected_claim, uses}
+use Rattle.kube_objects.specs.Keys.{key_of, row_at}
+use Rattle.kube_objects.proofs.KeyOrder.{row_at_key}
 use Rattle.call_types.specs.declared.entry.Entry.{Entry}
 use Rattle.call_types.specs.declared.request.Request.TheVariants as requests
 use Rattle.call_types.specs.declared.request.SeatKind.{SeatKind}
@@ -113,7 +113,8 @@ module _ (setup : Setup) (seat : ℕ) (role : Role) (start : List Entry) (key : 
   controller : is_user role.kind ≡ false
   controller = ap is_user kind
 
-  module _ (s : ActorState) (h : List Entry) (p : IsDecisionPoint setup seat role start s h) (d : ClaimData) (is : row_at key (world setup h).store.rows ≡ Some (Claim d)) (same : plain_claim d ≡ plain_claim c) where
+  module _ (s : ActorState) (h : List Entry) (p : IsDecisionPoint setup seat role start s h) (d : ClaimData)
+      (is : row_at key (world setup h).store.rows ≡ Some (Claim d)) (same : plain_claim d ≡ plain_claim c) where
     s_kind : s.role.kind ≡ seats.ClaimProtect
     s_kind = ap (λ (r : Role). r.kind) p.role_is ∙ kind
 
@@ -135,7 +136,8 @@ module _ (setup : Setup) (seat : ℕ) (role : Role) (start : List Entry) (key : 
     -- the pods that the caches show stand in the store
     unused_seen : list_any (uses d) (world setup h).store.rows ≡ false → list_any (uses d) (all_objects s.caches) ≡ false
     unused_seen none = none_among (uses d) (all_objects s.caches) (world setup h).store.rows
-        (λ o i e. found_stands (key_of o) o (world setup h).store.rows (sym (p.sees (key_of o) (follows_it (key_of o) (ap (λ k. follows seats.ClaimProtect k) (uses_pod d o e)))) ∙ member_stands o (all_objects s.caches) p.ready.rows i)) none
+        (λ o i e. found_stands (key_of o) o (world setup h).store.rows
+        (sym (p.sees (key_of o) (follows_it (key_of o) (ap (λ k. follows seats.ClaimProtect k) (uses_pod d o e)))) ∙ member_stands o (all_objects s.caches) p.ready.rows i)) none
 
     decided : (first : First) → IsDecision s.role s.memory (all_objects s.caches) key first → first ≡ claim_guard_first (claim_guard_for d (claim_guard_due (all_objects s.caches) d))
     decided first x = (subst (λ k. IsFirstOf k s.role.node s.memory (all_objects s.caches) key first) s_kind x) ∙ ap (λ y. claim_guard_first (claim_guard_begins (all_objects s.caches) y)) seen
@@ -159,16 +161,27 @@ module _ (setup : Setup) (seat : ℕ) (role : Role) (start : List Entry) (key : 
           call = requests.List kinds.Pod (Some d.meta.namespace);
           only = λ first x. decided first x ∙ ap (λ y. claim_guard_first (claim_guard_for d y)) due_seen;
           asks = rw known refl;
-          will = Later p.alike (record { key = key; task = tasks.ClaimProtect (record { claim = d; step = steps.Drops }); call = claim_write_over d (unguarded_claim d) }) (after_list parts.2) (then_ e);
+          will = Later p.alike (record
+              { key = key; task = tasks.ClaimProtect (record { claim = d; step = steps.Drops }); call = claim_write_over d (unguarded_claim d) }) (after_list parts.2) (then_ e);
         }
       where
         after_list : list_any (uses d) (world setup h).store.rows ≡ false
-            → under_after (record { key = key; task = tasks.ClaimProtect (record { claim = d; step = steps.ListsPods }); call = requests.List kinds.Pod (Some d.meta.namespace) }) (reply_to (effect setup (world setup h) role.kind (requests.List kinds.Pod (Some d.meta.namespace))))
+            → under_after (record {
+              key = key;
+              task = tasks.ClaimProtect (record { claim = d; step = steps.ListsPods });
+              call = requests.List
+                  kinds.Pod (Some d.meta.namespace);
+            }) (reply_to (effect setup (world setup h) role.kind (requests.List kinds.Pod (Some d.meta.namespace))))
             ≡ Some (record { key = key; task = tasks.ClaimProtect (record { claim = d; step = steps.Drops }); call = claim_write_over d (unguarded_claim d) })
         after_list none =
             let l = lists_tell_what_stands setup (world setup h) role.kind kinds.Pod (Some d.meta.namespace) (rows_stand_in_order setup h) in
             let unused : list_any (uses d) l.0 ≡ false = none_among (uses d) l.0 (world setup h).store.rows (λ o i e. found_stands (key_of o) o (world setup h).store.rows (l.1.1.1.stands o i)) none in
-            ap (under_after (record { key = key; task = tasks.ClaimProtect (record { claim = d; step = steps.ListsPods }); call = requests.List kinds.Pod (Some d.meta.namespace) })) l.1.1.0 ∙ rw unused refl
+            ap (under_after (record {
+              key = key;
+              task = tasks.ClaimProtect (record { claim = d; step = steps.ListsPods });
+              call = requests.List
+                  kinds.Pod (Some d.meta.namespace);
+            })) l.1.1.0 ∙ rw unused refl
 
         same_world : world setup (own_entry setup seat role.kind h (requests.List kinds.Pod (Some d.meta.namespace)) ∷ h) ≡ world setup h
         same_world = list_stays setup (world setup h) role.kind d.meta.namespace
@@ -177,8 +190,10 @@ module _ (setup : Setup) (seat : ℕ) (role : Role) (start : List Entry) (key : 
         still = subst (AreAlike (world setup start)) (sym same_world) p.alike
 
         then_ : claim_guard_due (world setup h).store.rows d ≡ Some dues.Unguard
-            → WouldLast setup seat role.kind start (own_entry setup seat role.kind h (requests.List kinds.Pod (Some d.meta.namespace)) ∷ h) (record { key = key; task = tasks.ClaimProtect (record { claim = d; step = steps.Drops }); call = claim_write_over d (unguarded_claim d) })
-        then_ e = AtOnce still (claim_unguard_lasts setup _ role.kind d controller (subst (λ w. IsStored w (Claim d)) (sym same_world) on_store) (ap (λ (w : World). claim_guard_due w.store.rows d) same_world ∙ e))
+            → WouldLast setup seat role.kind start (own_entry setup seat role.kind h (requests.List kinds.Pod (Some d.meta.namespace)) ∷ h)
+            (record { key = key; task = tasks.ClaimProtect (record { claim = d; step = steps.Drops }); call = claim_write_over d (unguarded_claim d) })
+        then_ e = AtOnce still (claim_unguard_lasts setup _ role.kind d controller (subst (λ w. IsStored w (Claim d)) (sym same_world) on_store)
+            (ap (λ (w : World). claim_guard_due w.store.rows d) same_world ∙ e))
 
     begins : BeginsLasting setup seat role start key s h
     begins = begins_by (one_of (is_deleting d.meta) (is_protected_claim d) (list_any (uses d) (world setup h).store.rows) action due_here)

@@ -1,14 +1,14 @@
 -- An actor acts on a key where its decision on the store begins a task that will make a call that lasts.
 use Rattle.std.proofs.Common.{◌≡◌, ◌∙◌, ℕ, List, Bool, true, false, true≢false, Option, Some, None, refl, sym, ap, subst}
 use Rattle.std.specs.Prelude.{option_map}
-use Rattle.kube_types.specs.declared.key.Key.{Key}
-use Rattle.kube_types.specs.declared.objects.Claim.{Claim as ClaimData}
-use Rattle.kube_types.specs.declared.objects.Volume.{Volume as VolumeData}
-use Rattle.kube_types.specs.declared.objects.Object.{Object}
-use Rattle.kube_types.specs.declared.objects.Object.TheVariants.{Class, Node, Volume, Claim, Pod}
-use Rattle.kube_types.specs.Keys.{row_at}
-use Rattle.kube_types.proofs.KeyOrder.{row_at_key}
-use Rattle.kube_types.specs.declared.objects.Pod.{Pod as PodData}
+use Rattle.kube_objects.specs.declared.key.Key.{Key}
+use Rattle.kube_objects.specs.declared.objects.Claim.{Claim as ClaimData}
+use Rattle.kube_objects.specs.declared.objects.Volume.{Volume as VolumeData}
+use Rattle.kube_objects.specs.declared.objects.Object.{Object}
+use Rattle.kube_objects.specs.declared.objects.Object.TheVariants.{Class, Node, Volume, Claim, Pod}
+use Rattle.kube_objects.specs.Keys.{row_at}
+use Rattle.kube_objects.proofs.KeyOrder.{row_at_key}
+use Rattle.kube_objects.specs.declared.objects.Pod.{Pod as PodData}
 use Rattle.call_types.specs.declared.entry.Entry.{Entry}
 use Rattle.call_types.specs.declared.request.Request.{Request}
 use Rattle.call_types.specs.declared.setup.Setup.{Setup}
@@ -43,13 +43,16 @@ abbrev pub task_in : Task → First → Task
 task_in t (firsts.Begins task) = task
 task_in t first = t
 
-pub acts_by : (setup : Setup) (seat : ℕ) (role : Role) (start : List Entry) (key : Key) → ((s : ActorState) (h : List Entry) → IsDecisionPoint setup seat role start s h → BeginsLasting setup seat role start key s h) → WouldActOn setup seat role start key
+pub acts_by : (setup : Setup) (seat : ℕ) (role : Role) (start : List Entry) (key : Key)
+    → ((s : ActorState) (h : List Entry) → IsDecisionPoint setup seat role start s h → BeginsLasting setup seat role start key s h) → WouldActOn setup seat role start key
 acts_by setup seat role start key begins = record { lasts = lasts; acts = acts }
   where
-    lasts : (s : ActorState) (h : List Entry) (u : Under) → IsDecisionPoint setup seat role start s h → u.key ≡ key → GivesCall s.role s.memory (all_objects s.caches) u → WouldLast setup seat role.kind start h u
+    lasts : (s : ActorState) (h : List Entry) (u : Under) → IsDecisionPoint setup seat role start s h → u.key ≡ key
+        → GivesCall s.role s.memory (all_objects s.caches) u → WouldLast setup seat role.kind start h u
     lasts s h u p own gives =
         let b = begins s h p in
-        let decided : IsDecision s.role s.memory (all_objects s.caches) key (firsts.Begins u.task) = subst (λ k. IsDecision s.role s.memory (all_objects s.caches) k (firsts.Begins u.task)) own gives.decided in
+        let decided : IsDecision s.role s.memory (all_objects s.caches) key (firsts.Begins u.task) =
+        subst (λ k. IsDecision s.role s.memory (all_objects s.caches) k (firsts.Begins u.task)) own gives.decided in
         let task : u.task ≡ b.task = ap (task_in u.task) (b.only (firsts.Begins u.task) decided) in
         let call : u.call ≡ b.call = one u.call b.call (sym gives.call ∙ (ap task_call task ∙ b.asks)) in
         subst (WouldLast setup seat role.kind start h) (λ i. record { key = (sym own) i; task = (sym task) i; call = (sym call) i }) b.will
@@ -150,10 +153,12 @@ pub record DecisionLasts (setup : Setup) (seat : ℕ) (role : Role) (start : Lis
   pub will : WouldLast setup seat role.kind start h (record { key = key; task = task; call = call })
 
 pub acts_each : (setup : Setup) (seat : ℕ) (role : Role) (start : List Entry) (key : Key)
-    → ((s : ActorState) (h : List Entry) → IsDecisionPoint setup seat role start s h → (first : First) → IsDecision s.role s.memory (all_objects s.caches) key first → DecisionLasts setup seat role start key h first) → WouldActOn setup seat role start key
+    → ((s : ActorState) (h : List Entry) → IsDecisionPoint setup seat role start s h → (first : First)
+    → IsDecision s.role s.memory (all_objects s.caches) key first → DecisionLasts setup seat role start key h first) → WouldActOn setup seat role start key
 acts_each setup seat role start key each = record { lasts = lasts; acts = acts }
   where
-    lasts : (s : ActorState) (h : List Entry) (u : Under) → IsDecisionPoint setup seat role start s h → u.key ≡ key → GivesCall s.role s.memory (all_objects s.caches) u → WouldLast setup seat role.kind start h u
+    lasts : (s : ActorState) (h : List Entry) (u : Under) → IsDecisionPoint setup seat role start s h → u.key ≡ key
+        → GivesCall s.role s.memory (all_objects s.caches) u → WouldLast setup seat role.kind start h u
     lasts s h u p own gives =
         let b = each s h p (firsts.Begins u.task) (subst (λ k. IsDecision s.role s.memory (all_objects s.caches) k (firsts.Begins u.task)) own gives.decided) in
         let task : u.task ≡ b.task = ap (task_in u.task) b.is in

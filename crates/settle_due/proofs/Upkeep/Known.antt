@@ -1,12 +1,12 @@
 -- Each object of a store has its UID. It belongs beside `model_laws::uids_are_given_once`.
 use Rattle.std.proofs.Common.{◌≡◌, ◌∙◌, ◌+◌, List, [], ◌∷◌, ◌++◌, true, false, true≢false, Option, Some, None, inl, inr, refl, sym, ap, subst}
 use Rattle.std.specs.Prelude.{is_none, is_some}
-use Rattle.kube_types.specs.declared.uid.Uid.{Uid}
-use Rattle.kube_types.specs.declared.key.Key.{Key}
-use Rattle.kube_types.specs.declared.objects.Object.{Object}
-use Rattle.kube_types.specs.Keys.{AreRows, key_of, meta_of, put_row, row_at, without_row}
-use Rattle.kube_types.proofs.KeyOrder.{row_at-put_row, row_at-put_row_other, row_at-without_row, row_at-without_row_other}
-use Rattle.kube_types.proofs.SameKeys.{key_tells}
+use Rattle.kube_parts.specs.declared.uid.Uid.{Uid}
+use Rattle.kube_objects.specs.declared.key.Key.{Key}
+use Rattle.kube_objects.specs.declared.objects.Object.{Object}
+use Rattle.kube_objects.specs.Keys.{AreRows, key_of, meta_of, put_row, row_at, without_row}
+use Rattle.kube_objects.proofs.KeyOrder.{row_at-put_row, row_at-put_row_other, row_at-without_row, row_at-without_row_other}
+use Rattle.kube_objects.proofs.SameKeys.{key_tells}
 use Rattle.call_types.specs.declared.entry.Entry.{Entry}
 use Rattle.call_types.specs.declared.reply.Change.{Change}
 use Rattle.call_types.specs.declared.reply.Change.TheVariants.{Added, Modified, Deleted}
@@ -24,12 +24,14 @@ use Rattle.model_laws.proofs.Lists.{IsIn, none_some, one}
 abbrev pub AreKnown : List Object → Type 0
 AreKnown rows = (key : Key) (o : Object) → row_at key rows ≡ Some o → is_some (meta_of o).uid ≡ true
 
-new_known : (w : World) (change : Change) (o : Object) → OfStore (Gives (w.store.version + 1)) (OnStore (Stores change o)) → IsInPlace w.store.rows change o → AreKnown w.store.rows → is_some (meta_of o).uid ≡ true
+new_known : (w : World) (change : Change) (o : Object) → OfStore (Gives (w.store.version + 1)) (OnStore (Stores change o))
+    → IsInPlace w.store.rows change o → AreKnown w.store.rows → is_some (meta_of o).uid ≡ true
 new_known w Added o gives place known = ap is_some gives
 new_known w Modified o gives place known = ap is_some place.1.1.uid ∙ known (key_of o) place.0 place.1.0
 new_known w Deleted o gives place known = ap is_some place.1.1.uid ∙ known (key_of o) place.0 place.1.0
 
-step_known : (w : World) (x : Effect) → AreRows w.store.rows → OfStore (Gives (w.store.version + 1)) x → OfStore (ChangeOf w.store.rows) x → AreKnown w.store.rows → AreKnown (world_after w x).store.rows
+step_known : (w : World) (x : Effect) → AreRows w.store.rows → OfStore (Gives (w.store.version + 1)) x → OfStore (ChangeOf w.store.rows) x
+    → AreKnown w.store.rows → AreKnown (world_after w x).store.rows
 unfolding world_after after
 step_known w (OnStore (Says reply)) rows g c known key o is = known key o is
 step_known w (OnStore (Stores change new)) rows g c known key o is = elim (key_tells (key_of new) key) [

@@ -1,17 +1,17 @@
 -- The reclaimer acts on a volume that has ended: it reads it, erases its data, and deletes it.
 use Rattle.std.proofs.Common.{◌≡◌, ◌∙◌, ℕ, ◌+◌, List, ◌∷◌, Bool, true, false, true≢false, Option, Some, None, inl, inr, refl, sym, ap, subst, if◌then◌else◌}
 use Rattle.std.specs.Prelude.{◌&&◌, is_some, not}
-use Rattle.kube_types.specs.declared.key.Key.{Key}
-use Rattle.kube_types.specs.declared.uid.Uid.{Uid}
-use Rattle.kube_types.specs.declared.names.Due.{Due}
-use Rattle.kube_types.specs.declared.names.Due.TheVariants as dues
-use Rattle.kube_types.specs.declared.objects.DataId.{DataId}
-use Rattle.kube_types.specs.declared.objects.Volume.{Volume as VolumeData}
-use Rattle.kube_types.specs.declared.objects.Object.TheVariants.{Volume}
-use Rattle.kube_types.specs.Bindings.{is_delete, is_deleting, is_ended, ref_uid}
-use Rattle.kube_types.specs.Keys.{key_of, row_at}
-use Rattle.kube_types.specs.Sources.{data_id_of}
-use Rattle.kube_types.proofs.KeyOrder.{row_at_key}
+use Rattle.kube_objects.specs.declared.key.Key.{Key}
+use Rattle.kube_parts.specs.declared.uid.Uid.{Uid}
+use Rattle.kube_parts.specs.declared.names.Due.{Due}
+use Rattle.kube_parts.specs.declared.names.Due.TheVariants as dues
+use Rattle.kube_objects.specs.declared.objects.DataId.{DataId}
+use Rattle.kube_objects.specs.declared.objects.Volume.{Volume as VolumeData}
+use Rattle.kube_objects.specs.declared.objects.Object.TheVariants.{Volume}
+use Rattle.kube_objects.specs.Bindings.{is_delete, is_deleting, is_ended, ref_uid}
+use Rattle.kube_objects.specs.Keys.{key_of, row_at}
+use Rattle.kube_objects.specs.Sources.{data_id_of}
+use Rattle.kube_objects.proofs.KeyOrder.{row_at_key}
 use Rattle.call_types.specs.declared.entry.Entry.{Entry}
 use Rattle.call_types.specs.declared.reply.Refusal.TheVariants.{BackFault}
 use Rattle.call_types.specs.declared.reply.Reply.{Reply}
@@ -134,7 +134,8 @@ module _ (setup : Setup) (seat : ℕ) (role : Role) (start : List Entry) (key : 
   abbrev at_step : VolumeData → Key → Uid → Request → Under
   at_step u k uid call = record { key = k; task = tasks.Erase (record { volume = u; step = steps.Deletes uid }); call = call }
 
-  module _ (s : ActorState) (h : List Entry) (p : IsDecisionPoint setup seat role start s h) (u : VolumeData) (is : row_at key (world setup h).store.rows ≡ Some (Volume u)) (same : plain_volume u ≡ plain_volume v) where
+  module _ (s : ActorState) (h : List Entry) (p : IsDecisionPoint setup seat role start s h) (u : VolumeData)
+      (is : row_at key (world setup h).store.rows ≡ Some (Volume u)) (same : plain_volume u ≡ plain_volume v) where
     s_kind : s.role.kind ≡ seats.Ops
     s_kind = ap (λ (r : Role). r.kind) p.role_is ∙ kind
 
@@ -176,9 +177,19 @@ module _ (setup : Setup) (seat : ℕ) (role : Role) (start : List Entry) (key : 
     abbrev deleting : Under
     deleting = record { key = key; task = tasks.Erase (record { volume = u; step = steps.Deletes known.uid }); call = requests.Delete (key_of_volume u) (Some known.uid) }
 
-    found : under_after (record { key = key; task = tasks.Erase (record { volume = u; step = steps.ReadsVolume }); call = requests.Get (key_of_volume u) }) (reply_to (effect setup (world setup h) role.kind (requests.Get (key_of_volume u)))) ≡ Some erasing
+    found : under_after (record {
+      key = key;
+      task = tasks.Erase (record { volume = u; step = steps.ReadsVolume });
+      call = requests.Get
+          (key_of_volume u);
+    }) (reply_to (effect setup (world setup h) role.kind (requests.Get (key_of_volume u)))) ≡ Some erasing
     found =
-        ap (under_after (record { key = key; task = tasks.Erase (record { volume = u; step = steps.ReadsVolume }); call = requests.Get (key_of_volume u) })) (get_said setup (world setup h) role.kind (key_of_volume u) ∙ ap got on_store.there)
+        ap (under_after (record {
+          key = key;
+          task = tasks.Erase (record { volume = u; step = steps.ReadsVolume });
+          call = requests.Get
+              (key_of_volume u);
+        })) (get_said setup (world setup h) role.kind (key_of_volume u) ∙ ap got on_store.there)
         ∙ found_volume key u known.uid due_is.0 known.is
 
     -- the erase lasts, or the volume is deleted after it
@@ -186,9 +197,15 @@ module _ (setup : Setup) (seat : ℕ) (role : Role) (start : List Entry) (key : 
     h_erased = own_entry setup seat role.kind h_read (requests.Erase (data_id_of u.source)) ∷ h_read
 
     erased_there : IsStored (world setup h_erased) (Volume u)
-    erased_there = record { there = ap (λ x. row_at (key_of (Volume u)) x.rows) (erase_keeps setup (world setup h_read) role.kind (data_id_of u.source) controller) ∙ (ap (λ (w : World). row_at (key_of (Volume u)) w.store.rows) read_world ∙ on_store.there); valid = on_store.valid }
+    erased_there = record {
+      there = ap (λ x. row_at (key_of (Volume u)) x.rows)
+          (erase_keeps setup (world setup h_read) role.kind (data_id_of u.source) controller)
+          ∙ (ap (λ (w : World). row_at (key_of (Volume u)) w.store.rows) read_world ∙ on_store.there);
+      valid = on_store.valid;
+    }
 
-    erases : EraseSays (reply_to (effect setup (world setup h_read) role.kind (requests.Erase (data_id_of u.source)))) → LastsOrAlike (world setup h_read) (effect setup (world setup h_read) role.kind (requests.Erase (data_id_of u.source))) → WouldLast setup seat role.kind start h_read erasing
+    erases : EraseSays (reply_to (effect setup (world setup h_read) role.kind (requests.Erase (data_id_of u.source))))
+        → LastsOrAlike (world setup h_read) (effect setup (world setup h_read) role.kind (requests.Erase (data_id_of u.source))) → WouldLast setup seat role.kind start h_read erasing
     unfolding erase_call erase_moved
     erases (Fails call e) w = AtOnce read_alike (inr (inr (subst IsBackFault (sym e) tt)))
     erases (Goes removed e) (inl lasts) = AtOnce read_alike lasts
@@ -196,7 +213,8 @@ module _ (setup : Setup) (seat : ℕ) (role : Role) (start : List Entry) (key : 
         Later read_alike deleting (ap (under_after erasing) e)
         (AtOnce (then_alike _ _ _ read_alike alike)
         (subst (λ k. Lasts setup (world setup h_erased) role.kind (requests.Delete k (Some known.uid))) (sym own_key)
-        (delete_lasts setup (world setup h_erased) role.kind u (Some known.uid) controller erased_there due_is.1 (subst (λ x. is_other_uid (Some known.uid) x ≡ false) (sym known.is) (same_uid (Some known.uid))))))
+        (delete_lasts setup (world setup h_erased) role.kind u (Some known.uid) controller erased_there due_is.1
+        (subst (λ x. is_other_uid (Some known.uid) x ≡ false) (sym known.is) (same_uid (Some known.uid))))))
 
     begins : BeginsLasting setup seat role start key s h
     unfolding erase_call
@@ -205,7 +223,8 @@ module _ (setup : Setup) (seat : ℕ) (role : Role) (start : List Entry) (key : 
       call = requests.Get (key_of_volume u);
       only = decided;
       asks = refl;
-      will = Later p.alike erasing found (erases (erase_says setup (world setup h_read) role.kind (data_id_of u.source) controller) (calls_last_or_leave_alike setup (world setup h_read) role.kind (requests.Erase (data_id_of u.source)) (rows_stand_in_order setup h_read)));
+      will = Later p.alike erasing found (erases (erase_says setup (world setup h_read) role.kind (data_id_of u.source) controller)
+          (calls_last_or_leave_alike setup (world setup h_read) role.kind (requests.Erase (data_id_of u.source)) (rows_stand_in_order setup h_read)));
     }
 
   at_point : (s : ActorState) (h : List Entry) → IsDecisionPoint setup seat role start s h → BeginsLasting setup seat role start key s h

@@ -1,21 +1,21 @@
 -- The binder acts on what is due for a volume.
 use Rattle.std.proofs.Common.{◌≡◌, ◌≢◌, ◌∙◌, ℕ, List, ◌∷◌, Bool, true, false, true≢false, Option, Some, None, refl, sym, ap, subst, if◌then◌else◌}
 use Rattle.std.specs.Prelude.{◌||◌, bytes_eq, is_some, not}
-use Rattle.kube_types.specs.declared.key.Key.{Key}
-use Rattle.kube_types.specs.declared.uid.Uid.{Uid}
-use Rattle.kube_types.specs.declared.names.Due.{Due}
-use Rattle.kube_types.specs.declared.names.Due.TheVariants as dues
+use Rattle.kube_objects.specs.declared.key.Key.{Key}
+use Rattle.kube_parts.specs.declared.uid.Uid.{Uid}
+use Rattle.kube_parts.specs.declared.names.Due.{Due}
+use Rattle.kube_parts.specs.declared.names.Due.TheVariants as dues
 use Rattle.kube_types.specs.declared.lookup.Live.TheVariants.{NotAsked}
-use Rattle.kube_types.specs.declared.parts.VolumePhase.{VolumePhase}
-use Rattle.kube_types.specs.declared.parts.VolumePhase.TheVariants as volumes
-use Rattle.kube_types.specs.declared.objects.Ref.{Ref}
-use Rattle.kube_types.specs.declared.objects.Claim.{Claim as ClaimData}
-use Rattle.kube_types.specs.declared.objects.Volume.{Volume as VolumeData}
-use Rattle.kube_types.specs.declared.objects.Object.{Object}
-use Rattle.kube_types.specs.declared.objects.Object.TheVariants.{Volume}
-use Rattle.kube_types.specs.Bindings.{is_available, is_bound, is_empty, is_ended, is_protected_volume, ref_uid}
-use Rattle.kube_types.specs.Keys.{row_at}
-use Rattle.kube_types.proofs.KeyOrder.{row_at_key}
+use Rattle.kube_parts.specs.declared.parts.VolumePhase.{VolumePhase}
+use Rattle.kube_parts.specs.declared.parts.VolumePhase.TheVariants as volumes
+use Rattle.kube_objects.specs.declared.objects.Ref.{Ref}
+use Rattle.kube_objects.specs.declared.objects.Claim.{Claim as ClaimData}
+use Rattle.kube_objects.specs.declared.objects.Volume.{Volume as VolumeData}
+use Rattle.kube_objects.specs.declared.objects.Object.{Object}
+use Rattle.kube_objects.specs.declared.objects.Object.TheVariants.{Volume}
+use Rattle.kube_objects.specs.Bindings.{is_available, is_bound, is_empty, is_ended, is_protected_volume, ref_uid}
+use Rattle.kube_objects.specs.Keys.{row_at}
+use Rattle.kube_objects.proofs.KeyOrder.{row_at_key}
 use Rattle.call_types.specs.declared.entry.Entry.{Entry}
 use Rattle.call_types.specs.declared.reply.Refusal.TheVariants.{NotFound}
 use Rattle.call_types.specs.declared.reply.Reply.{Reply}
@@ -89,7 +89,8 @@ data VolumeCase (rows : List Object) (v : VolumeData) (action : VolumeAction) : 
   Bounds : action ≡ actions.Bound → is_bound v.phase ≡ false → VolumeCase rows v action
   Releases : action ≡ actions.Release → is_ended v.phase ≡ false → VolumeCase rows v action
   Unbinds : (uid : Uid) → action ≡ actions.Unbind → ref_uid v.claim_ref ≡ Some uid → VolumeCase rows v action
-  Reads : (r : Ref) (uid : Uid) → action ≡ actions.ReadClaim → is_ended v.phase ≡ false → v.claim_ref ≡ Some r → r.uid ≡ Some uid → claim_with uid (row_at (claim_key r.namespace r.name) rows) ≡ None → VolumeCase rows v action
+  Reads : (r : Ref) (uid : Uid) → action ≡ actions.ReadClaim → is_ended v.phase ≡ false → v.claim_ref ≡ Some r → r.uid ≡ Some uid
+      → claim_with uid (row_at (claim_key r.namespace r.name) rows) ≡ None → VolumeCase rows v action
 
 abbrev is_due : Option Due → Bool
 is_due None = false
@@ -105,7 +106,8 @@ free_case rows v due e = by (is_available v.phase) refl e
     by true is e = none_some e
     by false is e = Frees refl is
 
-referred_case : (rows : List Object) (v : VolumeData) (r : Ref) (uid : Uid) (due : Due) → v.claim_ref ≡ Some r → r.uid ≡ Some uid → is_ended v.phase ≡ false → (x : Option ClaimData) → claim_with uid (row_at (claim_key r.namespace r.name) rows) ≡ x
+referred_case : (rows : List Object) (v : VolumeData) (r : Ref) (uid : Uid) (due : Due) → v.claim_ref ≡ Some r → r.uid ≡ Some uid
+    → is_ended v.phase ≡ false → (x : Option ClaimData) → claim_with uid (row_at (claim_key r.namespace r.name) rows) ≡ x
     → referred_due v x ≡ Some due → VolumeCase rows v (referred_action v false (or_else x None))
 unfolding referred_due
 referred_case rows v r uid due refers known open_ None is e = Reads r uid refl open_ refers known is
@@ -113,7 +115,8 @@ referred_case rows v r uid due refers known open_ (Some c) is e = by (is_empty c
   where
     by : (empty same bound guarded reclaimed : Bool) → is_bound v.phase ≡ bound
         → (if empty then None else if same then (if bound || not guarded then None else Some dues.Bound) else if reclaimed then Some dues.Release else Some dues.Unbind) ≡ Some due
-        → VolumeCase rows v (if empty then actions.QueueClaim else if same then (if bound || not guarded then actions.Nothing else actions.Bound) else if reclaimed then actions.Release else actions.Unbind)
+        → VolumeCase rows v (if empty then actions.QueueClaim else if same then
+        (if bound || not guarded then actions.Nothing else actions.Bound) else if reclaimed then actions.Release else actions.Unbind)
     by true same bound guarded reclaimed is_b e = none_some e
     by false true true guarded reclaimed is_b e = none_some e
     by false true false false reclaimed is_b e = none_some e
@@ -122,7 +125,8 @@ referred_case rows v r uid due refers known open_ (Some c) is e = by (is_empty c
     by false false bound guarded false is_b e = Unbinds uid refl (ap ref_uid refers ∙ known)
 
 -- by the rows that are looked at, of which the claim's stands as in the store
-case_of : (seen rows : List Object) (v : VolumeData) (due : Due) → ((r : Ref) → row_at (claim_key r.namespace r.name) seen ≡ row_at (claim_key r.namespace r.name) rows) → volume_due rows v ≡ Some due → VolumeCase rows v (volume_decision seen v NotAsked)
+case_of : (seen rows : List Object) (v : VolumeData) (due : Due)
+    → ((r : Ref) → row_at (claim_key r.namespace r.name) seen ≡ row_at (claim_key r.namespace r.name) rows) → volume_due rows v ≡ Some due → VolumeCase rows v (volume_decision seen v NotAsked)
 unfolding volume_due reference_due volume_decision
 case_of seen rows v due same e = by v.claim_ref refl e
   where
@@ -134,7 +138,8 @@ case_of seen rows v due same e = by v.claim_ref refl e
         ended : (b : Bool) → is_ended v.phase ≡ b → (if b then None else referred_due v (claim_with uid (row_at (claim_key r.namespace r.name) rows))) ≡ Some due
             → VolumeCase rows v (if b then actions.Nothing else referred_action v false (claim_of seen r uid NotAsked))
         ended true is e = none_some e
-        ended false is e = subst (λ x. VolumeCase rows v (referred_action v false (or_else (claim_with uid x) None))) (sym (same r)) (referred_case rows v r uid due refers known is (claim_with uid (row_at (claim_key r.namespace r.name) rows)) refl e)
+        ended false is e = subst (λ x. VolumeCase rows v (referred_action v false (or_else (claim_with uid x) None))) (sym (same r))
+            (referred_case rows v r uid due refers known is (claim_with uid (row_at (claim_key r.namespace r.name) rows)) refl e)
 
     by : (r : Option Ref) → v.claim_ref ≡ r → reference_due rows v r ≡ Some due
         → VolumeCase rows v (if not (is_some (ref_uid r)) then free_action v else if is_ended v.phase then actions.Nothing else referred_action v false (claim_by_reference seen r NotAsked))
@@ -181,7 +186,8 @@ module _ (setup : Setup) (seat : ℕ) (role : Role) (start : List Entry) (key : 
   controller = ap is_user kind
 
   -- the volume as it stands at a point
-  module _ (s : ActorState) (h : List Entry) (p : IsDecisionPoint setup seat role start s h) (u : VolumeData) (is : row_at key (world setup h).store.rows ≡ Some (Volume u)) (same : plain_volume u ≡ plain_volume v) where
+  module _ (s : ActorState) (h : List Entry) (p : IsDecisionPoint setup seat role start s h) (u : VolumeData)
+      (is : row_at key (world setup h).store.rows ≡ Some (Volume u)) (same : plain_volume u ≡ plain_volume v) where
     s_kind : s.role.kind ≡ seats.Binder
     s_kind = ap (λ (r : Role). r.kind) p.role_is ∙ kind
 
@@ -205,7 +211,8 @@ module _ (setup : Setup) (seat : ℕ) (role : Role) (start : List Entry) (key : 
     known : is_some u.meta.uid ≡ true
     known = rows_known setup h pass key (Volume u) is
 
-    only : (machine : Machine) → volume_first u (volume_decision (all_objects s.caches) u NotAsked) ≡ binder_firsts.Begins machine → (first : First) → IsDecision s.role s.memory (all_objects s.caches) key first → first ≡ firsts.Begins (tasks.Binder machine)
+    only : (machine : Machine) → volume_first u (volume_decision (all_objects s.caches) u NotAsked) ≡ binder_firsts.Begins machine → (first : First)
+        → IsDecision s.role s.memory (all_objects s.caches) key first → first ≡ firsts.Begins (tasks.Binder machine)
     only machine begins first d = only_one (all_objects s.caches) key u machine seen begins first (subst (λ k. IsFirstOf k s.role.node s.memory (all_objects s.caches) key first) s_kind d)
 
     begins_by : VolumeCase (world setup h).store.rows u (volume_decision (all_objects s.caches) u NotAsked) → BeginsLasting setup seat role start key s h
@@ -254,9 +261,11 @@ module _ (setup : Setup) (seat : ℕ) (role : Role) (start : List Entry) (key : 
         read_so None away = rw (own_ref, open_, unplaced) refl
         read_so (Some o) away = rw (own_ref, open_) (rw (away, unplaced) refl)
 
-        after_read : under_after (record { key = key; task = tasks.Binder (machines.ReadsClaim u); call = Get (claim_key r.namespace r.name) }) (reply_to (effect setup (world setup h) role.kind (Get (claim_key r.namespace r.name))))
+        after_read : under_after (record { key = key; task = tasks.Binder (machines.ReadsClaim u); call = Get (claim_key r.namespace r.name) })
+            (reply_to (effect setup (world setup h) role.kind (Get (claim_key r.namespace r.name))))
             ≡ Some (record { key = key; task = tasks.Binder (machines.Releases u); call = write_phase u volumes.Released })
-        after_read = ap (under_after (record { key = key; task = tasks.Binder (machines.ReadsClaim u); call = Get (claim_key r.namespace r.name) })) (get_said setup (world setup h) role.kind (claim_key r.namespace r.name)) ∙ read_so (row_at (claim_key r.namespace r.name) (world setup h).store.rows) none
+        after_read = ap (under_after (record { key = key; task = tasks.Binder (machines.ReadsClaim u); call = Get (claim_key r.namespace r.name) }))
+            (get_said setup (world setup h) role.kind (claim_key r.namespace r.name)) ∙ read_so (row_at (claim_key r.namespace r.name) (world setup h).store.rows) none
 
         same_world : world setup (own_entry setup seat role.kind h (Get (claim_key r.namespace r.name)) ∷ h) ≡ world setup h
         same_world = get_stays setup (world setup h) role.kind (claim_key r.namespace r.name)
@@ -264,8 +273,10 @@ module _ (setup : Setup) (seat : ℕ) (role : Role) (start : List Entry) (key : 
         still : AreAlike (world setup start) (world setup (own_entry setup seat role.kind h (Get (claim_key r.namespace r.name)) ∷ h))
         still = subst (AreAlike (world setup start)) (sym same_world) p.alike
 
-        then_ : WouldLast setup seat role.kind start (own_entry setup seat role.kind h (Get (claim_key r.namespace r.name)) ∷ h) (record { key = key; task = tasks.Binder (machines.Releases u); call = write_phase u volumes.Released })
-        then_ = AtOnce still (phase_lasts setup _ role.kind u volumes.Released controller (subst (λ w. IsStored w (Volume u)) (sym same_world) on_store) (phase_differs is_ended u.phase volumes.Released open_ refl))
+        then_ : WouldLast setup seat role.kind start (own_entry setup seat role.kind h (Get (claim_key r.namespace r.name)) ∷ h)
+            (record { key = key; task = tasks.Binder (machines.Releases u); call = write_phase u volumes.Released })
+        then_ = AtOnce still (phase_lasts setup _ role.kind u volumes.Released controller
+            (subst (λ w. IsStored w (Volume u)) (sym same_world) on_store) (phase_differs is_ended u.phase volumes.Released open_ refl))
 
     begins : BeginsLasting setup seat role start key s h
     begins = begins_by (case_of (all_objects s.caches) (world setup h).store.rows u action (λ r. p.sees (claim_key r.namespace r.name) (follows_it (claim_key r.namespace r.name) refl)) due_here)

@@ -1,10 +1,10 @@
 -- What a controller begins on the store as it is comes to a call that lasts: no task of it makes reads alone.
 -- A choice of this project.
 use Rattle.std.specs.Prelude.{ℕ, ◌≡◌, ◌⊎◌, Bool, true, false, List, Some, None}
-use Rattle.kube_types.specs.declared.key.Key.{Key}
-use Rattle.kube_types.specs.declared.objects.Claim.{Claim as ClaimData}
-use Rattle.kube_types.specs.declared.objects.Object.TheVariants.{Claim}
-use Rattle.kube_types.specs.Keys.{row_at}
+use Rattle.kube_objects.specs.declared.key.Key.{Key}
+use Rattle.kube_objects.specs.declared.objects.Claim.{Claim as ClaimData}
+use Rattle.kube_objects.specs.declared.objects.Object.TheVariants.{Claim}
+use Rattle.kube_objects.specs.Keys.{row_at}
 use Rattle.call_types.specs.declared.entry.Entry.{Entry}
 use Rattle.call_types.specs.declared.request.SeatKind.{SeatKind}
 use Rattle.call_types.specs.declared.request.SeatKind.TheVariants as seats
@@ -24,7 +24,8 @@ use Rattle.settle_slot.specs.Slot.Would.{CallsPass, WouldLast}
 -- whatever the actor begins, where it sees the store as it is, makes a call that lasts, if its calls reach the world
 abbrev pub DecisionsLast : Setup → ℕ → Role → Type 0
 DecisionsLast setup seat role =
-    (start : List Entry) (s : ActorState) (h : List Entry) (u : Under) → IsDecisionPoint setup seat role start s h → GivesCall s.role s.memory (all_objects s.caches) u → WouldLast setup seat role.kind start h u
+    (start : List Entry) (s : ActorState) (h : List Entry) (u : Under) → IsDecisionPoint setup seat role start s h
+    → GivesCall s.role s.memory (all_objects s.caches) u → WouldLast setup seat role.kind start h u
 
 -- volume protection
 abbrev pub VolumeGuardsLast : Type 0
@@ -52,7 +53,8 @@ pub record IsOfNoneDue (setup : Setup) (h : List Entry) (key : Key) : Type 0 whe
 -- the provisioner and reclaimer, but for such a claim: it asks the back end all the same, and then may write nothing
 abbrev pub OpsLast : Type 0
 OpsLast =
-    (setup : Setup) (seat : ℕ) (role : Role) (start : List Entry) (s : ActorState) (h : List Entry) (u : Under) → ImportsPass setup.imports → role.kind ≡ seats.Ops → IsDecisionPoint setup seat role start s h
+    (setup : Setup) (seat : ℕ) (role : Role) (start : List Entry) (s : ActorState) (h : List Entry) (u : Under) → ImportsPass setup.imports
+    → role.kind ≡ seats.Ops → IsDecisionPoint setup seat role start s h
     → GivesCall s.role s.memory (all_objects s.caches) u → WouldLast setup seat role.kind start h u ⊎ IsOfNoneDue setup h u.key
 
 -- the controllers of which it holds without such an exception

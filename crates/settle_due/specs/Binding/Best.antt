@@ -1,11 +1,11 @@
 -- Which volume the binder takes for a claim: one that a user gave to the claim goes before any other.
 -- Source: the volume index of `pv_controller.go`, as in the definition of the best volume.
 use Rattle.std.specs.Prelude.{ℕ, ◌≡◌, Bool, true, List, [], None}
-use Rattle.kube_types.specs.declared.objects.Claim.{Claim as ClaimData}
-use Rattle.kube_types.specs.declared.objects.Volume.{Volume as VolumeData}
-use Rattle.kube_types.specs.declared.objects.Object.{Object}
-use Rattle.kube_types.specs.declared.objects.Object.TheVariants.{Volume}
-use Rattle.kube_types.specs.Bindings.{is_for}
+use Rattle.kube_objects.specs.declared.objects.Claim.{Claim as ClaimData}
+use Rattle.kube_objects.specs.declared.objects.Volume.{Volume as VolumeData}
+use Rattle.kube_objects.specs.declared.objects.Object.{Object}
+use Rattle.kube_objects.specs.declared.objects.Object.TheVariants.{Volume}
+use Rattle.kube_objects.specs.Bindings.{is_for}
 use Rattle.binder_model.specs.Matching.{IsBestAt, eligible}
 use Rattle.binder_model.specs.Told.{SomeOf}
 

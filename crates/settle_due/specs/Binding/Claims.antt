@@ -1,11 +1,11 @@
 -- The binder acts on what is due for a claim.
 -- A choice of this project.
 use Rattle.std.specs.Prelude.{ℕ, ◌≡◌, List, Some}
-use Rattle.kube_types.specs.declared.key.Key.{Key}
-use Rattle.kube_types.specs.declared.names.Due.{Due}
-use Rattle.kube_types.specs.declared.objects.Claim.{Claim as ClaimData}
-use Rattle.kube_types.specs.declared.objects.Object.TheVariants.{Claim}
-use Rattle.kube_types.specs.Keys.{row_at}
+use Rattle.kube_objects.specs.declared.key.Key.{Key}
+use Rattle.kube_parts.specs.declared.names.Due.{Due}
+use Rattle.kube_objects.specs.declared.objects.Claim.{Claim as ClaimData}
+use Rattle.kube_objects.specs.declared.objects.Object.TheVariants.{Claim}
+use Rattle.kube_objects.specs.Keys.{row_at}
 use Rattle.call_types.specs.declared.entry.Entry.{Entry}
 use Rattle.call_types.specs.declared.request.SeatKind.TheVariants as seats
 use Rattle.call_types.specs.declared.setup.Setup.{Setup}

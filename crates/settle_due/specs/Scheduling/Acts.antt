@@ -1,13 +1,13 @@
 -- The scheduler acts on what is due for a pod that no node runs.
 -- A choice of this project.
 use Rattle.std.specs.Prelude.{ℕ, ◌≡◌, false, List, Some}
-use Rattle.kube_types.specs.declared.key.Key.{Key}
-use Rattle.kube_types.specs.declared.names.Due.{Due}
-use Rattle.kube_types.specs.declared.names.Due.TheVariants as dues
-use Rattle.kube_types.specs.declared.objects.Pod.{Pod as PodData}
-use Rattle.kube_types.specs.declared.objects.Object.TheVariants.{Pod}
-use Rattle.kube_types.specs.Bindings.{is_scheduled}
-use Rattle.kube_types.specs.Keys.{row_at}
+use Rattle.kube_objects.specs.declared.key.Key.{Key}
+use Rattle.kube_parts.specs.declared.names.Due.{Due}
+use Rattle.kube_parts.specs.declared.names.Due.TheVariants as dues
+use Rattle.kube_objects.specs.declared.objects.Pod.{Pod as PodData}
+use Rattle.kube_objects.specs.declared.objects.Object.TheVariants.{Pod}
+use Rattle.kube_objects.specs.Bindings.{is_scheduled}
+use Rattle.kube_objects.specs.Keys.{row_at}
 use Rattle.call_types.specs.declared.entry.Entry.{Entry}
 use Rattle.call_types.specs.declared.request.SeatKind.TheVariants as seats
 use Rattle.call_types.specs.declared.setup.Setup.{Setup}
@@ -22,7 +22,8 @@ use Rattle.settle_slot.specs.Slot.Would.{WouldActOn}
 
 -- a scheduler follows every kind: where it decides, what it has cached is what the store has
 abbrev pub SchedulersSeeAll : Type 0
-SchedulersSeeAll = (setup : Setup) (seat : ℕ) (role : Role) (start : List Entry) (s : ActorState) (h : List Entry) → role.kind ≡ seats.Scheduler → IsDecisionPoint setup seat role start s h → all_objects s.caches ≡ (world setup h).store.rows
+SchedulersSeeAll = (setup : Setup) (seat : ℕ) (role : Role) (start : List Entry) (s : ActorState) (h : List Entry) → role.kind ≡ seats.Scheduler
+    → IsDecisionPoint setup seat role start s h → all_objects s.caches ≡ (world setup h).store.rows
 
 -- a pod that no node runs
 abbrev pub PodsAct : Type 0

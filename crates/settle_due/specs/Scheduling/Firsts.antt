@@ -1,11 +1,11 @@
 -- The scheduler tries nodes in turn: where a pod is to be prepared, it writes the first node that serves, from the one after the node that was refused last on.
 -- A choice of this project, after the scheduler's volume binding plugin, which tries another node once the provisioner has taken `selected-node` back.
 use Rattle.std.specs.Prelude.{ℕ, ◌≡◌, List, false, ◌∷◌, ◌++◌, Option, Some}
-use Rattle.kube_types.specs.declared.names.Due.TheVariants as dues
-use Rattle.kube_types.specs.declared.objects.Node.{Node as NodeData}
-use Rattle.kube_types.specs.declared.objects.Pod.{Pod as PodData}
-use Rattle.kube_types.specs.declared.objects.Object.TheVariants.{Pod}
-use Rattle.kube_types.specs.Keys.{key_of, row_at}
+use Rattle.kube_parts.specs.declared.names.Due.TheVariants as dues
+use Rattle.kube_objects.specs.declared.objects.Node.{Node as NodeData}
+use Rattle.kube_objects.specs.declared.objects.Pod.{Pod as PodData}
+use Rattle.kube_objects.specs.declared.objects.Object.TheVariants.{Pod}
+use Rattle.kube_objects.specs.Keys.{key_of, row_at}
 use Rattle.call_types.specs.declared.entry.Entry.{Entry}
 use Rattle.call_types.specs.declared.request.Request.{Request}
 use Rattle.call_types.specs.declared.setup.Setup.{Setup}
@@ -38,10 +38,12 @@ pub record WritesOnFirst (w : World) (p : PodData) (refused : Option (List ℕ))
 abbrev pub FirstIsWritten : Type 0
 FirstIsWritten =
     (setup : Setup) (past : List Entry) (p : PodData) (refused : List Tried) (op : ScheduleOp) → ImportsPass setup.imports → row_at (key_of (Pod p)) (world setup past).store.rows ≡ Some (Pod p)
-    → IsDue setup (world setup past) (Pod p) (Some dues.Prepare) → BeginsOn (world setup past).store.rows refused (Some (Pod p)) (Some op) → WritesOnFirst (world setup past) p (last_refused (world setup past).store.rows p refused) op.writes
+    → IsDue setup (world setup past) (Pod p) (Some dues.Prepare) → BeginsOn (world setup past).store.rows refused (Some (Pod p)) (Some op)
+    → WritesOnFirst (world setup past) p (last_refused (world setup past).store.rows p refused) op.writes
 
 -- where the devices cannot give what is to be provisioned on that node, from it on one node less is left to be tried
 abbrev pub OneNodeLess : Type 0
 OneNodeLess =
-    (setup : Setup) (past : List Entry) (p : PodData) (refused : Option (List ℕ)) (node : NodeData) (k : ℕ) → ImportsPass setup.imports → CanPrepare setup (world setup past) p → IsFirstServing (world setup past) p refused node → IsOn setup (world setup past) p false node
+    (setup : Setup) (past : List Entry) (p : PodData) (refused : Option (List ℕ)) (node : NodeData) (k : ℕ) → ImportsPass setup.imports
+    → CanPrepare setup (world setup past) p → IsFirstServing (world setup past) p refused node → IsOn setup (world setup past) p false node
     → TriesLeft setup (world setup past) p refused k → OneLess setup (world setup past) p (in_turn (Some node.meta.name) (nodes_of (world setup past).store.rows)) k

@@ -1,13 +1,13 @@
 -- What the scheduler writes for a pod whose claims are to be prepared on a node.
 -- A choice of this project, after the scheduler's volume binding plugin.
 use Rattle.std.specs.Prelude.{ℕ, ◌≡◌, true, false, List, ◌∷◌, map, Some, is_some}
-use Rattle.kube_types.specs.declared.objects.Claim.{Claim as ClaimData}
-use Rattle.kube_types.specs.declared.objects.Pod.{Pod as PodData}
-use Rattle.kube_types.specs.declared.objects.Volume.{Volume as VolumeData}
-use Rattle.kube_types.specs.declared.objects.Object.{Object}
-use Rattle.kube_types.specs.declared.objects.Object.TheVariants.{Claim, Volume}
-use Rattle.kube_types.specs.Bindings.{carries}
-use Rattle.kube_types.specs.Keys.{key_of, row_at}
+use Rattle.kube_objects.specs.declared.objects.Claim.{Claim as ClaimData}
+use Rattle.kube_objects.specs.declared.objects.Pod.{Pod as PodData}
+use Rattle.kube_objects.specs.declared.objects.Volume.{Volume as VolumeData}
+use Rattle.kube_objects.specs.declared.objects.Object.{Object}
+use Rattle.kube_objects.specs.declared.objects.Object.TheVariants.{Claim, Volume}
+use Rattle.kube_objects.specs.Bindings.{carries}
+use Rattle.kube_objects.specs.Keys.{key_of, row_at}
 use Rattle.call_types.specs.declared.request.Request.{Request}
 use Rattle.call_types.specs.declared.request.Request.TheVariants.{Update}
 use Rattle.binder_model.specs.BindWrites.{write_reference}

@@ -3,14 +3,14 @@ use Rattle.std.proofs.Common.{◌≡◌, ◌∙◌, ℕ, ◌+◌, ◌≤◌, Lis
 use Rattle.std.specs.Prelude.{cond, not, ◌&&◌, ◌||◌, is_some}
 use Rattle.std.proofs.lemmas.Bool.{and_from, false_from_ne_true}
 use Rattle.plain_data.specs.Pairs.{put_pair, value_at, without_key}
-use Rattle.kube_types.specs.declared.uid.Uid.{Uid}
-use Rattle.kube_types.specs.declared.objects.Meta.{Meta}
-use Rattle.kube_types.specs.declared.objects.Claim.{Claim as ClaimData}
-use Rattle.kube_types.specs.declared.objects.Volume.{Volume as VolumeData}
-use Rattle.kube_types.specs.declared.objects.Object.{Object}
-use Rattle.kube_types.specs.declared.objects.Object.TheVariants.{Class, Node, Volume, Claim, Pod}
-use Rattle.kube_types.specs.Bindings.{beta_class, bind_completed, has_key, is_completed, is_deleting, is_empty, is_for, is_protected_claim, carries, selected_node}
-use Rattle.kube_types.specs.Keys.{AreRows, key_of, row_at}
+use Rattle.kube_parts.specs.declared.uid.Uid.{Uid}
+use Rattle.kube_objects.specs.declared.objects.Meta.{Meta}
+use Rattle.kube_objects.specs.declared.objects.Claim.{Claim as ClaimData}
+use Rattle.kube_objects.specs.declared.objects.Volume.{Volume as VolumeData}
+use Rattle.kube_objects.specs.declared.objects.Object.{Object}
+use Rattle.kube_objects.specs.declared.objects.Object.TheVariants.{Class, Node, Volume, Claim, Pod}
+use Rattle.kube_objects.specs.Bindings.{beta_class, bind_completed, has_key, is_completed, is_deleting, is_empty, is_for, is_protected_claim, carries, selected_node}
+use Rattle.kube_objects.specs.Keys.{AreRows, key_of, row_at}
 use Rattle.call_types.specs.declared.request.Request.TheVariants.{Update}
 use Rattle.call_types.specs.declared.request.SeatKind.{SeatKind}
 use Rattle.call_types.specs.declared.setup.Setup.{Setup}
@@ -103,11 +103,13 @@ module _ (c : ClaimData) (m : Meta) (a : MetaAlike c.meta m) where
 
 -- the node of a claim
 
-node_alike : (c : ClaimData) (anns : List (List ℕ × List ℕ)) (n : ℕ) → value_at bind_completed anns ≡ value_at bind_completed c.meta.annotations → value_at beta_class anns ≡ value_at beta_class c.meta.annotations
+node_alike : (c : ClaimData) (anns : List (List ℕ × List ℕ)) (n : ℕ) → value_at bind_completed anns ≡ value_at bind_completed c.meta.annotations
+    → value_at beta_class anns ≡ value_at beta_class c.meta.annotations
     → MetaAlike c.meta (record c.meta { annotations = anns; version = n })
 node_alike c anns n completed beta = record { namespace = refl; name = refl; uid = refl; deleted = refl; completed = completed; beta = beta }
 
-node_kept : (setup : Setup) (w : World) (kind : SeatKind) (c : ClaimData) (anns : List (List ℕ × List ℕ)) → StandsClaim w c → value_at bind_completed anns ≡ value_at bind_completed c.meta.annotations → value_at beta_class anns ≡ value_at beta_class c.meta.annotations
+node_kept : (setup : Setup) (w : World) (kind : SeatKind) (c : ClaimData) (anns : List (List ℕ × List ℕ)) → StandsClaim w c
+    → value_at bind_completed anns ≡ value_at bind_completed c.meta.annotations → value_at beta_class anns ≡ value_at beta_class c.meta.annotations
     → Lowers setup w kind (Update (Claim (record c { meta = record c.meta { annotations = anns } })) (Some c.meta.version)) 0
 unfolding leaves
 node_kept setup w kind c anns s completed beta =
@@ -118,10 +120,12 @@ node_kept setup w kind c anns s completed beta =
     (omega (arith, b))
 
 pub node_stays : NodeStays
-node_stays setup w kind c node s = node_kept setup w kind c (put_pair selected_node node c.meta.annotations) s (value_other bind_completed selected_node node c.meta.annotations refl) (value_other beta_class selected_node node c.meta.annotations refl)
+node_stays setup w kind c node s = node_kept setup w kind c (put_pair selected_node node c.meta.annotations) s (value_other bind_completed
+    selected_node node c.meta.annotations refl) (value_other beta_class selected_node node c.meta.annotations refl)
 
 pub node_goes : NodeGoes
-node_goes setup w kind c s = node_kept setup w kind c (without_key selected_node c.meta.annotations) s (value_without bind_completed selected_node c.meta.annotations refl) (value_without beta_class selected_node c.meta.annotations refl)
+node_goes setup w kind c s = node_kept setup w kind c (without_key selected_node c.meta.annotations) s (value_without bind_completed selected_node
+    c.meta.annotations refl) (value_without beta_class selected_node c.meta.annotations refl)
 
 -- the class of a claim
 
@@ -144,7 +148,8 @@ held_classed c class n (Some (Claim x)) = refl
 held_classed c class n (Some (Pod x)) = refl
 held_classed c class n (Some (Volume v)) = let e = carries_alike v c (rewritten_claim c (record c { class = Some class }) n) refl refl refl in rw e refl
 
-provision_classed : (c : ClaimData) (class : List ℕ) (n : ℕ) (rows : List Object) (d : Devices) (u : Option Uid) → provision_left rows d (rewritten_claim c (record c { class = Some class }) n) u ≡ provision_left rows d c u
+provision_classed : (c : ClaimData) (class : List ℕ) (n : ℕ) (rows : List Object) (d : Devices) (u : Option Uid)
+    → provision_left rows d (rewritten_claim c (record c { class = Some class }) n) u ≡ provision_left rows d c u
 provision_classed c class n rows d None = refl
 provision_classed c class n rows d (Some uid) = let h = held_classed c class n (row_at (volume_key (data_name uid)) rows) in rw h refl
 
@@ -161,7 +166,10 @@ class_pays setup w kind c class s seeking none beta no_match =
     let unclassed : has_class c ≡ false = ap (λ x. is_some x || has_key beta_class c.meta.annotations) none ∙ beta in
     let new : ClaimData = rewritten_claim c (record c { class = Some class }) (w.store.version + 1) in
     let p = provision_classed c class (w.store.version + 1) w.store.rows w.devices c.meta.uid in
-    let was : claim_left w.store.rows w.devices c ≡ 2 + (1 + (4 + provision_left w.store.rows w.devices c c.meta.uid)) + guard_left (is_deleting c.meta) (is_protected_claim c) = rw (open_, staying, empty, unclassed, no_offer) refl in
-    let now : claim_left w.store.rows w.devices new ≡ 2 + (0 + (unless (has_offer w.store.rows new) 4 + provision_left w.store.rows w.devices new c.meta.uid)) + guard_left (is_deleting c.meta) (is_protected_claim c) = rw (open_, staying, empty) refl in
+    let was : claim_left w.store.rows w.devices c ≡ 2 + (1 + (4 + provision_left w.store.rows w.devices c c.meta.uid)) + guard_left
+    (is_deleting c.meta) (is_protected_claim c) = rw (open_, staying, empty, unclassed, no_offer) refl in
+    let now : claim_left w.store.rows w.devices new ≡ 2 +
+    (0 + (unless (has_offer w.store.rows new) 4 + provision_left w.store.rows w.devices new c.meta.uid)) + guard_left (is_deleting c.meta)
+    (is_protected_claim c) = rw (open_, staying, empty) refl in
     let most = at_most (has_offer w.store.rows new) 4 in
     claim_update_lowers setup w kind c s (record c { class = Some class }) (Some c.meta.version) 1 refl s.stays (λ h. h) (omega (arith, p, was, now, most))

@@ -3,24 +3,39 @@ use Rattle.std.proofs.Common.{◌≡◌, ◌∙◌, ◌⊎◌, List, Bool, true,
 use Rattle.std.specs.Prelude.{bytes_eq, not, ◌&&◌, ◌||◌, is_none, is_some}
 use Rattle.std.proofs.lemmas.Bool.{and_from, and_parts, or_left, false_from_ne_true, not-true}
 use Rattle.std.proofs.lemmas.Slice.Eq.{bytes_eq-Decides}
-use Rattle.kube_types.specs.declared.uid.Uid.{Uid}
-use Rattle.kube_types.specs.declared.names.Due.{Due}
-use Rattle.kube_types.specs.declared.names.Due.TheVariants as dues
-use Rattle.kube_types.specs.declared.objects.Ref.{Ref}
-use Rattle.kube_types.specs.declared.objects.Claim.{Claim as ClaimData}
-use Rattle.kube_types.specs.declared.objects.Node.{Node as NodeData}
-use Rattle.kube_types.specs.declared.objects.Volume.{Volume as VolumeData}
-use Rattle.kube_types.specs.declared.objects.Object.{Object}
-use Rattle.kube_types.specs.declared.objects.Object.TheVariants.{Class, Node, Volume, Claim, Pod}
-use Rattle.kube_types.specs.Bindings.{is_available, is_completed, is_deleting, is_empty, is_ended, is_bound, is_for, is_protected_volume, carries, names_claim, refers_carrying, refers_for, uid_carries, uid_fits}
-use Rattle.kube_types.specs.Keys.{AreRows, key_of, row_at}
+use Rattle.kube_parts.specs.declared.uid.Uid.{Uid}
+use Rattle.kube_parts.specs.declared.names.Due.{Due}
+use Rattle.kube_parts.specs.declared.names.Due.TheVariants as dues
+use Rattle.kube_objects.specs.declared.objects.Ref.{Ref}
+use Rattle.kube_objects.specs.declared.objects.Claim.{Claim as ClaimData}
+use Rattle.kube_objects.specs.declared.objects.Node.{Node as NodeData}
+use Rattle.kube_objects.specs.declared.objects.Volume.{Volume as VolumeData}
+use Rattle.kube_objects.specs.declared.objects.Object.{Object}
+use Rattle.kube_objects.specs.declared.objects.Object.TheVariants.{Class, Node, Volume, Claim, Pod}
+use Rattle.kube_objects.specs.Bindings.{
+  is_available,
+  is_completed,
+  is_deleting,
+  is_empty,
+  is_ended,
+  is_bound,
+  is_for,
+  is_protected_volume,
+  carries,
+  names_claim,
+  refers_carrying,
+  refers_for,
+  uid_carries,
+  uid_fits,
+}
+use Rattle.kube_objects.specs.Keys.{AreRows, key_of, row_at}
 use Rattle.binder_model.specs.BinderDue.{named_due}
 use Rattle.binder_model.specs.BindWrites.{claim_write, next_write, write_bound, write_reference}
 use Rattle.binder_model.specs.Choice.{carries_claim, has_carrier}
 use Rattle.binder_model.specs.Matching.{eligible, fits, is_admitted_on, is_selected, may_serve}
 use Rattle.binder_model.specs.ObjectKeys.{claim_key}
-use Rattle.kube_types.specs.declared.parts.VolumePhase.{VolumePhase}
-use Rattle.kube_types.specs.declared.parts.VolumePhase.TheVariants as volumes
+use Rattle.kube_parts.specs.declared.parts.VolumePhase.{VolumePhase}
+use Rattle.kube_parts.specs.declared.parts.VolumePhase.TheVariants as volumes
 use Rattle.settle_measure.specs.Left.Measure.{has_offer, is_awaited, is_fit, is_seeking, offers, offers_claim, seeks}
 use Rattle.settle_measure.specs.Binding.Pays.{CompletedPays, MatchPays, MayTake, NamedPays, PreparePays}
 use Rattle.settle_measure.specs.Left.Lowers.{Lowers}
@@ -80,7 +95,8 @@ for_key r c e =
     let b : r.name ≡ c.meta.name = (bytes_eq-Decides r.name c.meta.name).0 q.1 in
     λ i. claim_key (a i) (b i)
 
-for_awaited : (rows : List Object) (v : VolumeData) (c : ClaimData) → row_at (claim_key c.meta.namespace c.meta.name) rows ≡ Some (Claim c) → is_seeking c ≡ true → is_for v c ≡ true → is_awaited rows v.claim_ref ≡ true
+for_awaited : (rows : List Object) (v : VolumeData) (c : ClaimData) → row_at (claim_key c.meta.namespace c.meta.name) rows ≡ Some (Claim c)
+    → is_seeking c ≡ true → is_for v c ≡ true → is_awaited rows v.claim_ref ≡ true
 for_awaited rows v c there seeking own = by v.claim_ref own
   where
     by : (r : Option Ref) → refers_for r c ≡ true → is_awaited rows r ≡ true
@@ -151,7 +167,8 @@ prepare_pays setup w kind v c n s sc seeking it_fits none =
     let free = false_from_ne_true (carries v c) (λ h. true≢false (sym (carrier w.store.rows c v (at_key setup w kind v s) h) ∙ none)) in
     let t = may_take v c e.may free in
     let k = seeking_parts c seeking in
-    let no_offer = false_from_ne_true (has_offer w.store.rows c) (λ h. let o = offer_of w.store.rows c s.order h in true≢false (sym (carrier w.store.rows c o.volume o.there (offer_eligible o.volume c o.offered).0) ∙ none)) in
+    let no_offer = false_from_ne_true (has_offer w.store.rows c)
+    (λ h. let o = offer_of w.store.rows c s.order h in true≢false (sym (carrier w.store.rows c o.volume o.there (offer_eligible o.volume c o.offered).0) ∙ none)) in
     claim_pays setup w kind v c s sc t (seeking_pays setup w kind v c s sc t k.open_ k.staying k.empty e.fit no_offer)
 
 record IsNamed (v : VolumeData) (c : ClaimData) : Type 0 where
@@ -189,7 +206,8 @@ completed_pays setup w kind v c s sc completed is none next =
     let t : MayTake v c = record { free = free; going = going; open_to = inl none } in
     claim_pays setup w kind v c s sc t (completed_claim_pays setup w kind v c s sc t completed is)
   where
-    by : (a b : Bool) → a ≡ false → is_some (if not a then (if b then None else Some (write_reference v c)) else if not (is_bound v.phase) then (if b || not (is_protected_volume v) then None else Some (write_bound v)) else claim_write v c) ≡ true → b ≡ false
+    by : (a b : Bool) → a ≡ false → is_some (if not a then (if b then None else Some (write_reference v c)) else if not (is_bound v.phase) then
+        (if b || not (is_protected_volume v) then None else Some (write_bound v)) else claim_write v c) ≡ true → b ≡ false
     by true b e h = absurd (true≢false e)
     by false true e h = absurd (true≢false (sym h))
     by false false e h = refl

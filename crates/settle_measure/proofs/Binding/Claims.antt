@@ -5,16 +5,16 @@ use Rattle.std.specs.Bool.{beq}
 use Rattle.std.proofs.lemmas.Bool.Decides.{nat_tests}
 use Rattle.std.proofs.lemmas.Bool.{and_from, and_parts}
 use Rattle.std.proofs.lemmas.Slice.Eq.{bytes_eq-Decides}
-use Rattle.kube_types.specs.declared.parts.ClaimPhase.{ClaimPhase}
-use Rattle.kube_types.specs.declared.parts.ClaimPhase.TheVariants as claims
-use Rattle.kube_types.specs.declared.parts.Modes.{Modes}
-use Rattle.kube_types.specs.declared.objects.Amount.{Amount}
-use Rattle.kube_types.specs.declared.objects.Claim.{Claim as ClaimData}
-use Rattle.kube_types.specs.declared.objects.Volume.{Volume as VolumeData}
-use Rattle.kube_types.specs.declared.objects.Object.{Object}
-use Rattle.kube_types.specs.declared.objects.Object.TheVariants.{Class, Node, Volume, Claim, Pod}
-use Rattle.kube_types.specs.Bindings.{bind_completed, bound_by_controller, yes, is_completed, is_deleting, is_empty, is_protected_claim, is_bound, carries}
-use Rattle.kube_types.specs.Keys.{key_of, put_row, row_at}
+use Rattle.kube_parts.specs.declared.parts.ClaimPhase.{ClaimPhase}
+use Rattle.kube_parts.specs.declared.parts.ClaimPhase.TheVariants as claims
+use Rattle.kube_parts.specs.declared.parts.Modes.{Modes}
+use Rattle.kube_objects.specs.declared.objects.Amount.{Amount}
+use Rattle.kube_objects.specs.declared.objects.Claim.{Claim as ClaimData}
+use Rattle.kube_objects.specs.declared.objects.Volume.{Volume as VolumeData}
+use Rattle.kube_objects.specs.declared.objects.Object.{Object}
+use Rattle.kube_objects.specs.declared.objects.Object.TheVariants.{Class, Node, Volume, Claim, Pod}
+use Rattle.kube_objects.specs.Bindings.{bind_completed, bound_by_controller, yes, is_completed, is_deleting, is_empty, is_protected_claim, is_bound, carries}
+use Rattle.kube_objects.specs.Keys.{key_of, put_row, row_at}
 use Rattle.call_types.specs.declared.request.NewStatus.TheVariants as statuses
 use Rattle.call_types.specs.declared.request.Request.TheVariants.{Update, UpdateStatus}
 use Rattle.call_types.specs.declared.request.SeatKind.{SeatKind}
@@ -37,7 +37,13 @@ use Rattle.settle_measure.proofs.Left.Words.{carries_alike, value_put}
 
 -- the claim as an update writes it
 abbrev pub rewritten_claim : ClaimData → ClaimData → ℕ → ClaimData
-rewritten_claim c x version = record x { phase = c.phase; got_modes = c.got_modes; got = c.got; meta = record x.meta { uid = c.meta.uid; version = version; created = c.meta.created; deleted = c.meta.deleted } }
+rewritten_claim c x version = record x {
+  phase = c.phase;
+  got_modes = c.got_modes;
+  got = c.got;
+  meta = record x.meta
+      { uid = c.meta.uid; version = version; created = c.meta.created; deleted = c.meta.deleted };
+}
 
 -- the claim with another status, as it is written
 abbrev pub with_claim_status : ClaimData → ClaimPhase → Modes → Option Amount → ℕ → ClaimData
@@ -82,14 +88,17 @@ module _ (setup : Setup) (w : World) (kind : SeatKind) (c : ClaimData) (s : Stan
       let m = came setup w kind (UpdateStatus (claim_key c.meta.namespace c.meta.name) (statuses.Claim phase modes amount) given) o s.order e in
       by m.write m.store
     where
-      is_new : (i : IsStatus w.store kind (claim_key c.meta.namespace c.meta.name) (statuses.Claim phase modes amount) given o) → o ≡ Claim (with_claim_status c phase modes amount (w.store.version + 1))
+      is_new : (i : IsStatus w.store kind (claim_key c.meta.namespace c.meta.name) (statuses.Claim phase modes amount) given o)
+          → o ≡ Claim (with_claim_status c phase modes amount (w.store.version + 1))
       is_new i =
           let old : i.old ≡ Claim c = one i.old (Claim c) (sym i.there ∙ s.there) in
           let fits : Some (Claim (record c { phase = phase; got_modes = modes; got = amount })) ≡ Some i.new = sym (ap (with_status (statuses.Claim phase modes amount)) old) ∙ i.fits in
           i.is ∙ ap (λ x. at_version x (w.store.version + 1)) (sym (one (Claim (record c { phase = phase; got_modes = modes; got = amount })) i.new fits))
 
       by : IsStatus w.store kind (claim_key c.meta.namespace c.meta.name) (statuses.Claim phase modes amount) given o
-          → Put w (effect setup w kind (UpdateStatus (claim_key c.meta.namespace c.meta.name) (statuses.Claim phase modes amount) given)) o ⊎ Took w (effect setup w kind (UpdateStatus (claim_key c.meta.namespace c.meta.name) (statuses.Claim phase modes amount) given)) (UpdateStatus (claim_key c.meta.namespace c.meta.name) (statuses.Claim phase modes amount) given) o
+          → Put w (effect setup w kind (UpdateStatus (claim_key c.meta.namespace c.meta.name) (statuses.Claim phase modes amount) given)) o
+          ⊎ Took w (effect setup w kind (UpdateStatus (claim_key c.meta.namespace c.meta.name) (statuses.Claim phase modes amount) given))
+          (UpdateStatus (claim_key c.meta.namespace c.meta.name) (statuses.Claim phase modes amount) given) o
           → left_of (world_after w (effect setup w kind (UpdateStatus (claim_key c.meta.namespace c.meta.name) (statuses.Claim phase modes amount) given))) + n ≤ left_of w
       by i (inl put) = lowered_claim _ (with_claim_status c phase modes amount (w.store.version + 1)) n refl (subst (Put w _) (is_new i) put) (λ h. h) less
       by i (inr took) = absurd (true≢false (sym (subst (IsLeaving (UpdateStatus (claim_key c.meta.namespace c.meta.name) (statuses.Claim phase modes amount) given)) (is_new i) took.leaves) ∙ s.stays))
@@ -108,7 +117,8 @@ carried_same : (b : Bool) (c : ClaimData) (v : VolumeData) (n : ℕ) → carries
 carried_same true c v n = carries_alike v c (completed_as true c v n) refl refl refl
 carried_same false c v n = carries_alike v c (completed_as false c v n) refl refl refl
 
-guard_same : (b : Bool) (c : ClaimData) (v : VolumeData) (n : ℕ) → guard_left (is_deleting (completed_as b c v n).meta) (is_protected_claim (completed_as b c v n)) ≡ guard_left (is_deleting c.meta) (is_protected_claim c)
+guard_same : (b : Bool) (c : ClaimData) (v : VolumeData) (n : ℕ)
+    → guard_left (is_deleting (completed_as b c v n).meta) (is_protected_claim (completed_as b c v n)) ≡ guard_left (is_deleting c.meta) (is_protected_claim c)
 guard_same true c v n = refl
 guard_same false c v n = refl
 
@@ -120,16 +130,19 @@ at_most_one : (b : Bool) → unless b 1 ≤ 1
 at_most_one true = omega arith
 at_most_one false = omega arith
 
-completed_weight : (w : World) (b : Bool) (c : ClaimData) (v : VolumeData) (n : ℕ) → row_at (volume_key v.meta.name) w.store.rows ≡ Some (Volume v) → carries v c ≡ true → is_bound v.phase ≡ true → is_completed c ≡ false → is_deleting c.meta ≡ false
+completed_weight : (w : World) (b : Bool) (c : ClaimData) (v : VolumeData) (n : ℕ) → row_at (volume_key v.meta.name) w.store.rows ≡ Some (Volume v)
+    → carries v c ≡ true → is_bound v.phase ≡ true → is_completed c ≡ false → is_deleting c.meta ≡ false
     → claim_left w.store.rows w.devices (completed_as b c v n) + 1 ≤ claim_left w.store.rows w.devices c
 completed_weight w b c v n there carried bound open_ staying =
     let done = completed_now b c v n in
-    let row : completed_left (completed_as b c v n) (row_at (volume_key v.meta.name) w.store.rows) ≡ completed_left (completed_as b c v n) (Some (Volume v)) = ap (completed_left (completed_as b c v n)) there in
+    let row : completed_left (completed_as b c v n) (row_at (volume_key v.meta.name) w.store.rows) ≡ completed_left (completed_as b c v n)
+    (Some (Volume v)) = ap (completed_left (completed_as b c v n)) there in
     let is_carried = carried_same b c v n ∙ carried in
     let is : completed_left (completed_as b c v n) (Some (Volume v)) ≡ unless (shows_bound (completed_as b c v n) v) 1 = bound_left (completed_as b c v n) v is_carried bound in
     let small = at_most_one (shows_bound (completed_as b c v n) v) in
     let guard = guard_same b c v n in
-    let now : claim_left w.store.rows w.devices (completed_as b c v n) ≡ completed_left (completed_as b c v n) (row_at (volume_key v.meta.name) w.store.rows) + guard_left (is_deleting (completed_as b c v n).meta) (is_protected_claim (completed_as b c v n)) = rw done refl in
+    let now : claim_left w.store.rows w.devices (completed_as b c v n) ≡ completed_left (completed_as b c v n)
+    (row_at (volume_key v.meta.name) w.store.rows) + guard_left (is_deleting (completed_as b c v n).meta) (is_protected_claim (completed_as b c v n)) = rw done refl in
     let was : claim_left w.store.rows w.devices c ≡ (2 + open_left w.store.rows w.devices c) + guard_left (is_deleting c.meta) (is_protected_claim c) = rw (open_, staying) refl in
     omega (arith, row, is, small, guard, now, was)
 
@@ -154,7 +167,8 @@ same_beq true = refl
 same_beq false = refl
 
 modes_same : (m : Modes) → same_modes m m ≡ true
-modes_same m = and_from (beq m.rwo m.rwo && beq m.rox m.rox && beq m.rwx m.rwx) (beq m.rwop m.rwop) (and_from (beq m.rwo m.rwo && beq m.rox m.rox) (beq m.rwx m.rwx) (and_from (beq m.rwo m.rwo) (beq m.rox m.rox) (same_beq m.rwo) (same_beq m.rox)) (same_beq m.rwx)) (same_beq m.rwop)
+modes_same m = and_from (beq m.rwo m.rwo && beq m.rox m.rox && beq m.rwx m.rwx) (beq m.rwop m.rwop)
+    (and_from (beq m.rwo m.rwo && beq m.rox m.rox) (beq m.rwx m.rwx) (and_from (beq m.rwo m.rwo) (beq m.rox m.rox) (same_beq m.rwo) (same_beq m.rox)) (same_beq m.rwx)) (same_beq m.rwop)
 
 amount_same : (a : Amount) → same_amount a a ≡ true
 amount_same a = let n : (a.bytes == a.bytes) ≡ true = grind (arith, nat_tests) in and_from (bytes_eq a.text a.text) (a.bytes == a.bytes) ((bytes_eq-Decides a.text a.text).1 refl) n
@@ -166,8 +180,10 @@ status_pays setup w kind v c sc completed there carried bound differs =
     let shows : shows_bound new v ≡ true = and_from (same_modes v.modes v.modes) (same_amount v.amount v.amount) (modes_same v.modes) (amount_same v.amount) in
     let after : completed_left new (Some (Volume v)) ≡ 0 = bound_left new v is_carried bound ∙ ap (λ b. unless b 1) shows in
     let before : completed_left c (Some (Volume v)) ≡ 1 = bound_left c v carried bound ∙ ap (λ b. unless b 1) differs in
-    let now : claim_left w.store.rows w.devices new ≡ 0 + guard_left (is_deleting c.meta) (is_protected_claim c) = rw (completed, there) (ap (λ n. n + guard_left (is_deleting c.meta) (is_protected_claim c)) after) in
-    let was : claim_left w.store.rows w.devices c ≡ 1 + guard_left (is_deleting c.meta) (is_protected_claim c) = rw (completed, there) (ap (λ n. n + guard_left (is_deleting c.meta) (is_protected_claim c)) before) in
+    let now : claim_left w.store.rows w.devices new ≡ 0 + guard_left (is_deleting c.meta) (is_protected_claim c) =
+    rw (completed, there) (ap (λ n. n + guard_left (is_deleting c.meta) (is_protected_claim c)) after) in
+    let was : claim_left w.store.rows w.devices c ≡ 1 + guard_left (is_deleting c.meta) (is_protected_claim c) =
+    rw (completed, there) (ap (λ n. n + guard_left (is_deleting c.meta) (is_protected_claim c)) before) in
     claim_status_lowers setup w kind c sc claims.Bound v.modes (Some v.amount) (Some c.meta.version) 1 (omega (arith, now, was))
 
 -- Lost
@@ -186,6 +202,7 @@ lost_pays setup w kind c modes amount sc completed away fresh =
     let a = away_left new (row_at (volume_key c.volume_name) w.store.rows) (λ v at. carries_alike v c new refl refl refl ∙ away v at) in
     let b = away_left c (row_at (volume_key c.volume_name) w.store.rows) away in
     let n : unless (is_lost c.phase) 1 ≡ 1 = rw fresh refl in
-    let now : claim_left w.store.rows w.devices new ≡ completed_left new (row_at (volume_key c.volume_name) w.store.rows) + guard_left (is_deleting c.meta) (is_protected_claim c) = rw completed refl in
+    let now : claim_left w.store.rows w.devices new ≡ completed_left new (row_at (volume_key c.volume_name) w.store.rows) + guard_left
+    (is_deleting c.meta) (is_protected_claim c) = rw completed refl in
     let was : claim_left w.store.rows w.devices c ≡ completed_left c (row_at (volume_key c.volume_name) w.store.rows) + guard_left (is_deleting c.meta) (is_protected_claim c) = rw completed refl in
     claim_status_lowers setup w kind c sc claims.Lost modes amount (Some c.meta.version) 1 (omega (arith, a, b, n, now, was))

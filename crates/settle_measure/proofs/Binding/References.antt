@@ -4,17 +4,33 @@ use Rattle.std.specs.Prelude.{bytes_eq, not, ◌&&◌, ◌==◌, is_none}
 use Rattle.std.proofs.lemmas.Bool.Decides.{nat_tests}
 use Rattle.std.proofs.lemmas.Bool.{and_from, and_parts}
 use Rattle.std.proofs.lemmas.Slice.Eq.{bytes_eq-Decides}
-use Rattle.kube_types.specs.declared.uid.Uid.{Uid}
-use Rattle.kube_types.specs.declared.parts.VolumePhase.{VolumePhase}
-use Rattle.kube_types.specs.declared.parts.VolumePhase.TheVariants as volumes
-use Rattle.kube_types.specs.Bindings.{has_name, pv_protection}
-use Rattle.kube_types.specs.declared.objects.Ref.{Ref}
-use Rattle.kube_types.specs.declared.objects.Claim.{Claim as ClaimData}
-use Rattle.kube_types.specs.declared.objects.Volume.{Volume as VolumeData}
-use Rattle.kube_types.specs.declared.objects.Object.TheVariants.{Volume, Claim}
-use Rattle.kube_types.specs.Bindings.{bound_by_controller, is_completed, is_deleting, is_empty, is_ended, is_for, is_protected_volume, is_uid, carries, names_claim, ref_uid, refers_carrying, refers_for, uid_carries, uid_fits}
-use Rattle.kube_types.specs.Keys.{key_of, put_row, row_at}
-use Rattle.kube_types.proofs.KeyOrder.{row_at-put_row}
+use Rattle.kube_parts.specs.declared.uid.Uid.{Uid}
+use Rattle.kube_parts.specs.declared.parts.VolumePhase.{VolumePhase}
+use Rattle.kube_parts.specs.declared.parts.VolumePhase.TheVariants as volumes
+use Rattle.kube_objects.specs.Bindings.{has_name, pv_protection}
+use Rattle.kube_objects.specs.declared.objects.Ref.{Ref}
+use Rattle.kube_objects.specs.declared.objects.Claim.{Claim as ClaimData}
+use Rattle.kube_objects.specs.declared.objects.Volume.{Volume as VolumeData}
+use Rattle.kube_objects.specs.declared.objects.Object.TheVariants.{Volume, Claim}
+use Rattle.kube_objects.specs.Bindings.{
+  bound_by_controller,
+  is_completed,
+  is_deleting,
+  is_empty,
+  is_ended,
+  is_for,
+  is_protected_volume,
+  is_uid,
+  carries,
+  names_claim,
+  ref_uid,
+  refers_carrying,
+  refers_for,
+  uid_carries,
+  uid_fits,
+}
+use Rattle.kube_objects.specs.Keys.{key_of, put_row, row_at}
+use Rattle.kube_objects.proofs.KeyOrder.{row_at-put_row}
 use Rattle.call_types.specs.declared.request.SeatKind.{SeatKind}
 use Rattle.call_types.specs.declared.setup.Setup.{Setup}
 use Rattle.binder_model.specs.BindWrites.{ref_to, taken_for, write_reference}
@@ -22,9 +38,29 @@ use Rattle.binder_model.specs.Matching.{fits}
 use Rattle.binder_model.specs.ObjectKeys.{claim_key, volume_key}
 use Rattle.binder_model.specs.Store.{has_no_names, leaves}
 use Rattle.binder_model.specs.World.{World}
-use Rattle.kube_types.specs.Sources.{data_id_of}
+use Rattle.kube_objects.specs.Sources.{data_id_of}
 use Rattle.model_laws.proofs.Lists.{none_some}
-use Rattle.settle_measure.specs.Left.Measure.{carried_left, claim_left, completed_left, guard_left, has_offer, holds, is_awaited, is_fit, is_held_by, is_lost, is_over, life_left, offers, offers_claim, phase_left, stage_left, unless, volume_left, was_erased}
+use Rattle.settle_measure.specs.Left.Measure.{
+  carried_left,
+  claim_left,
+  completed_left,
+  guard_left,
+  has_offer,
+  holds,
+  is_awaited,
+  is_fit,
+  is_held_by,
+  is_lost,
+  is_over,
+  life_left,
+  offers,
+  offers_claim,
+  phase_left,
+  stage_left,
+  unless,
+  volume_left,
+  was_erased,
+}
 use Rattle.settle_measure.specs.Binding.Pays.{MayTake}
 use Rattle.settle_measure.specs.Left.Lowers.{Lowers, StandsVolume, StandsClaim}
 use Rattle.settle_measure.proofs.Left.Others.{AsGood, away_most, carried_most, provision_less, any_in, as_good_put}
@@ -128,9 +164,11 @@ module _ (setup : Setup) (w : World) (kind : SeatKind) (v : VolumeData) (c : Cla
   life_less : life_left (is_deleting taken.meta) (is_over (ref_uid taken.claim_ref) taken.phase) (was_erased (data_id_of taken.source) w.devices.stored)
       ≤ life_left (is_deleting v.meta) (is_over (ref_uid v.claim_ref) v.phase) (was_erased (data_id_of v.source) w.devices.stored)
   unfolding taken_for
-  life_less = life_kept (is_deleting v.meta) (is_over (ref_uid v.claim_ref) v.phase) (is_over c.meta.uid v.phase) (was_erased (data_id_of v.source) w.devices.stored) (not_over (ref_uid v.claim_ref) v.phase (inr t.going))
+  life_less = life_kept (is_deleting v.meta) (is_over (ref_uid v.claim_ref) v.phase) (is_over c.meta.uid v.phase)
+      (was_erased (data_id_of v.source) w.devices.stored) (not_over (ref_uid v.claim_ref) v.phase (inr t.going))
 
-  rest_less : life_left (is_deleting taken.meta) (is_over (ref_uid taken.claim_ref) taken.phase) (was_erased (data_id_of taken.source) w.devices.stored) + guard_left (is_deleting taken.meta) (is_protected_volume taken)
+  rest_less : life_left (is_deleting taken.meta) (is_over (ref_uid taken.claim_ref) taken.phase)
+      (was_erased (data_id_of taken.source) w.devices.stored) + guard_left (is_deleting taken.meta) (is_protected_volume taken)
       ≤ life_left (is_deleting v.meta) (is_over (ref_uid v.claim_ref) v.phase) (was_erased (data_id_of v.source) w.devices.stored) + guard_left (is_deleting v.meta) (is_protected_volume v)
   rest_less = let g = guard_same in let l = life_less in omega (arith, g, l)
 
@@ -164,19 +202,25 @@ module _ (setup : Setup) (w : World) (kind : SeatKind) (v : VolumeData) (c : Cla
   good = as_good_put v taken w.store.rows s.order taken_key (at_key setup w kind v s) c (safe c (found_in (claim_key c.meta.namespace c.meta.name) w.store.rows (Claim c) sc.there))
 
   -- a claim that seeks, and that no volume offers itself to
-  pub seeking_pays : is_completed c ≡ false → is_deleting c.meta ≡ false → is_empty c.volume_name ≡ true → is_fit v c ≡ true → has_offer w.store.rows c ≡ false → claim_left (put_row (Volume taken) w.store.rows) w.devices c + 4 ≤ claim_left w.store.rows w.devices c
+  pub seeking_pays : is_completed c ≡ false → is_deleting c.meta ≡ false → is_empty c.volume_name ≡ true → is_fit v c ≡ true
+      → has_offer w.store.rows c ≡ false → claim_left (put_row (Volume taken) w.store.rows) w.devices c + 4 ≤ claim_left w.store.rows w.devices c
   seeking_pays open_ staying empty fit none =
-      let offered : offers taken c ≡ true = and_from (carries taken c) (is_fit taken c && not (is_ended taken.phase)) carries_now (and_from (is_fit taken c) (not (is_ended taken.phase)) (fit_now ∙ fit) (ap not t.going)) in
-      let now : has_offer (put_row (Volume taken) w.store.rows) c ≡ true = any_in (offers_claim c) (Volume taken) (put_row (Volume taken) w.store.rows) (found_in (volume_key v.meta.name) _ (Volume taken) put_there) offered in
+      let offered : offers taken c ≡ true = and_from (carries taken c) (is_fit taken c && not (is_ended taken.phase)) carries_now (and_from
+      (is_fit taken c) (not (is_ended taken.phase)) (fit_now ∙ fit) (ap not t.going)) in
+      let now : has_offer (put_row (Volume taken) w.store.rows) c ≡ true =
+      any_in (offers_claim c) (Volume taken) (put_row (Volume taken) w.store.rows) (found_in (volume_key v.meta.name) _ (Volume taken) put_there) offered in
       let rest = provision_less w.store.rows (put_row (Volume taken) w.store.rows) w.devices w.devices c c.meta.uid (λ name e. e) (λ k. good.held open_ staying k (inl empty)) in
       rw (open_, staying, empty, none, now) (omega (arith, rest))
 
   -- a claim that names the volume
-  pub named_pays : is_completed c ≡ false → is_deleting c.meta ≡ false → is_empty c.volume_name ≡ false → c.volume_name ≡ v.meta.name → is_deleting v.meta ≡ false → claim_left (put_row (Volume taken) w.store.rows) w.devices c + 4 ≤ claim_left w.store.rows w.devices c
+  pub named_pays : is_completed c ≡ false → is_deleting c.meta ≡ false → is_empty c.volume_name ≡ false → c.volume_name ≡ v.meta.name
+      → is_deleting v.meta ≡ false → claim_left (put_row (Volume taken) w.store.rows) w.devices c + 4 ≤ claim_left w.store.rows w.devices c
   named_pays open_ staying named is here =
       let was : is_held_by c (row_at (volume_key c.volume_name) w.store.rows) ≡ false = ap (λ n. is_held_by c (row_at (volume_key n) w.store.rows)) is ∙ ap (is_held_by c) s.there ∙ rw t.free refl in
-      let held : holds taken c ≡ true = and_from (carries taken c && not (is_deleting v.meta)) (not (is_ended v.phase)) (and_from (carries taken c) (not (is_deleting v.meta)) carries_now (ap not here)) (ap not t.going) in
-      let now : is_held_by c (row_at (volume_key c.volume_name) (put_row (Volume taken) w.store.rows)) ≡ true = ap (λ n. is_held_by c (row_at (volume_key n) (put_row (Volume taken) w.store.rows))) is ∙ ap (is_held_by c) put_there ∙ held in
+      let held : holds taken c ≡ true = and_from (carries taken c && not (is_deleting v.meta)) (not (is_ended v.phase)) (and_from (carries taken c)
+      (not (is_deleting v.meta)) carries_now (ap not here)) (ap not t.going) in
+      let now : is_held_by c (row_at (volume_key c.volume_name) (put_row (Volume taken) w.store.rows)) ≡ true =
+      ap (λ n. is_held_by c (row_at (volume_key n) (put_row (Volume taken) w.store.rows))) is ∙ ap (is_held_by c) put_there ∙ held in
       rw (open_, staying, named, was, now) (omega arith)
 
   taken_left : completed_left c (Some (Volume taken)) ≡ carried_left c taken
@@ -185,7 +229,9 @@ module _ (setup : Setup) (w : World) (kind : SeatKind) (v : VolumeData) (c : Cla
   -- a completed claim
   pub completed_claim_pays : is_completed c ≡ true → c.volume_name ≡ v.meta.name → claim_left (put_row (Volume taken) w.store.rows) w.devices c + 4 ≤ claim_left w.store.rows w.devices c
   completed_claim_pays completed is =
-      let was : completed_left c (row_at (volume_key c.volume_name) w.store.rows) ≡ 5 + unless (is_lost c.phase) 1 = ap (λ n. completed_left c (row_at (volume_key n) w.store.rows)) is ∙ ap (completed_left c) s.there ∙ rw t.free refl in
-      let now : completed_left c (row_at (volume_key c.volume_name) (put_row (Volume taken) w.store.rows)) ≡ carried_left c taken = ap (λ n. completed_left c (row_at (volume_key n) (put_row (Volume taken) w.store.rows))) is ∙ ap (completed_left c) put_there ∙ taken_left in
+      let was : completed_left c (row_at (volume_key c.volume_name) w.store.rows) ≡ 5 + unless (is_lost c.phase) 1 =
+      ap (λ n. completed_left c (row_at (volume_key n) w.store.rows)) is ∙ ap (completed_left c) s.there ∙ rw t.free refl in
+      let now : completed_left c (row_at (volume_key c.volume_name) (put_row (Volume taken) w.store.rows)) ≡ carried_left c taken =
+      ap (λ n. completed_left c (row_at (volume_key n) (put_row (Volume taken) w.store.rows))) is ∙ ap (completed_left c) put_there ∙ taken_left in
       let small = carried_most c taken in
       rw completed (omega (arith, was, now, small))

@@ -3,28 +3,44 @@ use Rattle.std.proofs.Common.{◌≡◌, ◌∙◌, ◌⊎◌, ℕ, ◌+◌, ◌
 use Rattle.std.specs.Prelude.{bytes_eq, cond, not, ◌&&◌, ◌||◌, is_some}
 use Rattle.std.proofs.lemmas.Bool.{and_from, and_parts}
 use Rattle.std.proofs.lemmas.Slice.Eq.{bytes_eq-Decides}
-use Rattle.kube_types.specs.declared.uid.Uid.{Uid}
-use Rattle.kube_types.specs.declared.key.Key.{Key}
-use Rattle.kube_types.specs.declared.names.Due.{Due}
-use Rattle.kube_types.specs.declared.names.Due.TheVariants as dues
-use Rattle.kube_types.specs.declared.parts.VolumePhase.{VolumePhase}
-use Rattle.kube_types.specs.declared.parts.VolumePhase.TheVariants as volumes
-use Rattle.kube_types.specs.declared.objects.Ref.{Ref}
-use Rattle.kube_types.specs.declared.objects.Claim.{Claim as ClaimData}
-use Rattle.kube_types.specs.declared.objects.Volume.{Volume as VolumeData}
-use Rattle.kube_types.specs.declared.objects.Object.{Object}
-use Rattle.kube_types.specs.declared.objects.Object.TheVariants.{Class, Node, Volume, Claim, Pod}
-use Rattle.kube_types.specs.Bindings.{bound_by_controller, has_key, is_available, is_bound, is_completed, is_deleting, is_empty, is_ended, is_protected_volume, is_uid, carries, names_claim, refers_carrying, ref_uid, uid_carries}
-use Rattle.kube_types.specs.Keys.{AreRows, key_of, put_row, row_at}
-use Rattle.kube_types.proofs.KeyOrder.{row_at_key}
+use Rattle.kube_parts.specs.declared.uid.Uid.{Uid}
+use Rattle.kube_objects.specs.declared.key.Key.{Key}
+use Rattle.kube_parts.specs.declared.names.Due.{Due}
+use Rattle.kube_parts.specs.declared.names.Due.TheVariants as dues
+use Rattle.kube_parts.specs.declared.parts.VolumePhase.{VolumePhase}
+use Rattle.kube_parts.specs.declared.parts.VolumePhase.TheVariants as volumes
+use Rattle.kube_objects.specs.declared.objects.Ref.{Ref}
+use Rattle.kube_objects.specs.declared.objects.Claim.{Claim as ClaimData}
+use Rattle.kube_objects.specs.declared.objects.Volume.{Volume as VolumeData}
+use Rattle.kube_objects.specs.declared.objects.Object.{Object}
+use Rattle.kube_objects.specs.declared.objects.Object.TheVariants.{Class, Node, Volume, Claim, Pod}
+use Rattle.kube_objects.specs.Bindings.{
+  bound_by_controller,
+  has_key,
+  is_available,
+  is_bound,
+  is_completed,
+  is_deleting,
+  is_empty,
+  is_ended,
+  is_protected_volume,
+  is_uid,
+  carries,
+  names_claim,
+  refers_carrying,
+  ref_uid,
+  uid_carries,
+}
+use Rattle.kube_objects.specs.Keys.{AreRows, key_of, put_row, row_at}
+use Rattle.kube_objects.proofs.KeyOrder.{row_at_key}
 use Rattle.call_types.specs.declared.request.NewStatus.TheVariants as statuses
 use Rattle.call_types.specs.declared.request.Request.TheVariants.{Update, UpdateStatus}
 use Rattle.call_types.specs.declared.request.SeatKind.{SeatKind}
 use Rattle.call_types.specs.declared.setup.Setup.{Setup}
 use Rattle.binder_model.specs.Answers.{with_status}
 use Rattle.binder_model.specs.BinderDue.{claim_with, reference_due, referred_due, uid_due, volume_due, is_reclaimed}
-use Rattle.kube_types.specs.Bindings.{has_name, pv_protection}
-use Rattle.kube_types.specs.Sources.{data_id_of}
+use Rattle.kube_objects.specs.Bindings.{has_name, pv_protection}
+use Rattle.kube_objects.specs.Sources.{data_id_of}
 use Rattle.plain_data.specs.Pairs.{without_key}
 use Rattle.binder_model.specs.BindWrites.{shows_bound, unbound_volume, without_uid, write_bound, write_unbound}
 use Rattle.binder_model.specs.ObjectKeys.{claim_key, volume_key}
@@ -32,7 +48,25 @@ use Rattle.binder_model.specs.Store.{at_version, has_no_names, leaves, updated_o
 use Rattle.binder_model.specs.World.{Effect, World, effect, world_after}
 use Rattle.model_laws.proofs.Lists.{IsIn, none_some, one}
 use Rattle.safety_law.specs.Invariant.Writes.{IsLeaving, IsStatus, IsUpdate}
-use Rattle.settle_measure.specs.Left.Measure.{claim_left, completed_left, guard_left, is_fit, is_lost, is_over, is_seeking, life_left, was_erased, is_awaited, left_of, left_on, phase_left, seeks, stage_left, unless, volume_left}
+use Rattle.settle_measure.specs.Left.Measure.{
+  claim_left,
+  completed_left,
+  guard_left,
+  is_fit,
+  is_lost,
+  is_over,
+  is_seeking,
+  life_left,
+  was_erased,
+  is_awaited,
+  left_of,
+  left_on,
+  phase_left,
+  seeks,
+  stage_left,
+  unless,
+  volume_left,
+}
 use Rattle.settle_measure.specs.Binding.Pays.{AvailablePays, BoundPays, ReleasePays, UnbindPays}
 use Rattle.settle_measure.specs.Left.Lowers.{Lowers, StandsVolume}
 use Rattle.settle_measure.proofs.Left.Entries.{Put, Took, came}
@@ -97,7 +131,8 @@ module _ (setup : Setup) (w : World) (kind : SeatKind) (v : VolumeData) (s : Sta
           i.is ∙ ap (λ x. at_version x (w.store.version + 1)) (sym (one (Volume (record v { phase = phase })) i.new fits))
 
       by : IsStatus w.store kind (volume_key v.meta.name) (statuses.Volume phase) given o
-          → Put w (effect setup w kind (UpdateStatus (volume_key v.meta.name) (statuses.Volume phase) given)) o ⊎ Took w (effect setup w kind (UpdateStatus (volume_key v.meta.name) (statuses.Volume phase) given)) (UpdateStatus (volume_key v.meta.name) (statuses.Volume phase) given) o
+          → Put w (effect setup w kind (UpdateStatus (volume_key v.meta.name) (statuses.Volume phase) given)) o
+          ⊎ Took w (effect setup w kind (UpdateStatus (volume_key v.meta.name) (statuses.Volume phase) given)) (UpdateStatus (volume_key v.meta.name) (statuses.Volume phase) given) o
           → left_of (world_after w (effect setup w kind (UpdateStatus (volume_key v.meta.name) (statuses.Volume phase) given))) + n ≤ left_of w
       by i (inl put) = lowered _ (phased v phase (w.store.version + 1)) n refl (subst (Put w _) (is_new i) put) safe less
       by i (inr took) = absurd (true≢false (sym (subst (IsLeaving (UpdateStatus (volume_key v.meta.name) (statuses.Volume phase) given)) (is_new i) took.leaves) ∙ s.stays))
@@ -122,13 +157,15 @@ module _ (setup : Setup) (w : World) (kind : SeatKind) (v : VolumeData) (s : Sta
       by i (inl put) = fall _ (subst (Put w _) (is_new i) put)
       by i (inr took) = absurd (true≢false (sym (subst (IsLeaving (Update (Volume x) given)) (is_new i) took.leaves) ∙ remains))
 
-  pub update_lowers : (x : VolumeData) (given : Option ℕ) (n : ℕ) → key_of (Volume x) ≡ key_of (Volume v) → leaves (Volume (rewritten v x (w.store.version + 1))) ≡ false → AllSafe w v (rewritten v x (w.store.version + 1))
+  pub update_lowers : (x : VolumeData) (given : Option ℕ) (n : ℕ) → key_of (Volume x) ≡ key_of (Volume v)
+      → leaves (Volume (rewritten v x (w.store.version + 1))) ≡ false → AllSafe w v (rewritten v x (w.store.version + 1))
       → volume_left w.store.rows w.devices (rewritten v x (w.store.version + 1)) + n ≤ volume_left w.store.rows w.devices v
       → Lowers setup w kind (Update (Volume x) given) n
   update_lowers x given n same remains safe less = update_by x given n same remains (λ y put. lowered y (rewritten v x (w.store.version + 1)) n same put safe less)
 
   -- a claim pays for the volume
-  pub lowered_paid : (x : Effect) (new : VolumeData) (n m : ℕ) (c : ClaimData) → row_at (claim_key c.meta.namespace c.meta.name) w.store.rows ≡ Some (Claim c) → key_of (Volume new) ≡ key_of (Volume v) → Put w x (Volume new) → AllSafe w v new
+  pub lowered_paid : (x : Effect) (new : VolumeData) (n m : ℕ) (c : ClaimData)
+      → row_at (claim_key c.meta.namespace c.meta.name) w.store.rows ≡ Some (Claim c) → key_of (Volume new) ≡ key_of (Volume v) → Put w x (Volume new) → AllSafe w v new
       → claim_left (put_row (Volume new) w.store.rows) w.devices c + m ≤ claim_left w.store.rows w.devices c
       → volume_left w.store.rows w.devices new + n ≤ volume_left w.store.rows w.devices v + m → left_of (world_after w x) + n ≤ left_of w
   lowered_paid x new n m c standing same put safe pay less =
@@ -136,7 +173,8 @@ module _ (setup : Setup) (w : World) (kind : SeatKind) (v : VolumeData) (s : Sta
       let is = moved x new put in
       omega (arith, sum, is, less)
     where
-      paid_by : (e : ClaimData) → IsIn (Claim e) w.store.rows → key_of (Claim e) ≡ claim_key c.meta.namespace c.meta.name → claim_left (put_row (Volume new) w.store.rows) w.devices e + m ≤ claim_left w.store.rows w.devices e
+      paid_by : (e : ClaimData) → IsIn (Claim e) w.store.rows → key_of (Claim e) ≡ claim_key c.meta.namespace c.meta.name
+          → claim_left (put_row (Volume new) w.store.rows) w.devices e + m ≤ claim_left w.store.rows w.devices e
       paid_by e i k =
           let is : Claim e ≡ Claim c = one (Claim e) (Claim c) (sym (stands w.store.rows s.order (Claim e) i) ∙ ap (λ j. row_at j w.store.rows) k ∙ standing) in
           subst (λ d. claim_left (put_row (Volume new) w.store.rows) w.devices d + m ≤ claim_left w.store.rows w.devices d) (sym (claim_of e c is)) pay
@@ -273,7 +311,8 @@ pub available_pays : AvailablePays
 available_pays setup w kind v s due =
     let free = is_free w.store.rows v due in
     let stage = available_stage (is_awaited w.store.rows v.claim_ref) (ref_uid v.claim_ref) v.phase free.uid free.phase in
-    let life = life_kept (is_deleting v.meta) (is_over (ref_uid v.claim_ref) v.phase) (is_over (ref_uid v.claim_ref) volumes.Available) (was_erased (data_id_of v.source) w.devices.stored) (not_over (ref_uid v.claim_ref) v.phase (inl free.uid)) in
+    let life = life_kept (is_deleting v.meta) (is_over (ref_uid v.claim_ref) v.phase) (is_over (ref_uid v.claim_ref) volumes.Available)
+    (was_erased (data_id_of v.source) w.devices.stored) (not_over (ref_uid v.claim_ref) v.phase (inl free.uid)) in
     status_lowers setup w kind v s volumes.Available (Some v.meta.version) 1 (λ c i. free_safe v (phased v volumes.Available (w.store.version + 1)) c free.uid free.uid) (omega (arith, stage, life))
 
 -- Release and Unbind
@@ -318,7 +357,8 @@ pub record IsElsewhere (v : VolumeData) (c : ClaimData) : Type 0 where
   other : bytes_eq c.volume_name v.meta.name ≡ false
 
 -- the claim that the volume carries is the one that was looked up
-looked_up : (rows : List Object) (v : VolumeData) (test : Option Due → Bool) → AreRows rows → (a : IsAway rows v test) → (c : ClaimData) → IsIn (Claim c) rows → carries v c ≡ true → test (referred_due v (Some c)) ≡ true
+looked_up : (rows : List Object) (v : VolumeData) (test : Option Due → Bool) → AreRows rows → (a : IsAway rows v test) → (c : ClaimData)
+    → IsIn (Claim c) rows → carries v c ≡ true → test (referred_due v (Some c)) ≡ true
 unfolding claim_with
 looked_up rows v test order a c i e =
     let r = same_ref a.ref c (ap (λ x. refers_carrying x c) (sym a.is) ∙ e) in
@@ -378,8 +418,10 @@ release_pays setup w kind v s due =
     let after = with_uid (is_awaited w.store.rows v.claim_ref) (ref_uid v.claim_ref) a.uid volumes.Released uid in
     let most = unbound_ended v.phase a.going in
     let one_unit : phase_left volumes.Released ≡ 1 = refl in
-    let life = life_kept (is_deleting v.meta) (is_over (ref_uid v.claim_ref) v.phase) (is_over (ref_uid v.claim_ref) volumes.Released) (was_erased (data_id_of v.source) w.devices.stored) (not_over (ref_uid v.claim_ref) v.phase (inr a.going)) in
-    status_lowers setup w kind v s volumes.Released (Some v.meta.version) 1 (λ c i. away_safe v (phased v volumes.Released (w.store.version + 1)) c (elsewhere w.store.rows v s.order a c i) (λ h. h)) (omega (arith, before, after, most, one_unit, life))
+    let life = life_kept (is_deleting v.meta) (is_over (ref_uid v.claim_ref) v.phase) (is_over (ref_uid v.claim_ref) volumes.Released)
+    (was_erased (data_id_of v.source) w.devices.stored) (not_over (ref_uid v.claim_ref) v.phase (inr a.going)) in
+    status_lowers setup w kind v s volumes.Released (Some v.meta.version) 1
+    (λ c i. away_safe v (phased v volumes.Released (w.store.version + 1)) c (elsewhere w.store.rows v s.order a c i) (λ h. h)) (omega (arith, before, after, most, one_unit, life))
 
 -- phase Bound, by the volume's own sync or as the second write
 
@@ -401,13 +443,15 @@ bound_safe v n c going fresh = record {
     shown_less true false l = omega arith
     shown_less false s l = omega arith
 
-pub bound_write_pays : (setup : Setup) (w : World) (kind : SeatKind) (v : VolumeData) (uid : Uid) → StandsVolume w v → ref_uid v.claim_ref ≡ Some uid → is_ended v.phase ≡ false → is_bound v.phase ≡ false → Lowers setup w kind (write_bound v) 1
+pub bound_write_pays : (setup : Setup) (w : World) (kind : SeatKind) (v : VolumeData) (uid : Uid) → StandsVolume w v → ref_uid v.claim_ref ≡ Some uid
+    → is_ended v.phase ≡ false → is_bound v.phase ≡ false → Lowers setup w kind (write_bound v) 1
 bound_write_pays setup w kind v uid s has going fresh =
     let before = with_uid (is_awaited w.store.rows v.claim_ref) (ref_uid v.claim_ref) uid v.phase has in
     let after = with_uid (is_awaited w.store.rows v.claim_ref) (ref_uid v.claim_ref) uid volumes.Bound has in
     let is = unbound_left v.phase going fresh in
     let two : phase_left volumes.Bound ≡ 2 = refl in
-    let life = life_kept (is_deleting v.meta) (is_over (ref_uid v.claim_ref) v.phase) (is_over (ref_uid v.claim_ref) volumes.Bound) (was_erased (data_id_of v.source) w.devices.stored) (not_over (ref_uid v.claim_ref) v.phase (inr going)) in
+    let life = life_kept (is_deleting v.meta) (is_over (ref_uid v.claim_ref) v.phase) (is_over (ref_uid v.claim_ref) volumes.Bound)
+    (was_erased (data_id_of v.source) w.devices.stored) (not_over (ref_uid v.claim_ref) v.phase (inr going)) in
     status_lowers setup w kind v s volumes.Bound (Some v.meta.version) 1 (λ c i. bound_safe v (w.store.version + 1) c going fresh) (omega (arith, before, after, is, two, life))
 
 bound_due : (v : VolumeData) (c : Option ClaimData) → is_bound_due (referred_due v c) ≡ true → is_bound v.phase ≡ false
@@ -415,7 +459,8 @@ unfolding referred_due
 bound_due v None e = no e
 bound_due v (Some c) e = by (is_empty c.volume_name) (bytes_eq c.volume_name v.meta.name) (is_bound v.phase) (not (is_protected_volume v)) (is_reclaimed v) refl e
   where
-    by : (a b d g f : Bool) → is_bound v.phase ≡ d → is_bound_due (cond a None (cond b (cond (d || g) None (Some dues.Bound)) (cond f (Some dues.Release) (Some dues.Unbind)))) ≡ true → is_bound v.phase ≡ false
+    by : (a b d g f : Bool) → is_bound v.phase ≡ d
+        → is_bound_due (cond a None (cond b (cond (d || g) None (Some dues.Bound)) (cond f (Some dues.Release) (Some dues.Unbind)))) ≡ true → is_bound v.phase ≡ false
     by true b d g f ed e = no e
     by false true true g f ed e = no e
     by false true false g f ed e = ed
@@ -481,7 +526,8 @@ module _ (setup : Setup) (w : World) (kind : SeatKind) (v : VolumeData) (s : Sta
   unbind_away c i e = away_due v c (unbind_is_away _ (looked_up w.store.rows v is_unbind_due s.order a c i e))
 
   -- the volume without its UID
-  unbind_as : (x : VolumeData) → key_of (Volume x) ≡ key_of (Volume v) → ref_uid x.claim_ref ≡ None → is_awaited w.store.rows x.claim_ref ≡ false → x.meta.finalizers ≡ v.meta.finalizers → x.source ≡ v.source
+  unbind_as : (x : VolumeData) → key_of (Volume x) ≡ key_of (Volume v) → ref_uid x.claim_ref ≡ None → is_awaited w.store.rows x.claim_ref ≡ false
+      → x.meta.finalizers ≡ v.meta.finalizers → x.source ≡ v.source
       → Lowers setup w kind (Update (Volume x) (Some v.meta.version)) 1
   unfolding leaves
   unbind_as x same gone free fin src =
@@ -490,9 +536,13 @@ module _ (setup : Setup) (w : World) (kind : SeatKind) (v : VolumeData) (s : Sta
       let after = free_stage (is_awaited w.store.rows x.claim_ref) (ref_uid x.claim_ref) v.phase gone free in
       let most = unbound_ended v.phase a.going in
       let remains : leaves (Volume (rewritten v x (w.store.version + 1))) ≡ false = ap (λ f. is_deleting v.meta && has_no_names f) fin ∙ s.stays in
-      let same_life : life_left (is_deleting v.meta) (is_over (ref_uid x.claim_ref) v.phase) (was_erased (data_id_of x.source) w.devices.stored) ≡ life_left (is_deleting v.meta) (is_over (ref_uid x.claim_ref) v.phase) (was_erased (data_id_of v.source) w.devices.stored) = ap (λ q. life_left (is_deleting v.meta) (is_over (ref_uid x.claim_ref) v.phase) (was_erased (data_id_of q) w.devices.stored)) src in
-      let life = life_kept (is_deleting v.meta) (is_over (ref_uid v.claim_ref) v.phase) (is_over (ref_uid x.claim_ref) v.phase) (was_erased (data_id_of v.source) w.devices.stored) (not_over (ref_uid v.claim_ref) v.phase (inr a.going)) in
-      let guard : guard_left (is_deleting v.meta) (has_name pv_protection x.meta.finalizers) ≡ guard_left (is_deleting v.meta) (is_protected_volume v) = ap (λ f. guard_left (is_deleting v.meta) (has_name pv_protection f)) fin in
+      let same_life : life_left (is_deleting v.meta) (is_over (ref_uid x.claim_ref) v.phase)
+      (was_erased (data_id_of x.source) w.devices.stored) ≡ life_left (is_deleting v.meta) (is_over (ref_uid x.claim_ref) v.phase)
+      (was_erased (data_id_of v.source) w.devices.stored) = ap (λ q. life_left (is_deleting v.meta) (is_over (ref_uid x.claim_ref) v.phase) (was_erased (data_id_of q) w.devices.stored)) src in
+      let life = life_kept (is_deleting v.meta) (is_over (ref_uid v.claim_ref) v.phase) (is_over (ref_uid x.claim_ref) v.phase)
+      (was_erased (data_id_of v.source) w.devices.stored) (not_over (ref_uid v.claim_ref) v.phase (inr a.going)) in
+      let guard : guard_left (is_deleting v.meta) (has_name pv_protection x.meta.finalizers) ≡ guard_left (is_deleting v.meta)
+      (is_protected_volume v) = ap (λ f. guard_left (is_deleting v.meta) (has_name pv_protection f)) fin in
       update_lowers setup w kind v s x (Some v.meta.version) 1 same remains
       (λ c i. away_safe v (rewritten v x (w.store.version + 1)) c (unbind_away c i) (λ h. false_not _ (no_carrier x.claim_ref c gone) h))
       (omega (arith, before, after, most, same_life, life, guard))
@@ -501,7 +551,8 @@ module _ (setup : Setup) (w : World) (kind : SeatKind) (v : VolumeData) (s : Sta
   unfolding unbound_volume
   unbind_so true e = rw e (unbind_as (record v { claim_ref = None; meta = record v.meta { annotations = without_key bound_by_controller v.meta.annotations } }) refl refl refl refl refl)
   unbind_so false e =
-      let free : is_awaited w.store.rows (without_uid v.claim_ref) ≡ false = ap (λ r. is_awaited w.store.rows (without_uid r)) a.is ∙ none_seeks v a.uid (row_at (claim_key a.ref.namespace a.ref.name) w.store.rows) a.due in
+      let free : is_awaited w.store.rows (without_uid v.claim_ref) ≡ false = ap (λ r. is_awaited w.store.rows (without_uid r)) a.is
+      ∙ none_seeks v a.uid (row_at (claim_key a.ref.namespace a.ref.name) w.store.rows) a.due in
       rw e (unbind_as (record v { claim_ref = without_uid v.claim_ref }) refl (no_longer v v.claim_ref refl) free refl refl)
 
 pub unbind_pays : UnbindPays

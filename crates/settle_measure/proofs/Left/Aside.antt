@@ -1,16 +1,16 @@
 -- Writes at a key where no claim has its volume: of claims and pods, of new volumes, of objects that leave.
 use Rattle.std.proofs.Common.{◌≡◌, ◌≢◌, ◌∙◌, ◌⊎◌, ℕ, ◌+◌, ◌≤◌, List, Bool, true, false, true≢false, Some, None, inl, inr, refl, sym, ap, subst, arith}
 use Rattle.std.specs.Prelude.{cond}
-use Rattle.kube_types.specs.declared.key.Key.{Key}
-use Rattle.kube_types.specs.declared.objects.Claim.{Claim as ClaimData}
-use Rattle.kube_types.specs.declared.objects.Pod.{Pod as PodData}
-use Rattle.kube_types.specs.declared.objects.Volume.{Volume as VolumeData}
-use Rattle.kube_types.specs.declared.objects.Object.{Object}
-use Rattle.kube_types.specs.declared.objects.Object.TheVariants.{Class, Node, Volume, Claim, Pod}
-use Rattle.kube_types.specs.Bindings.{is_completed, is_deleting, is_empty}
-use Rattle.kube_types.specs.Keys.{AreRows, key_of, kind_index, put_row, row_at, same_key, without_row}
-use Rattle.kube_types.proofs.KeyOrder.{row_at-put_row, row_at-put_row_other, row_at-without_row, row_at-without_row_other}
-use Rattle.kube_types.proofs.SameKeys.{key_tells, same_key-Decides}
+use Rattle.kube_objects.specs.declared.key.Key.{Key}
+use Rattle.kube_objects.specs.declared.objects.Claim.{Claim as ClaimData}
+use Rattle.kube_objects.specs.declared.objects.Pod.{Pod as PodData}
+use Rattle.kube_objects.specs.declared.objects.Volume.{Volume as VolumeData}
+use Rattle.kube_objects.specs.declared.objects.Object.{Object}
+use Rattle.kube_objects.specs.declared.objects.Object.TheVariants.{Class, Node, Volume, Claim, Pod}
+use Rattle.kube_objects.specs.Bindings.{is_completed, is_deleting, is_empty}
+use Rattle.kube_objects.specs.Keys.{AreRows, key_of, kind_index, put_row, row_at, same_key, without_row}
+use Rattle.kube_objects.proofs.KeyOrder.{row_at-put_row, row_at-put_row_other, row_at-without_row, row_at-without_row_other}
+use Rattle.kube_objects.proofs.SameKeys.{key_tells, same_key-Decides}
 use Rattle.binder_model.specs.ObjectKeys.{claim_key, volume_key}
 use Rattle.binder_model.specs.Devices.{Devices}
 use Rattle.model_laws.proofs.Lists.{IsIn, one}
@@ -35,7 +35,8 @@ pub record Useless (rows rows_after : List Object) (k : Key) (c : ClaimData) : T
   pub done : is_completed c ≡ true → k ≡ volume_key c.volume_name → completed_left c (row_at k rows_after) ≤ completed_left c (row_at k rows)
 
 module _ (rows rows_after : List Object) (k : Key) (order : AreRows rows) (agree : Agree rows rows_after k) (c : ClaimData) (u : Useless rows rows_after k c) where
-  keeps_held : is_completed c ≡ false → is_deleting c.meta ≡ false → (j : Key) → (is_empty c.volume_name ≡ true) ⊎ (j ≡ volume_key c.volume_name) → is_held_by c (row_at j rows) ≡ true → is_held_by c (row_at j rows_after) ≡ true
+  keeps_held : is_completed c ≡ false → is_deleting c.meta ≡ false → (j : Key) → (is_empty c.volume_name ≡ true) ⊎ (j ≡ volume_key c.volume_name)
+      → is_held_by c (row_at j rows) ≡ true → is_held_by c (row_at j rows_after) ≡ true
   keeps_held open_ staying j which e = elim (key_tells k j) [
     | inl is ↦ absurd (true≢false (sym e ∙ ap (λ i. is_held_by c (row_at i rows)) (sym is) ∙ u.held open_ staying))
     | inr differs ↦ ap (is_held_by c) (agree j differs) ∙ e
@@ -53,14 +54,16 @@ module _ (rows rows_after : List Object) (k : Key) (order : AreRows rows) (agree
   keeps_done : is_completed c ≡ true → completed_left c (row_at (volume_key c.volume_name) rows_after) ≤ completed_left c (row_at (volume_key c.volume_name) rows)
   keeps_done completed = elim (key_tells k (volume_key c.volume_name)) [
     | inl is ↦ subst (λ j. completed_left c (row_at j rows_after) ≤ completed_left c (row_at j rows)) is (u.done completed is)
-    | inr differs ↦ let e : completed_left c (row_at (volume_key c.volume_name) rows_after) ≡ completed_left c (row_at (volume_key c.volume_name) rows) = ap (completed_left c) (agree (volume_key c.volume_name) differs) in omega (arith, e)
+    | inr differs ↦ let e : completed_left c (row_at (volume_key c.volume_name) rows_after) ≡ completed_left c
+        (row_at (volume_key c.volume_name) rows) = ap (completed_left c) (agree (volume_key c.volume_name) differs) in omega (arith, e)
   ]
 
   pub as_good : AsGood rows rows_after c
   as_good = record { held = keeps_held; holder = keeps_offer; done = keeps_done }
 
 -- a key of a claim or a pod, or where nothing stands
-pub useless_kind : (rows rows_after : List Object) (k : Key) (o : Object) (c : ClaimData) → row_at k rows ≡ Some o → is_held_by c (Some o) ≡ false → offers_claim c o ≡ false → ((name : List ℕ) → k ≢ volume_key name) → Useless rows rows_after k c
+pub useless_kind : (rows rows_after : List Object) (k : Key) (o : Object) (c : ClaimData) → row_at k rows ≡ Some o → is_held_by c (Some o) ≡ false
+    → offers_claim c o ≡ false → ((name : List ℕ) → k ≢ volume_key name) → Useless rows rows_after k c
 useless_kind rows rows_after k o c there held offered differs = record {
   held = λ open_ staying. ap (is_held_by c) there ∙ held;
   offered = λ open_ staying p at. ap (offers_claim c) (one p o (sym at ∙ there)) ∙ offered;
@@ -95,7 +98,8 @@ module _ (rows rows_after : List Object) (d devices_after : Devices) (all : AllS
   none_pay : (o : Object) → IsIn o rows → Pays (object_left rows d) (object_left rows_after devices_after) none_paid o
   none_pay o i = let h = each_less o i in omega (arith, h)
 
-  pub claim_paying : (namespace name : List ℕ) (n : ℕ) → ((c : ClaimData) → IsIn (Claim c) rows → key_of (Claim c) ≡ claim_key namespace name → claim_left rows_after devices_after c + n ≤ claim_left rows d c)
+  pub claim_paying : (namespace name : List ℕ) (n : ℕ)
+      → ((c : ClaimData) → IsIn (Claim c) rows → key_of (Claim c) ≡ claim_key namespace name → claim_left rows_after devices_after c + n ≤ claim_left rows d c)
       → (o : Object) → IsIn o rows → Pays (object_left rows d) (object_left rows_after devices_after) (paid_at (claim_key namespace name) n) o
   claim_paying namespace name n pay (Class x) i = omega arith
   claim_paying namespace name n pay (Node x) i = omega arith
@@ -145,17 +149,20 @@ gone_costs rows d k old namespace name n order there none cost =
     each (Pod p) i = omega arith
     each (Claim c) i = let h = cost c i in omega (arith, h)
 
-pub new_total : (rows : List Object) (d : Devices) (new : Object) (namespace name : List ℕ) (n : ℕ) (payer : Object) → row_at (key_of new) rows ≡ None → row_at (claim_key namespace name) rows ≡ Some payer → AllStay rows (put_row new rows) d d
+pub new_total : (rows : List Object) (d : Devices) (new : Object) (namespace name : List ℕ) (n : ℕ) (payer : Object)
+    → row_at (key_of new) rows ≡ None → row_at (claim_key namespace name) rows ≡ Some payer → AllStay rows (put_row new rows) d d
     → ((c : ClaimData) → IsIn (Claim c) rows → key_of (Claim c) ≡ claim_key namespace name → claim_left (put_row new rows) d c + n ≤ claim_left rows d c)
     → left_on (put_row new rows) d + n ≤ left_on rows d + object_left (put_row new rows) d new
 new_total rows d new namespace name n payer free standing all pay =
-    let h = new_falls (object_left rows d) (object_left (put_row new rows) d) (paid_at (claim_key namespace name) n) new rows free (λ o i. claim_paying rows (put_row new rows) d d all namespace name n pay o i) in
+    let h = new_falls (object_left rows d) (object_left (put_row new rows) d) (paid_at (claim_key namespace name) n) new rows free
+    (λ o i. claim_paying rows (put_row new rows) d d all namespace name n pay o i) in
     let p = one_pays (claim_key namespace name) n payer rows standing in
     omega (arith, h, p)
 
 -- a claim is written anew
 
-pub claim_seeks : (rows : List Object) (c new : ClaimData) → key_of (Claim new) ≡ key_of (Claim c) → row_at (key_of (Claim c)) rows ≡ Some (Claim c) → (is_seeking new ≡ true → is_seeking c ≡ true) → NoneSeeks rows (put_row (Claim new) rows)
+pub claim_seeks : (rows : List Object) (c new : ClaimData) → key_of (Claim new) ≡ key_of (Claim c) → row_at (key_of (Claim c)) rows ≡ Some (Claim c)
+    → (is_seeking new ≡ true → is_seeking c ≡ true) → NoneSeeks rows (put_row (Claim new) rows)
 claim_seeks rows c new same there less namespace name e = by (key_tells (key_of (Claim new)) (claim_key namespace name))
   where
     by : (key_of (Claim new) ≡ claim_key namespace name) ⊎ (key_of (Claim new) ≢ claim_key namespace name) → seeks (row_at (claim_key namespace name) rows) ≡ true
@@ -165,16 +172,20 @@ claim_seeks rows c new same there less namespace name e = by (key_tells (key_of 
         ap seeks was ∙ less (sym (ap seeks now) ∙ e)
     by (inr differs) = sym (ap seeks (row_at-put_row_other (claim_key namespace name) (Claim new) rows differs)) ∙ e
 
-pub claim_put : (rows : List Object) (d : Devices) (c new : ClaimData) → AreRows rows → key_of (Claim new) ≡ key_of (Claim c) → row_at (key_of (Claim c)) rows ≡ Some (Claim c) → (is_seeking new ≡ true → is_seeking c ≡ true)
+pub claim_put : (rows : List Object) (d : Devices) (c new : ClaimData) → AreRows rows → key_of (Claim new) ≡ key_of (Claim c)
+    → row_at (key_of (Claim c)) rows ≡ Some (Claim c) → (is_seeking new ≡ true → is_seeking c ≡ true)
     → left_on (put_row (Claim new) rows) d + claim_left rows d c ≤ left_on rows d + claim_left rows d new
 claim_put rows d c new order same there less =
     let at : row_at (key_of (Claim new)) rows ≡ Some (Claim c) = ap (λ k. row_at k rows) same ∙ there in
-    let good = λ (e : ClaimData). as_good rows (put_row (Claim new) rows) (key_of (Claim new)) order (put_agrees (Claim new) rows) e (useless_kind rows (put_row (Claim new) rows) (key_of (Claim new)) (Claim c) e at refl refl (claim_key_differs new)) in
-    let h = put_total rows d (Claim new) (Claim c) order at (record { seeks = claim_seeks rows c new same there less; datum = λ name e. e; erased = λ v e. e; pods = λ p i. omega arith; claims = λ e i. good e }) in
+    let good = λ (e : ClaimData). as_good rows (put_row (Claim new) rows) (key_of (Claim new)) order (put_agrees (Claim new) rows) e
+    (useless_kind rows (put_row (Claim new) rows) (key_of (Claim new)) (Claim c) e at refl refl (claim_key_differs new)) in
+    let h = put_total rows d (Claim new) (Claim c) order at
+    (record { seeks = claim_seeks rows c new same there less; datum = λ name e. e; erased = λ v e. e; pods = λ p i. omega arith; claims = λ e i. good e }) in
     let mine = claim_less rows (put_row (Claim new) rows) d d new (λ name e. e) (good new) in
     omega (arith, h, mine)
 
-pub claim_gone : (rows : List Object) (d : Devices) (c : ClaimData) → AreRows rows → row_at (key_of (Claim c)) rows ≡ Some (Claim c) → left_on (without_row (key_of (Claim c)) rows) d + claim_left rows d c ≤ left_on rows d
+pub claim_gone : (rows : List Object) (d : Devices) (c : ClaimData) → AreRows rows → row_at (key_of (Claim c)) rows ≡ Some (Claim c)
+    → left_on (without_row (key_of (Claim c)) rows) d + claim_left rows d c ≤ left_on rows d
 claim_gone rows d c order there =
     gone_total rows d (key_of (Claim c)) (Claim c) order there (record {
       seeks = λ namespace name e. elim (key_tells (key_of (Claim c)) (claim_key namespace name)) [
@@ -184,7 +195,8 @@ claim_gone rows d c order there =
       datum = λ name e. e;
       erased = λ v e. e;
       pods = λ p i. omega arith;
-      claims = λ e i. as_good rows (without_row (key_of (Claim c)) rows) (key_of (Claim c)) order (without_agrees (key_of (Claim c)) rows) e (useless_kind rows (without_row (key_of (Claim c)) rows) (key_of (Claim c)) (Claim c) e there refl refl (claim_key_differs c));
+      claims = λ e i. as_good rows (without_row (key_of (Claim c)) rows) (key_of (Claim c)) order (without_agrees (key_of (Claim c)) rows) e
+          (useless_kind rows (without_row (key_of (Claim c)) rows) (key_of (Claim c)) (Claim c) e there refl refl (claim_key_differs c));
     })
 
 -- pods
@@ -198,15 +210,18 @@ pod_put rows d p new order same there =
       datum = λ name e. e;
       erased = λ v e. e;
       pods = λ q i. omega arith;
-      claims = λ e i. as_good rows (put_row (Pod new) rows) (key_of (Pod new)) order (put_agrees (Pod new) rows) e (useless_kind rows (put_row (Pod new) rows) (key_of (Pod new)) (Pod p) e at refl refl (pod_key_differs new));
+      claims = λ e i. as_good rows (put_row (Pod new) rows) (key_of (Pod new)) order (put_agrees (Pod new) rows) e
+          (useless_kind rows (put_row (Pod new) rows) (key_of (Pod new)) (Pod p) e at refl refl (pod_key_differs new));
     })
 
-pub pod_gone : (rows : List Object) (d : Devices) (p : PodData) → AreRows rows → row_at (key_of (Pod p)) rows ≡ Some (Pod p) → left_on (without_row (key_of (Pod p)) rows) d + pod_left d p ≤ left_on rows d
+pub pod_gone : (rows : List Object) (d : Devices) (p : PodData) → AreRows rows → row_at (key_of (Pod p)) rows ≡ Some (Pod p)
+    → left_on (without_row (key_of (Pod p)) rows) d + pod_left d p ≤ left_on rows d
 pod_gone rows d p order there =
     gone_total rows d (key_of (Pod p)) (Pod p) order there (record {
       seeks = λ namespace name e. sym (ap seeks (row_at-without_row_other (key_of (Pod p)) (claim_key namespace name) rows (pod_claim_differs p namespace name))) ∙ e;
       datum = λ name e. e;
       erased = λ v e. e;
       pods = λ q i. omega arith;
-      claims = λ e i. as_good rows (without_row (key_of (Pod p)) rows) (key_of (Pod p)) order (without_agrees (key_of (Pod p)) rows) e (useless_kind rows (without_row (key_of (Pod p)) rows) (key_of (Pod p)) (Pod p) e there refl refl (pod_key_differs p));
+      claims = λ e i. as_good rows (without_row (key_of (Pod p)) rows) (key_of (Pod p)) order (without_agrees (key_of (Pod p)) rows) e
+          (useless_kind rows (without_row (key_of (Pod p)) rows) (key_of (Pod p)) (Pod p) e there refl refl (pod_key_differs p));
     })

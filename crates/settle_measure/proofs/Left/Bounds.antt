@@ -1,22 +1,48 @@
 -- How large the measure is, and that a falling number falls so often at most.
 use Rattle.std.proofs.Common.{ℕ, ◌+◌, ◌*◌, ◌≤◌, List, [], ◌∷◌, Bool, true, false, Option, Some, None, inl, inr, arith, length}
 use Rattle.std.specs.Prelude.{cond, filter, nat_lt, not}
-use Rattle.kube_types.specs.declared.uid.Uid.{Uid}
-use Rattle.kube_types.specs.declared.parts.VolumePhase.{VolumePhase}
-use Rattle.kube_types.specs.declared.parts.VolumePhase.TheVariants as volumes
-use Rattle.kube_types.specs.declared.objects.Claim.{Claim as ClaimData}
-use Rattle.kube_types.specs.declared.objects.Pod.{Pod as PodData}
-use Rattle.kube_types.specs.declared.objects.Volume.{Volume as VolumeData}
-use Rattle.kube_types.specs.declared.objects.Object.{Object}
-use Rattle.kube_types.specs.declared.objects.Object.TheVariants.{Class, Node, Volume, Claim, Pod}
-use Rattle.kube_types.specs.Bindings.{is_available, is_completed, is_deleting, is_empty, is_protected_claim, is_protected_volume, is_scheduled, ref_uid}
-use Rattle.kube_types.specs.Keys.{row_at}
-use Rattle.kube_types.specs.Sources.{data_id_of}
+use Rattle.kube_parts.specs.declared.uid.Uid.{Uid}
+use Rattle.kube_parts.specs.declared.parts.VolumePhase.{VolumePhase}
+use Rattle.kube_parts.specs.declared.parts.VolumePhase.TheVariants as volumes
+use Rattle.kube_objects.specs.declared.objects.Claim.{Claim as ClaimData}
+use Rattle.kube_objects.specs.declared.objects.Pod.{Pod as PodData}
+use Rattle.kube_objects.specs.declared.objects.Volume.{Volume as VolumeData}
+use Rattle.kube_objects.specs.declared.objects.Object.{Object}
+use Rattle.kube_objects.specs.declared.objects.Object.TheVariants.{Class, Node, Volume, Claim, Pod}
+use Rattle.kube_objects.specs.Bindings.{is_available, is_completed, is_deleting, is_empty, is_protected_claim, is_protected_volume, is_scheduled, ref_uid}
+use Rattle.kube_objects.specs.Keys.{row_at}
+use Rattle.kube_objects.specs.Sources.{data_id_of}
 use Rattle.binder_model.specs.Devices.{Devices, has_data}
 use Rattle.binder_model.specs.Due.{is_pod_mounted}
 use Rattle.binder_model.specs.ObjectKeys.{volume_key}
 use Rattle.binder_model.specs.Provisioning.{data_name}
-use Rattle.settle_measure.specs.Left.Measure.{claim_left, claims_in, completed_left, guard_left, has_class, has_offer, is_awaited, is_held_by, is_lost, is_over, life_left, mount_left, object_left, open_left, phase_left, pod_left, pods_in, provision_left, seeking_left, stage_left, total, unless, volume_left, volumes_in, was_erased}
+use Rattle.settle_measure.specs.Left.Measure.{
+  claim_left,
+  claims_in,
+  completed_left,
+  guard_left,
+  has_class,
+  has_offer,
+  is_awaited,
+  is_held_by,
+  is_lost,
+  is_over,
+  life_left,
+  mount_left,
+  object_left,
+  open_left,
+  phase_left,
+  pod_left,
+  pods_in,
+  provision_left,
+  seeking_left,
+  stage_left,
+  total,
+  unless,
+  volume_left,
+  volumes_in,
+  was_erased,
+}
 use Rattle.settle_measure.specs.Left.Bounds.{CountsAreBounded, FallsAreShort, LeftIsBounded, MeasureIsBounded, RoundsFall}
 use Rattle.settle_measure.proofs.Left.Others.{away_most}
 

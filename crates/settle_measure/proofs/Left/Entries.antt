@@ -1,7 +1,7 @@
 -- What a write that was made does to the world.
 use Rattle.std.proofs.Common.{◌≡◌, ◌⊎◌, Some, inl, inr, refl, ap, subst}
-use Rattle.kube_types.specs.declared.objects.Object.{Object}
-use Rattle.kube_types.specs.Keys.{AreRows, key_of, put_row, without_row}
+use Rattle.kube_objects.specs.declared.objects.Object.{Object}
+use Rattle.kube_objects.specs.Keys.{AreRows, key_of, put_row, without_row}
 use Rattle.call_types.specs.declared.request.SeatKind.{SeatKind}
 use Rattle.call_types.specs.declared.request.Request.{Request}
 use Rattle.call_types.specs.declared.setup.Setup.{Setup}
@@ -39,5 +39,6 @@ came_so setup w kind request (OnStore (Removes p)) o f e =
 came_so setup w kind request (OnDevices a) o f e = none_some e
 came_so setup w kind request (SetsMoment at) o f e = none_some e
 
-pub came : (setup : Setup) (w : World) (kind : SeatKind) (request : Request) (o : Object) → AreRows w.store.rows → written_by (effect setup w kind request) ≡ Some o → Came w kind request (effect setup w kind request) o
+pub came : (setup : Setup) (w : World) (kind : SeatKind) (request : Request) (o : Object) → AreRows w.store.rows
+    → written_by (effect setup w kind request) ≡ Some o → Came w kind request (effect setup w kind request) o
 came setup w kind request o order e = came_so setup w kind request (effect setup w kind request) o (effect_form setup w kind request order) e

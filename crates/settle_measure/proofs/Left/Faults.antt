@@ -36,4 +36,5 @@ one_fewer n (f ∷ fs) e = by (f == n + 1) (nat_lt (n + 1) f) (nat_lt n f) refl 
     by false false false ep ea eb e rest less = rest e
 
 pub back_fault_pays : BackFaultPays
-back_fault_pays setup before after calls planned = let h = one_fewer before.calls setup.faults planned in subst (λ n. length (filter (λ f. nat_lt n f) setup.faults) + 1 ≤ length (filter (λ f. nat_lt before.calls f) setup.faults)) (sym calls) h
+back_fault_pays setup before after calls planned = let h = one_fewer before.calls setup.faults planned in
+    subst (λ n. length (filter (λ f. nat_lt n f) setup.faults) + 1 ≤ length (filter (λ f. nat_lt before.calls f) setup.faults)) (sym calls) h

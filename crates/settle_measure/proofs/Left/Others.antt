@@ -2,26 +2,48 @@
 use Rattle.std.proofs.Common.{◌≡◌, ◌≢◌, ◌∙◌, ◌⊎◌, ℕ, ◌+◌, ◌≤◌, List, [], ◌∷◌, Bool, true, false, true≢false, Option, Some, None, inl, inr, refl, sym, ap, subst, arith}
 use Rattle.std.specs.Prelude.{cond, not, ◌&&◌, ◌||◌}
 use Rattle.std.specs.List.{list_any}
-use Rattle.kube_types.specs.declared.uid.Uid.{Uid}
-use Rattle.kube_types.specs.declared.key.Key.{Key}
-use Rattle.kube_types.specs.declared.parts.VolumePhase.{VolumePhase}
-use Rattle.kube_types.specs.declared.parts.VolumePhase.TheVariants as volumes
-use Rattle.kube_types.specs.declared.objects.Ref.{Ref}
-use Rattle.kube_types.specs.declared.objects.Claim.{Claim as ClaimData}
-use Rattle.kube_types.specs.declared.objects.Volume.{Volume as VolumeData}
-use Rattle.kube_types.specs.declared.objects.Object.{Object}
-use Rattle.kube_types.specs.declared.objects.Object.TheVariants.{Volume}
-use Rattle.kube_types.specs.Bindings.{carries, is_bound, is_completed, is_deleting, is_empty, is_ended, ref_uid}
-use Rattle.kube_types.specs.Keys.{AreRows, key_of, kind_index, put_row, row_at, without_row}
-use Rattle.kube_types.specs.Sources.{data_id_of}
-use Rattle.kube_types.proofs.KeyOrder.{row_at-put_row, row_at-put_row_other, row_at-without_row_other}
-use Rattle.kube_types.proofs.SameKeys.{key_tells}
+use Rattle.kube_parts.specs.declared.uid.Uid.{Uid}
+use Rattle.kube_objects.specs.declared.key.Key.{Key}
+use Rattle.kube_parts.specs.declared.parts.VolumePhase.{VolumePhase}
+use Rattle.kube_parts.specs.declared.parts.VolumePhase.TheVariants as volumes
+use Rattle.kube_objects.specs.declared.objects.Ref.{Ref}
+use Rattle.kube_objects.specs.declared.objects.Claim.{Claim as ClaimData}
+use Rattle.kube_objects.specs.declared.objects.Volume.{Volume as VolumeData}
+use Rattle.kube_objects.specs.declared.objects.Object.{Object}
+use Rattle.kube_objects.specs.declared.objects.Object.TheVariants.{Volume}
+use Rattle.kube_objects.specs.Bindings.{carries, is_bound, is_completed, is_deleting, is_empty, is_ended, ref_uid}
+use Rattle.kube_objects.specs.Keys.{AreRows, key_of, kind_index, put_row, row_at, without_row}
+use Rattle.kube_objects.specs.Sources.{data_id_of}
+use Rattle.kube_objects.proofs.KeyOrder.{row_at-put_row, row_at-put_row_other, row_at-without_row_other}
+use Rattle.kube_objects.proofs.SameKeys.{key_tells}
 use Rattle.binder_model.specs.BindWrites.{shows_bound}
 use Rattle.binder_model.specs.ObjectKeys.{claim_key, volume_key}
 use Rattle.binder_model.specs.Devices.{Devices, has_data}
 use Rattle.binder_model.specs.Provisioning.{data_name}
 use Rattle.model_laws.proofs.Lists.{IsIn, one}
-use Rattle.settle_measure.specs.Left.Measure.{binding_left, carried_left, claim_left, completed_left, has_offer, holds, offers, offers_claim, is_awaited, is_held_by, is_lost, is_over, life_left, open_left, provision_left, seeking_left, seeks, stage_left, unless, volume_left, was_erased}
+use Rattle.settle_measure.specs.Left.Measure.{
+  binding_left,
+  carried_left,
+  claim_left,
+  completed_left,
+  has_offer,
+  holds,
+  offers,
+  offers_claim,
+  is_awaited,
+  is_held_by,
+  is_lost,
+  is_over,
+  life_left,
+  open_left,
+  provision_left,
+  seeking_left,
+  seeks,
+  stage_left,
+  unless,
+  volume_left,
+  was_erased,
+}
 use Rattle.settle_measure.proofs.Left.Sums.{found_in, stands}
 
 pub unless_less : (b c : Bool) (n : ℕ) → (b ≡ true → c ≡ true) → unless c n ≤ unless b n
@@ -58,7 +80,8 @@ any_found p (x ∷ xs) e = by (p x) refl e (any_found p xs)
 
 -- what a claim needs of the rows is there after it was there before
 pub record AsGood (rows rows_after : List Object) (c : ClaimData) : Type 0 where
-  pub held : is_completed c ≡ false → is_deleting c.meta ≡ false → (k : Key) → (is_empty c.volume_name ≡ true) ⊎ (k ≡ volume_key c.volume_name) → is_held_by c (row_at k rows) ≡ true → is_held_by c (row_at k rows_after) ≡ true
+  pub held : is_completed c ≡ false → is_deleting c.meta ≡ false → (k : Key) → (is_empty c.volume_name ≡ true) ⊎ (k ≡ volume_key c.volume_name)
+      → is_held_by c (row_at k rows) ≡ true → is_held_by c (row_at k rows_after) ≡ true
   pub holder : is_completed c ≡ false → is_deleting c.meta ≡ false → is_empty c.volume_name ≡ true → has_offer rows c ≡ true → has_offer rows_after c ≡ true
   pub done : is_completed c ≡ true → completed_left c (row_at (volume_key c.volume_name) rows_after) ≤ completed_left c (row_at (volume_key c.volume_name) rows)
 
@@ -73,27 +96,33 @@ provision_less rows rows_after d devices_after c (Some uid) stay held =
     let b = unless_less (has_data d (data_name uid)) (has_data devices_after (data_name uid)) 1 (stay (data_name uid)) in
     omega (arith, a, b)
 
-open_less : (rows rows_after : List Object) (d devices_after : Devices) (c : ClaimData) → DataStay d devices_after → AsGood rows rows_after c → is_completed c ≡ false → is_deleting c.meta ≡ false → open_left rows_after devices_after c ≤ open_left rows d c
+open_less : (rows rows_after : List Object) (d devices_after : Devices) (c : ClaimData) → DataStay d devices_after → AsGood rows rows_after c
+    → is_completed c ≡ false → is_deleting c.meta ≡ false → open_left rows_after devices_after c ≤ open_left rows d c
 open_less rows rows_after d devices_after c stay good open_ staying = by (is_empty c.volume_name) refl
   where
     by : (b : Bool) → is_empty c.volume_name ≡ b
-        → cond b (seeking_left rows_after devices_after c) (unless (is_held_by c (row_at (volume_key c.volume_name) rows_after)) 4) ≤ cond b (seeking_left rows d c) (unless (is_held_by c (row_at (volume_key c.volume_name) rows)) 4)
+        → cond b (seeking_left rows_after devices_after c) (unless (is_held_by c (row_at (volume_key c.volume_name) rows_after)) 4) ≤ cond b
+        (seeking_left rows d c) (unless (is_held_by c (row_at (volume_key c.volume_name) rows)) 4)
     by true e =
         let a = unless_less (has_offer rows c) (has_offer rows_after c) 4 (good.holder open_ staying e) in
         let b = provision_less rows rows_after d devices_after c c.meta.uid stay (λ k. good.held open_ staying k (inl e)) in
         omega (arith, a, b)
-    by false e = unless_less (is_held_by c (row_at (volume_key c.volume_name) rows)) (is_held_by c (row_at (volume_key c.volume_name) rows_after)) 4 (good.held open_ staying (volume_key c.volume_name) (inr refl))
+    by false e = unless_less (is_held_by c (row_at (volume_key c.volume_name) rows)) (is_held_by c (row_at (volume_key c.volume_name) rows_after)) 4
+        (good.held open_ staying (volume_key c.volume_name) (inr refl))
 
-pub binding_less : (rows rows_after : List Object) (d devices_after : Devices) (c : ClaimData) → DataStay d devices_after → AsGood rows rows_after c → binding_left rows_after devices_after c ≤ binding_left rows d c
+pub binding_less : (rows rows_after : List Object) (d devices_after : Devices) (c : ClaimData) → DataStay d devices_after → AsGood rows rows_after c
+    → binding_left rows_after devices_after c ≤ binding_left rows d c
 binding_less rows rows_after d devices_after c stay good = by (is_completed c) (is_deleting c.meta) refl refl
   where
     by : (a b : Bool) → is_completed c ≡ a → is_deleting c.meta ≡ b
-        → cond a (completed_left c (row_at (volume_key c.volume_name) rows_after)) (unless b (2 + open_left rows_after devices_after c)) ≤ cond a (completed_left c (row_at (volume_key c.volume_name) rows)) (unless b (2 + open_left rows d c))
+        → cond a (completed_left c (row_at (volume_key c.volume_name) rows_after)) (unless b (2 + open_left rows_after devices_after c)) ≤ cond a
+        (completed_left c (row_at (volume_key c.volume_name) rows)) (unless b (2 + open_left rows d c))
     by true b ea eb = good.done ea
     by false true ea eb = omega arith
     by false false ea eb = let h = open_less rows rows_after d devices_after c stay good ea eb in omega (arith, h)
 
-pub claim_less : (rows rows_after : List Object) (d devices_after : Devices) (c : ClaimData) → DataStay d devices_after → AsGood rows rows_after c → claim_left rows_after devices_after c ≤ claim_left rows d c
+pub claim_less : (rows rows_after : List Object) (d devices_after : Devices) (c : ClaimData) → DataStay d devices_after → AsGood rows rows_after c
+    → claim_left rows_after devices_after c ≤ claim_left rows d c
 claim_less rows rows_after d devices_after c stay good = let h = binding_less rows rows_after d devices_after c stay good in omega (arith, h)
 
 -- a completed claim that its volume carries
@@ -150,7 +179,8 @@ life_less : (a o b c : Bool) → (b ≡ true → c ≡ true) → life_left a o c
 life_less true o b c h = omega arith
 life_less false o b c h = let n = unless_less b c 2 h in omega (arith, n)
 
-pub volume_less : (rows rows_after : List Object) (d devices_after : Devices) (v : VolumeData) → NoneSeeks rows rows_after → ErasedStay d devices_after v → volume_left rows_after devices_after v ≤ volume_left rows d v
+pub volume_less : (rows rows_after : List Object) (d devices_after : Devices) (v : VolumeData) → NoneSeeks rows rows_after
+    → ErasedStay d devices_after v → volume_left rows_after devices_after v ≤ volume_left rows d v
 volume_less rows rows_after d devices_after v none erased =
     let a = stage_less (is_awaited rows_after v.claim_ref) (is_awaited rows v.claim_ref) v (ref_uid v.claim_ref) (awaited_less rows rows_after none v.claim_ref) in
     let b = life_less (is_deleting v.meta) (is_over (ref_uid v.claim_ref) v.phase) (was_erased (data_id_of v.source) d.stored) (was_erased (data_id_of v.source) devices_after.stored) erased in
@@ -176,7 +206,8 @@ pub record Harmless (v new : VolumeData) (c : ClaimData) : Type 0 where
   pub offered : is_completed c ≡ false → is_deleting c.meta ≡ false → is_empty c.volume_name ≡ true → offers v c ≡ true → offers new c ≡ true
   pub done : is_completed c ≡ true → key_of (Volume v) ≡ volume_key c.volume_name → completed_left c (Some (Volume new)) ≤ completed_left c (Some (Volume v))
 
-module _ (v new : VolumeData) (rows : List Object) (order : AreRows rows) (same : key_of (Volume new) ≡ key_of (Volume v)) (there : row_at (key_of (Volume v)) rows ≡ Some (Volume v)) (c : ClaimData) (safe : Harmless v new c) where
+module _ (v new : VolumeData) (rows : List Object) (order : AreRows rows) (same : key_of (Volume new) ≡ key_of (Volume v))
+    (there : row_at (key_of (Volume v)) rows ≡ Some (Volume v)) (c : ClaimData) (safe : Harmless v new c) where
   put_here : (k : Key) → key_of (Volume v) ≡ k → row_at k (put_row (Volume new) rows) ≡ Some (Volume new)
   put_here k e = ap (λ j. row_at j (put_row (Volume new) rows)) (sym e ∙ sym same) ∙ row_at-put_row (Volume new) rows
 
@@ -186,7 +217,8 @@ module _ (v new : VolumeData) (rows : List Object) (order : AreRows rows) (same 
   put_else : (k : Key) → key_of (Volume v) ≢ k → row_at k (put_row (Volume new) rows) ≡ row_at k rows
   put_else k differs = row_at-put_row_other k (Volume new) rows (λ e. differs (sym same ∙ e))
 
-  keeps_held : is_completed c ≡ false → is_deleting c.meta ≡ false → (k : Key) → (is_empty c.volume_name ≡ true) ⊎ (k ≡ volume_key c.volume_name) → is_held_by c (row_at k rows) ≡ true → is_held_by c (row_at k (put_row (Volume new) rows)) ≡ true
+  keeps_held : is_completed c ≡ false → is_deleting c.meta ≡ false → (k : Key) → (is_empty c.volume_name ≡ true) ⊎ (k ≡ volume_key c.volume_name)
+      → is_held_by c (row_at k rows) ≡ true → is_held_by c (row_at k (put_row (Volume new) rows)) ≡ true
   keeps_held open_ staying k which e = by (key_tells (key_of (Volume v)) k)
     where
       with_key : key_of (Volume v) ≡ k → (is_empty c.volume_name ≡ true) ⊎ (k ≡ volume_key c.volume_name) → (is_empty c.volume_name ≡ true) ⊎ (key_of (Volume v) ≡ volume_key c.volume_name)
@@ -205,7 +237,8 @@ module _ (v new : VolumeData) (rows : List Object) (order : AreRows rows) (same 
       by : (o : Object) → row_at (key_of o) rows ≡ Some o → offers_claim c o ≡ true → (key_of (Volume v) ≡ key_of o) ⊎ (key_of (Volume v) ≢ key_of o) → has_offer (put_row (Volume new) rows) c ≡ true
       by o at passes (inl is) =
           let e : o ≡ Volume v = one o (Volume v) (sym at ∙ was_here (key_of o) is) in
-          any_in (offers_claim c) (Volume new) (put_row (Volume new) rows) (found_in (key_of o) _ (Volume new) (put_here (key_of o) is)) (safe.offered open_ staying empty (sym (ap (offers_claim c) e) ∙ passes))
+          any_in (offers_claim c) (Volume new) (put_row (Volume new) rows) (found_in (key_of o) _ (Volume new) (put_here (key_of o) is))
+          (safe.offered open_ staying empty (sym (ap (offers_claim c) e) ∙ passes))
       by o at passes (inr differs) = any_in (offers_claim c) o (put_row (Volume new) rows) (found_in (key_of o) _ o (put_else (key_of o) differs ∙ at)) passes
 
   keeps_done : is_completed c ≡ true → completed_left c (row_at (volume_key c.volume_name) (put_row (Volume new) rows)) ≤ completed_left c (row_at (volume_key c.volume_name) rows)
@@ -219,7 +252,8 @@ module _ (v new : VolumeData) (rows : List Object) (order : AreRows rows) (same 
           let h = safe.done completed is in
           omega (arith, a, b, h)
       by (inr differs) =
-          let a : completed_left c (row_at (volume_key c.volume_name) (put_row (Volume new) rows)) ≡ completed_left c (row_at (volume_key c.volume_name) rows) = ap (completed_left c) (put_else _ differs) in
+          let a : completed_left c (row_at (volume_key c.volume_name) (put_row (Volume new) rows)) ≡ completed_left c
+          (row_at (volume_key c.volume_name) rows) = ap (completed_left c) (put_else _ differs) in
           omega (arith, a)
 
   pub as_good_put : AsGood rows (put_row (Volume new) rows) c

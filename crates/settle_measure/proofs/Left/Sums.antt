@@ -6,11 +6,11 @@ use Rattle.std.specs.declared.cmp.Ordering.TheVariants.{Less, Equal, Greater}
 use Rattle.std.specs.Ordering.{is_eq, match_ordering}
 use Rattle.plain_data.specs.Rows.{IsAfter}
 use Rattle.plain_data.proofs.RowFacts.{find_gap}
-use Rattle.kube_types.specs.declared.key.Key.{Key}
-use Rattle.kube_types.specs.declared.objects.Object.{Object}
-use Rattle.kube_types.specs.Keys.{AreRows, key_cmp, key_of, put_row, row_at, same_key, without_row}
-use Rattle.kube_types.proofs.KeyOrder.{equal_keys, key_cmp_total}
-use Rattle.kube_types.proofs.SameKeys.{same_key-Decides, same_key_itself, same_key_ordered}
+use Rattle.kube_objects.specs.declared.key.Key.{Key}
+use Rattle.kube_objects.specs.declared.objects.Object.{Object}
+use Rattle.kube_objects.specs.Keys.{AreRows, key_cmp, key_of, put_row, row_at, same_key, without_row}
+use Rattle.kube_objects.proofs.KeyOrder.{equal_keys, key_cmp_total}
+use Rattle.kube_objects.proofs.SameKeys.{same_key-Decides, same_key_itself, same_key_ordered}
 use Rattle.model_laws.proofs.Lists.{IsIn, none_some, one}
 use Rattle.settle_measure.specs.Left.Measure.{total}
 

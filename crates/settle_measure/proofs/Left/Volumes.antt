@@ -1,20 +1,21 @@
 -- A write of one volume: what is then left to do.
 use Rattle.std.proofs.Common.{◌≡◌, ◌∙◌, ℕ, ◌+◌, ◌≤◌, List, [], Bool, true, false, Some, refl, ap, arith}
 use Rattle.std.specs.Prelude.{cond}
-use Rattle.kube_types.specs.declared.objects.Claim.{Claim as ClaimData}
-use Rattle.kube_types.specs.declared.objects.Volume.{Volume as VolumeData}
-use Rattle.kube_types.specs.declared.objects.Object.{Object}
-use Rattle.kube_types.specs.declared.objects.Object.TheVariants.{Class, Node, Volume, Claim, Pod}
-use Rattle.kube_types.specs.Keys.{AreRows, key_of, put_row, row_at, same_key}
+use Rattle.kube_objects.specs.declared.objects.Claim.{Claim as ClaimData}
+use Rattle.kube_objects.specs.declared.objects.Volume.{Volume as VolumeData}
+use Rattle.kube_objects.specs.declared.objects.Object.{Object}
+use Rattle.kube_objects.specs.declared.objects.Object.TheVariants.{Class, Node, Volume, Claim, Pod}
+use Rattle.kube_objects.specs.Keys.{AreRows, key_of, put_row, row_at, same_key}
 use Rattle.binder_model.specs.ObjectKeys.{claim_key}
 use Rattle.binder_model.specs.Devices.{Devices}
-use Rattle.kube_types.proofs.SameKeys.{same_key-Decides}
+use Rattle.kube_objects.proofs.SameKeys.{same_key-Decides}
 use Rattle.model_laws.proofs.Lists.{IsIn}
 use Rattle.settle_measure.specs.Left.Measure.{claim_left, left_on, object_left, volume_left}
 use Rattle.settle_measure.proofs.Left.Sums.{Pays, one_pays, paid_at, put_falls}
 use Rattle.settle_measure.proofs.Left.Others.{Harmless, as_good_put, claim_less, volume_less, volume_puts_no_claim}
 
-module _ (rows : List Object) (d : Devices) (order : AreRows rows) (v new : VolumeData) (same : key_of (Volume new) ≡ key_of (Volume v)) (there : row_at (key_of (Volume v)) rows ≡ Some (Volume v)) where
+module _ (rows : List Object) (d : Devices) (order : AreRows rows) (v new : VolumeData) (same : key_of (Volume new) ≡ key_of (Volume v))
+    (there : row_at (key_of (Volume v)) rows ≡ Some (Volume v)) where
   after_put : List Object
   after_put = put_row (Volume new) rows
 
@@ -40,7 +41,8 @@ module _ (rows : List Object) (d : Devices) (order : AreRows rows) (v new : Volu
   pub volume_put_paid : (namespace name : List ℕ) (n : ℕ) (payer : Object) → row_at (claim_key namespace name) rows ≡ Some payer → AllHarmless → ClaimPays namespace name n
       → left_on (put_row (Volume new) rows) d + volume_left rows d v + n ≤ left_on rows d + volume_left rows d new
   volume_put_paid namespace name n payer standing safe pay =
-      let sums = put_falls (object_left rows d) (object_left (put_row (Volume new) rows) d) (paid_at (claim_key namespace name) n) (Volume new) (Volume v) rows order (ap (λ k. row_at k rows) same ∙ there) (λ o i differs. each_pays namespace name n safe pay o i) in
+      let sums = put_falls (object_left rows d) (object_left (put_row (Volume new) rows) d) (paid_at (claim_key namespace name) n) (Volume new)
+      (Volume v) rows order (ap (λ k. row_at k rows) same ∙ there) (λ o i differs. each_pays namespace name n safe pay o i) in
       let paid = one_pays (claim_key namespace name) n payer rows standing in
       let mine = volume_less rows (put_row (Volume new) rows) d d new (volume_puts_no_claim new rows) (λ e. e) in
       omega (arith, sums, paid, mine)
@@ -48,6 +50,7 @@ module _ (rows : List Object) (d : Devices) (order : AreRows rows) (v new : Volu
   pub volume_put : AllHarmless → left_on (put_row (Volume new) rows) d + volume_left rows d v ≤ left_on rows d + volume_left rows d new
   volume_put safe =
       let sums = put_falls (object_left rows d) (object_left (put_row (Volume new) rows) d) (paid_at (claim_key [] []) 0) (Volume new) (Volume v) rows order (ap (λ k. row_at k rows) same ∙ there)
-      (λ o i differs. each_pays [] [] 0 safe (λ c j e. let h = claim_less rows (put_row (Volume new) rows) d d c (λ name e. e) (as_good_put v new rows order same there c (safe c j)) in omega (arith, h)) o i) in
+      (λ o i differs. each_pays [] [] 0 safe (λ c j e. let h = claim_less rows (put_row (Volume new) rows) d d c (λ name e. e)
+      (as_good_put v new rows order same there c (safe c j)) in omega (arith, h)) o i) in
       let mine = volume_less rows (put_row (Volume new) rows) d d new (volume_puts_no_claim new rows) (λ e. e) in
       omega (arith, sums, mine)

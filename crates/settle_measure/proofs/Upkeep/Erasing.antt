@@ -4,17 +4,17 @@ use Rattle.std.specs.Prelude.{bytes_eq, cond, not, ◌&&◌, ◌||◌}
 use Rattle.std.specs.List.{list_any}
 use Rattle.std.proofs.lemmas.Bool.{and_parts, or_left, or_parts, or_right}
 use Rattle.std.proofs.lemmas.Slice.Eq.{bytes_eq-Decides}
-use Rattle.kube_types.specs.declared.uid.Uid.{Uid}
-use Rattle.kube_types.specs.declared.objects.DataId.{DataId}
-use Rattle.kube_types.specs.declared.objects.Claim.{Claim as ClaimData}
-use Rattle.kube_types.specs.declared.objects.Pod.{Pod as PodData}
-use Rattle.kube_types.specs.declared.objects.Volume.{Volume as VolumeData}
-use Rattle.kube_types.specs.declared.objects.Object.{Object}
-use Rattle.kube_types.specs.declared.objects.Object.TheVariants.{Class, Node, Volume, Claim, Pod}
-use Rattle.kube_types.specs.Bindings.{is_completed, is_deleting, is_empty, is_protected_claim, is_scheduled}
-use Rattle.kube_types.specs.Keys.{AreRows, key_of, row_at, same_key}
-use Rattle.kube_types.specs.Sources.{data_id_of}
-use Rattle.kube_types.proofs.SameKeys.{same_key-Decides}
+use Rattle.kube_parts.specs.declared.uid.Uid.{Uid}
+use Rattle.kube_objects.specs.declared.objects.DataId.{DataId}
+use Rattle.kube_objects.specs.declared.objects.Claim.{Claim as ClaimData}
+use Rattle.kube_objects.specs.declared.objects.Pod.{Pod as PodData}
+use Rattle.kube_objects.specs.declared.objects.Volume.{Volume as VolumeData}
+use Rattle.kube_objects.specs.declared.objects.Object.{Object}
+use Rattle.kube_objects.specs.declared.objects.Object.TheVariants.{Class, Node, Volume, Claim, Pod}
+use Rattle.kube_objects.specs.Bindings.{is_completed, is_deleting, is_empty, is_protected_claim, is_scheduled}
+use Rattle.kube_objects.specs.Keys.{AreRows, key_of, row_at, same_key}
+use Rattle.kube_objects.specs.Sources.{data_id_of}
+use Rattle.kube_objects.proofs.SameKeys.{same_key-Decides}
 use Rattle.call_types.specs.declared.reply.Reply.{Reply}
 use Rattle.call_types.specs.declared.reply.Reply.TheVariants.{Erased, Refused}
 use Rattle.call_types.specs.declared.reply.Refusal.TheVariants.{BackFault}
@@ -25,7 +25,23 @@ use Rattle.binder_model.specs.ObjectKeys.{volume_key}
 use Rattle.binder_model.specs.Provisioning.{data_name}
 use Rattle.binder_model.specs.Due.{is_pod_uid_mounted}
 use Rattle.model_laws.proofs.Lists.{IsIn, one}
-use Rattle.settle_measure.specs.Left.Measure.{claim_left, completed_left, has_class, has_offer, mount_left, guard_left, is_held_by, left_of, object_left, pod_left, provision_left, total, unless, volume_left, was_erased}
+use Rattle.settle_measure.specs.Left.Measure.{
+  claim_left,
+  completed_left,
+  has_class,
+  has_offer,
+  mount_left,
+  guard_left,
+  is_held_by,
+  left_of,
+  object_left,
+  pod_left,
+  provision_left,
+  total,
+  unless,
+  volume_left,
+  was_erased,
+}
 use Rattle.settle_measure.specs.Upkeep.Pays.{ErasePays, EraseStays, is_data_name}
 use Rattle.settle_measure.proofs.Left.Aside.{devices_total}
 use Rattle.settle_measure.proofs.Upkeep.Provisions.{all_provision}
@@ -117,7 +133,8 @@ none_more name (Claim c ∷ os) none = by (is_data_name name c.meta.uid) (none c
     by true f h = absurd (f refl)
     by false f h = omega (arith, h)
 
-pub one_more : (name : List ℕ) (rows : List Object) → AreRows rows → ((c e : ClaimData) → IsIn (Claim c) rows → IsIn (Claim e) rows → is_data_name name c.meta.uid ≡ true → is_data_name name e.meta.uid ≡ true → key_of (Claim c) ≡ key_of (Claim e))
+pub one_more : (name : List ℕ) (rows : List Object) → AreRows rows
+    → ((c e : ClaimData) → IsIn (Claim c) rows → IsIn (Claim e) rows → is_data_name name c.meta.uid ≡ true → is_data_name name e.meta.uid ≡ true → key_of (Claim c) ≡ key_of (Claim e))
     → total (lost_by name) rows ≤ 1
 one_more name [] order owner = omega arith
 one_more name (Class x ∷ os) order owner = let h = one_more name os order.1 (λ c e i j. owner c e (inr i) (inr j)) in omega (arith, h)
@@ -132,18 +149,21 @@ one_more name (Claim c ∷ os) order owner = by (is_data_name name c.meta.uid) r
 
 -- what a claim may lose
 
-pub claim_up : (rows : List Object) (d devices_after : Devices) (c : ClaimData) (k : ℕ) → provision_left rows devices_after c c.meta.uid ≤ provision_left rows d c c.meta.uid + k → claim_left rows devices_after c ≤ claim_left rows d c + k
+pub claim_up : (rows : List Object) (d devices_after : Devices) (c : ClaimData) (k : ℕ)
+    → provision_left rows devices_after c c.meta.uid ≤ provision_left rows d c c.meta.uid + k → claim_left rows devices_after c ≤ claim_left rows d c + k
 claim_up rows d devices_after c k up =
     by (is_completed c) (is_deleting c.meta) (is_empty c.volume_name) (completed_left c (row_at (volume_key c.volume_name) rows)) (unless (has_class c) 1) (unless (has_offer rows c) 4)
     (unless (is_held_by c (row_at (volume_key c.volume_name) rows)) 4) (guard_left (is_deleting c.meta) (is_protected_claim c))
   where
-    by : (a b e : Bool) (m x y n g : ℕ) → cond a m (unless b (2 + cond e (x + (y + provision_left rows devices_after c c.meta.uid)) n)) + g ≤ cond a m (unless b (2 + cond e (x + (y + provision_left rows d c c.meta.uid)) n)) + g + k
+    by : (a b e : Bool) (m x y n g : ℕ) → cond a m (unless b (2 + cond e (x + (y + provision_left rows devices_after c c.meta.uid)) n)) + g ≤ cond a
+        m (unless b (2 + cond e (x + (y + provision_left rows d c c.meta.uid)) n)) + g + k
     by true b e m x y n g = omega arith
     by false true e m x y n g = omega arith
     by false false true m x y n g = omega (arith, up)
     by false false false m x y n g = omega arith
 
-pub provision_up : (rows : List Object) (d devices_after : Devices) (c : ClaimData) (name : List ℕ) (u : Option Uid) → ((other : List ℕ) → bytes_eq other name ≡ false → has_data d other ≡ true → has_data devices_after other ≡ true)
+pub provision_up : (rows : List Object) (d devices_after : Devices) (c : ClaimData) (name : List ℕ) (u : Option Uid)
+    → ((other : List ℕ) → bytes_eq other name ≡ false → has_data d other ≡ true → has_data devices_after other ≡ true)
     → provision_left rows devices_after c u ≤ provision_left rows d c u + (if is_data_name name u then 1 else 0)
 provision_up rows d devices_after c name None kept = omega arith
 provision_up rows d devices_after c name (Some uid) kept = by (bytes_eq (data_name uid) name) refl
@@ -153,19 +173,22 @@ provision_up rows d devices_after c name (Some uid) kept = by (bytes_eq (data_na
     small false = omega arith
 
     by : (b : Bool) → bytes_eq (data_name uid) name ≡ b
-        → unless (is_held_by c (row_at (volume_key (data_name uid)) rows)) 8 + unless (has_data devices_after (data_name uid)) 1 ≤ unless (is_held_by c (row_at (volume_key (data_name uid)) rows)) 8 + unless (has_data d (data_name uid)) 1 + cond b 1 0
+        → unless (is_held_by c (row_at (volume_key (data_name uid)) rows)) 8 + unless (has_data devices_after (data_name uid)) 1 ≤ unless
+        (is_held_by c (row_at (volume_key (data_name uid)) rows)) 8 + unless (has_data d (data_name uid)) 1 + cond b 1 0
     by true e = let h = small (has_data devices_after (data_name uid)) in omega (arith, h)
     by false e = let h = unless_less (has_data d (data_name uid)) (has_data devices_after (data_name uid)) 1 (kept (data_name uid) e) in omega (arith, h)
 
 pub pods_same : (d devices_after : Devices) → devices_after.mounts ≡ d.mounts → (p : PodData) → pod_left devices_after p ≡ pod_left d p
 pods_same d devices_after same p = by p.meta.uid
   where
-    by : (u : Option Uid) → (if is_scheduled p then mount_left (is_deleting p.meta) (is_pod_uid_mounted devices_after p.node u) else 4) ≡ (if is_scheduled p then mount_left (is_deleting p.meta) (is_pod_uid_mounted d p.node u) else 4)
+    by : (u : Option Uid) → (if is_scheduled p then mount_left (is_deleting p.meta) (is_pod_uid_mounted devices_after p.node u) else 4) ≡ (if
+        is_scheduled p then mount_left (is_deleting p.meta) (is_pod_uid_mounted d p.node u) else 4)
     by None = refl
     by (Some uid) = ap (λ m. if is_scheduled p then mount_left (is_deleting p.meta) (is_mounted_on p.node uid m) else 4) same
 
 -- the erased volume falls by 2
-volume_falls : (rows : List Object) (d devices_after : Devices) (v : VolumeData) → is_deleting v.meta ≡ false → was_erased (data_id_of v.source) d.stored ≡ false → was_erased (data_id_of v.source) devices_after.stored ≡ true
+volume_falls : (rows : List Object) (d devices_after : Devices) (v : VolumeData) → is_deleting v.meta ≡ false
+    → was_erased (data_id_of v.source) d.stored ≡ false → was_erased (data_id_of v.source) devices_after.stored ≡ true
     → volume_left rows devices_after v + 2 ≤ volume_left rows d v
 volume_falls rows d devices_after v staying before now = rw (staying, before, now) (omega arith)
 
@@ -192,7 +215,8 @@ erase_pays setup w v name a removed order there staying has fresh only e reply =
       where
         by : (b : Bool) → same_key (key_of (Volume u)) (key_of (Volume v)) ≡ b → volume_left w.store.rows a.devices u + cond b 2 0 ≤ volume_left w.store.rows w.devices u
         by true k =
-            let is : u ≡ v = volume_of u v (one (Volume u) (Volume v) (sym (stands w.store.rows order (Volume u) i) ∙ ap (λ j. row_at j w.store.rows) ((same_key-Decides (key_of (Volume u)) (key_of (Volume v))).0 k) ∙ there)) in
+            let is : u ≡ v = volume_of u v (one (Volume u) (Volume v)
+            (sym (stands w.store.rows order (Volume u) i) ∙ ap (λ j. row_at j w.store.rows) ((same_key-Decides (key_of (Volume u)) (key_of (Volume v))).0 k) ∙ there)) in
             subst (λ z. volume_left w.store.rows a.devices z + 2 ≤ volume_left w.store.rows w.devices z) (sym is) (volume_falls w.store.rows w.devices a.devices v staying fresh now)
         by false k = let h = volume_less w.store.rows w.store.rows w.devices a.devices u (λ namespace n h. h) (stay u) in omega (arith, h)
 
@@ -201,9 +225,11 @@ erase_pays setup w v name a removed order there staying has fresh only e reply =
     each (Node y) i = omega arith
     each (Volume u) i = let h = volume_pays u i in omega (arith, h)
     each (Pod p) i = let h = pods_same w.devices a.devices x.mounts p in omega (arith, h)
-    each (Claim c) i = let h = claim_up w.store.rows w.devices a.devices c (if is_data_name name c.meta.uid then 1 else 0) (provision_up w.store.rows w.devices a.devices c name c.meta.uid kept) in omega (arith, h)
+    each (Claim c) i = let h = claim_up w.store.rows w.devices a.devices c (if is_data_name name c.meta.uid then 1 else 0) (provision_up w.store.rows
+        w.devices a.devices c name c.meta.uid kept) in omega (arith, h)
 
-    sums : total (object_left w.store.rows a.devices) w.store.rows + total (paid_at (key_of (Volume v)) 2) w.store.rows ≤ total (λ o. object_left w.store.rows w.devices o + lost_by name o) w.store.rows
+    sums : total (object_left w.store.rows a.devices) w.store.rows + total (paid_at (key_of (Volume v)) 2) w.store.rows ≤ total
+        (λ o. object_left w.store.rows w.devices o + lost_by name o) w.store.rows
     sums = falls (λ o. object_left w.store.rows w.devices o + lost_by name o) (object_left w.store.rows a.devices) (paid_at (key_of (Volume v)) 2) w.store.rows each
 
     most : total (lost_by name) w.store.rows ≤ 1

@@ -4,19 +4,34 @@ use Rattle.std.specs.Prelude.{bytes_eq, cond, not, ◌&&◌, ◌||◌, is_some}
 use Rattle.std.specs.List.{list_any}
 use Rattle.std.proofs.lemmas.Bool.{and_parts}
 use Rattle.std.proofs.lemmas.Slice.Eq.{bytes_eq-Decides}
-use Rattle.kube_types.specs.declared.uid.Uid.{Uid}
-use Rattle.kube_types.specs.declared.names.Due.{Due}
-use Rattle.kube_types.specs.declared.names.Due.TheVariants as dues
-use Rattle.kube_types.specs.declared.parts.VolumePhase.{VolumePhase}
-use Rattle.kube_types.specs.declared.parts.VolumePhase.TheVariants as volumes
-use Rattle.kube_types.specs.declared.objects.Ref.{Ref}
-use Rattle.kube_types.specs.declared.objects.Claim.{Claim as ClaimData}
-use Rattle.kube_types.specs.declared.objects.Volume.{Volume as VolumeData}
-use Rattle.kube_types.specs.declared.objects.Object.TheVariants.{Volume, Claim}
-use Rattle.kube_types.specs.Bindings.{carries, has_name, is_bound, is_completed, is_deleting, is_delete, is_ended, is_protected_claim, is_protected_volume, pv_protection, pvc_protection, ref_uid, refers_carrying, uses}
-use Rattle.kube_types.specs.Keys.{key_of, row_at, without_row}
-use Rattle.kube_types.proofs.KeyOrder.{row_at-without_row}
-use Rattle.kube_types.proofs.SameKeys.{key_tells, same_key-Decides}
+use Rattle.kube_parts.specs.declared.uid.Uid.{Uid}
+use Rattle.kube_parts.specs.declared.names.Due.{Due}
+use Rattle.kube_parts.specs.declared.names.Due.TheVariants as dues
+use Rattle.kube_parts.specs.declared.parts.VolumePhase.{VolumePhase}
+use Rattle.kube_parts.specs.declared.parts.VolumePhase.TheVariants as volumes
+use Rattle.kube_objects.specs.declared.objects.Ref.{Ref}
+use Rattle.kube_objects.specs.declared.objects.Claim.{Claim as ClaimData}
+use Rattle.kube_objects.specs.declared.objects.Volume.{Volume as VolumeData}
+use Rattle.kube_objects.specs.declared.objects.Object.TheVariants.{Volume, Claim}
+use Rattle.kube_objects.specs.Bindings.{
+  carries,
+  has_name,
+  is_bound,
+  is_completed,
+  is_deleting,
+  is_delete,
+  is_ended,
+  is_protected_claim,
+  is_protected_volume,
+  pv_protection,
+  pvc_protection,
+  ref_uid,
+  refers_carrying,
+  uses,
+}
+use Rattle.kube_objects.specs.Keys.{key_of, row_at, without_row}
+use Rattle.kube_objects.proofs.KeyOrder.{row_at-without_row}
+use Rattle.kube_objects.proofs.SameKeys.{key_tells, same_key-Decides}
 use Rattle.call_types.specs.declared.request.Request.{Request}
 use Rattle.call_types.specs.declared.request.Request.TheVariants.{Delete, Update}
 use Rattle.call_types.specs.declared.request.SeatKind.{SeatKind}
@@ -28,10 +43,29 @@ use Rattle.binder_model.specs.Matching.{fits, is_selected}
 use Rattle.binder_model.specs.ObjectKeys.{claim_key, volume_key}
 use Rattle.binder_model.specs.Store.{leaves, marked_object, updated_object, with_meta, with_status_of}
 use Rattle.binder_model.specs.World.{Effect, World, effect, world_after}
-use Rattle.kube_types.specs.Sources.{data_id_of}
+use Rattle.kube_objects.specs.Sources.{data_id_of}
 use Rattle.model_laws.proofs.Lists.{IsIn, one}
 use Rattle.safety_law.specs.Invariant.Writes.{IsMark, IsUpdate}
-use Rattle.settle_measure.specs.Left.Measure.{claim_left, completed_left, guard_left, holds, is_awaited, is_fit, is_held_by, is_lost, is_over, left_of, left_on, life_left, offers, offers_claim, phase_left, unless, volume_left, was_erased}
+use Rattle.settle_measure.specs.Left.Measure.{
+  claim_left,
+  completed_left,
+  guard_left,
+  holds,
+  is_awaited,
+  is_fit,
+  is_held_by,
+  is_lost,
+  is_over,
+  left_of,
+  left_on,
+  life_left,
+  offers,
+  offers_claim,
+  phase_left,
+  unless,
+  volume_left,
+  was_erased,
+}
 use Rattle.settle_measure.specs.Left.Lowers.{Lowers, StandsVolume}
 use Rattle.settle_measure.specs.Upkeep.Pays.{ClaimGuardPays, ClaimUnguardPays, DeletePays, FailedPays, VolumeGuardPays, VolumeUnguardPays}
 use Rattle.settle_measure.proofs.Binding.Alike.{MetaAlike, binding_same, seeking_same}
@@ -87,7 +121,8 @@ volume_guard_pays setup w kind v s due =
     update_lowers setup w kind v s (record v { meta = guarded_meta pv_protection v.meta }) (Some v.meta.version) 1 refl (rw staying refl)
     (λ c i. record {
       held = λ open_ here which h. h;
-      offered = λ open_ here empty h. let q = and_parts (carries v c) (is_fit v c && not (is_ended v.phase)) h in false_not (is_fit v c) (unfit v c bare) (and_parts (is_fit v c) (not (is_ended v.phase)) q.1).0;
+      offered = λ open_ here empty h. let q = and_parts (carries v c) (is_fit v c && not (is_ended v.phase)) h in
+          false_not (is_fit v c) (unfit v c bare) (and_parts (is_fit v c) (not (is_ended v.phase)) q.1).0;
       done = λ completed named. omega arith;
     })
     (omega (arith, before, after))
@@ -144,7 +179,8 @@ module _ (setup : Setup) (w : World) (kind : SeatKind) (v : VolumeData) (s : Sta
       by i (inl put) = fall _ (subst (Put w _) (is_new i) put)
       by i (inr took) = go _ (subst (Took w _ (Update (Volume x) given)) (is_new i) took)
 
-  pub left_without : (y : Effect) (request : Request) (new : VolumeData) → key_of (Volume new) ≡ key_of (Volume v) → Took w y request (Volume new) → left_of (world_after w y) ≡ left_on (without_row (key_of (Volume v)) w.store.rows) w.devices
+  pub left_without : (y : Effect) (request : Request) (new : VolumeData) → key_of (Volume new) ≡ key_of (Volume v) → Took w y request (Volume new)
+      → left_of (world_after w y) ≡ left_on (without_row (key_of (Volume v)) w.store.rows) w.devices
   left_without y request new same took =
       ap (λ rows. left_on rows (world_after w y).devices) (took.rows ∙ ap (λ k. without_row k w.store.rows) same) ∙ ap (left_on (without_row (key_of (Volume v)) w.store.rows)) took.devices
 
@@ -189,11 +225,14 @@ module _ (setup : Setup) (w : World) (kind : SeatKind) (v : VolumeData) (s : Sta
         by : (key_of (Volume v) ≡ volume_key c.volume_name) ⊎ (key_of (Volume v) ≢ volume_key c.volume_name)
             → claim_left (without_row (key_of (Volume v)) w.store.rows) w.devices c ≤ claim_left w.store.rows w.devices c + 4
         by (inl named) =
-            let was : completed_left c (row_at (volume_key c.volume_name) w.store.rows) ≡ 1 + unless (is_lost c.phase) 1 = ap (λ k. completed_left c (row_at k w.store.rows)) (sym named) ∙ (ap (completed_left c) (at_key setup w kind v s) ∙ here) in
-            let now : completed_left c (row_at (volume_key c.volume_name) (without_row (key_of (Volume v)) w.store.rows)) ≡ 5 + unless (is_lost c.phase) 1 = ap (λ k. completed_left c (row_at k (without_row (key_of (Volume v)) w.store.rows))) (sym named) ∙ ap (completed_left c) nothing in
+            let was : completed_left c (row_at (volume_key c.volume_name) w.store.rows) ≡ 1 + unless (is_lost c.phase) 1 =
+            ap (λ k. completed_left c (row_at k w.store.rows)) (sym named) ∙ (ap (completed_left c) (at_key setup w kind v s) ∙ here) in
+            let now : completed_left c (row_at (volume_key c.volume_name) (without_row (key_of (Volume v)) w.store.rows)) ≡ 5 + unless
+            (is_lost c.phase) 1 = ap (λ k. completed_left c (row_at k (without_row (key_of (Volume v)) w.store.rows))) (sym named) ∙ ap (completed_left c) nothing in
             rw completed (omega (arith, was, now))
         by (inr differs) =
-            let same : completed_left c (row_at (volume_key c.volume_name) (without_row (key_of (Volume v)) w.store.rows)) ≡ completed_left c (row_at (volume_key c.volume_name) w.store.rows) = ap (completed_left c) (without_agrees (key_of (Volume v)) w.store.rows (volume_key c.volume_name) differs) in
+            let same : completed_left c (row_at (volume_key c.volume_name) (without_row (key_of (Volume v)) w.store.rows)) ≡ completed_left c
+            (row_at (volume_key c.volume_name) w.store.rows) = ap (completed_left c) (without_agrees (key_of (Volume v)) w.store.rows (volume_key c.volume_name) differs) in
             rw completed (omega (arith, same))
 
     costs : (c : ClaimData) → IsIn (Claim c) w.store.rows
@@ -203,7 +242,8 @@ module _ (setup : Setup) (w : World) (kind : SeatKind) (v : VolumeData) (s : Sta
         stays : (is_completed c ≡ true → (carries v c && not (is_ended v.phase)) ≡ false) → claim_left (without_row (key_of (Volume v)) w.store.rows) w.devices c ≤ claim_left w.store.rows w.devices c
         stays away =
             claim_less w.store.rows (without_row (key_of (Volume v)) w.store.rows) w.devices w.devices c (λ name e. e)
-            (as_good w.store.rows (without_row (key_of (Volume v)) w.store.rows) (key_of (Volume v)) s.order (without_agrees (key_of (Volume v)) w.store.rows) c (useless_gone c (deleting_holds v gone c) (deleting_offers v gone c) away))
+            (as_good w.store.rows (without_row (key_of (Volume v)) w.store.rows) (key_of (Volume v)) s.order
+            (without_agrees (key_of (Volume v)) w.store.rows) c (useless_gone c (deleting_holds v gone c) (deleting_offers v gone c) away))
 
         by : (a b d : Bool) → is_completed c ≡ a → carries v c ≡ b → is_ended v.phase ≡ d
             → claim_left (without_row (key_of (Volume v)) w.store.rows) w.devices c ≤ claim_left w.store.rows w.devices c + paid_at (claim_key r.namespace r.name) 4 (Claim c)
@@ -257,7 +297,8 @@ unguarded_goes setup w kind v s gone kept unbound = by v.claim_ref refl (ref_uid
         let one_unit = guard in
         omega (arith, g, one_unit)
 
-    by : (r : Option Ref) → v.claim_ref ≡ r → (u : Option Uid) → ref_uid v.claim_ref ≡ u → (d : Bool) → is_ended v.phase ≡ d → left_on (without_row (key_of (Volume v)) w.store.rows) w.devices + 1 ≤ left_of w
+    by : (r : Option Ref) → v.claim_ref ≡ r → (u : Option Uid) → ref_uid v.claim_ref ≡ u → (d : Bool) → is_ended v.phase ≡ d
+        → left_on (without_row (key_of (Volume v)) w.store.rows) w.devices + 1 ≤ left_of w
     by None er u eu d ed = free (λ c. ap (λ x. refers_carrying x c && not (is_ended v.phase)) er)
     by (Some r) er None eu d ed = free (λ c. ap (λ b. b && not (is_ended v.phase)) (no_carrier v.claim_ref c eu))
     by (Some r) er (Some uid) eu true ed = free (λ c. never_and (carries v c) (not (is_ended v.phase)) (ap not ed))
@@ -267,7 +308,8 @@ unguarded_goes setup w kind v s gone kept unbound = by v.claim_ref refl (ref_uid
         let three = unbound_left v.phase ed unbound in
         let one_unit = guard in
         let life : life_left (is_deleting v.meta) (is_over (ref_uid v.claim_ref) v.phase) (was_erased (data_id_of v.source) w.devices.stored) ≡ 1 =
-        ap (λ b. life_left b (is_over (ref_uid v.claim_ref) v.phase) (was_erased (data_id_of v.source) w.devices.stored)) gone ∙ ap (λ b. unless b 1) (not_over (ref_uid v.claim_ref) v.phase (inr ed)) in
+        ap (λ b. life_left b (is_over (ref_uid v.claim_ref) v.phase) (was_erased (data_id_of v.source) w.devices.stored)) gone
+        ∙ ap (λ b. unless b 1) (not_over (ref_uid v.claim_ref) v.phase (inr ed)) in
         omega (arith, g, stage, three, one_unit, life)
 
 pub volume_unguard_pays : VolumeUnguardPays
@@ -300,9 +342,12 @@ failed_pays setup w kind v uid s has released =
     let after = with_uid (is_awaited w.store.rows v.claim_ref) (ref_uid v.claim_ref) uid volumes.Failed has in
     let one_unit : phase_left v.phase ≡ 1 = ap phase_left released in
     let is_zero : phase_left volumes.Failed ≡ 0 = refl in
-    let life : life_left (is_deleting v.meta) (is_over (ref_uid v.claim_ref) volumes.Failed) (was_erased (data_id_of v.source) w.devices.stored) ≡ life_left (is_deleting v.meta) (is_over (ref_uid v.claim_ref) v.phase) (was_erased (data_id_of v.source) w.devices.stored) =
+    let life : life_left (is_deleting v.meta) (is_over (ref_uid v.claim_ref) volumes.Failed)
+    (was_erased (data_id_of v.source) w.devices.stored) ≡ life_left (is_deleting v.meta) (is_over (ref_uid v.claim_ref) v.phase) (was_erased (data_id_of v.source) w.devices.stored) =
     ap (λ b. life_left (is_deleting v.meta) (is_some (ref_uid v.claim_ref) && b) (was_erased (data_id_of v.source) w.devices.stored)) (sym ended) in
-    status_lowers setup w kind v s volumes.Failed (Some v.meta.version) 1 (λ c i. useless_safe v (phased v volumes.Failed (w.store.version + 1)) c (ended_holds v ended c) (ended_offers v ended c) (still_away c ended)) (omega (arith, before, after, one_unit, is_zero, life))
+    status_lowers setup w kind v s volumes.Failed (Some v.meta.version) 1
+    (λ c i. useless_safe v (phased v volumes.Failed (w.store.version + 1)) c (ended_holds v ended c) (ended_offers v ended c)
+    (still_away c ended)) (omega (arith, before, after, one_unit, is_zero, life))
   where
     still_away : (c : ClaimData) → is_ended v.phase ≡ true → completed_left c (Some (Volume (phased v volumes.Failed (w.store.version + 1)))) ≤ completed_left c (Some (Volume v))
     still_away c ended =
@@ -357,7 +402,9 @@ delete_pays setup w kind v given s due o e =
         let l = life_some (is_over (ref_uid v.claim_ref) v.phase) (was_erased (data_id_of v.source) w.devices.stored) in
         let g = gone_guard (is_protected_volume v) in
         let staying = f.staying in
-        let was : life_left (is_deleting v.meta) (is_over (ref_uid v.claim_ref) v.phase) (was_erased (data_id_of v.source) w.devices.stored) ≡ life_left false (is_over (ref_uid v.claim_ref) v.phase) (was_erased (data_id_of v.source) w.devices.stored) = ap (λ b. life_left b (is_over (ref_uid v.claim_ref) v.phase) (was_erased (data_id_of v.source) w.devices.stored)) staying in
+        let was : life_left (is_deleting v.meta) (is_over (ref_uid v.claim_ref) v.phase)
+        (was_erased (data_id_of v.source) w.devices.stored) ≡ life_left false (is_over (ref_uid v.claim_ref) v.phase)
+        (was_erased (data_id_of v.source) w.devices.stored) = ap (λ b. life_left b (is_over (ref_uid v.claim_ref) v.phase) (was_erased (data_id_of v.source) w.devices.stored)) staying in
         let now : unless (is_over (ref_uid v.claim_ref) v.phase) 1 ≡ 0 = ap (λ b. unless b 1) f.over in
         let guard : guard_left (is_deleting v.meta) (is_protected_volume v) ≡ guard_left false (is_protected_volume v) = ap (λ b. guard_left b (is_protected_volume v)) staying in
         omega (arith, l, g, was, now, guard)
@@ -371,8 +418,10 @@ delete_pays setup w kind v given s due o e =
     by i (inl put) = lowered setup w kind v s _ (marked v (w.store.version + 1) w.moment) 1 refl (subst (Put w _) (is_new i) put)
         (λ c j. useless_safe v (marked v (w.store.version + 1) w.moment) c (ended_holds v f.ended c) (ended_offers v f.ended c) (omega arith)) before
     by i (inr took) =
-        let g = volume_gone setup w kind v s (λ c j. useless_gone setup w kind v s c (ended_holds v f.ended c) (ended_offers v f.ended c) (λ completed. never_and (carries v c) (not (is_ended v.phase)) (ap not f.ended))) in
-        let e = left_without setup w kind v s _ (Delete (volume_key v.meta.name) given) (marked v (w.store.version + 1) w.moment) refl (subst (Took w _ (Delete (volume_key v.meta.name) given)) (is_new i) took) in
+        let g = volume_gone setup w kind v s (λ c j. useless_gone setup w kind v s c (ended_holds v f.ended c) (ended_offers v f.ended c)
+        (λ completed. never_and (carries v c) (not (is_ended v.phase)) (ap not f.ended))) in
+        let e = left_without setup w kind v s _ (Delete (volume_key v.meta.name) given) (marked v (w.store.version + 1) w.moment) refl
+        (subst (Took w _ (Delete (volume_key v.meta.name) given)) (is_new i) took) in
         let l = some_life in
         omega (arith, g, e, l)
 
@@ -386,13 +435,15 @@ unfolding leaves
 claim_guard_pays setup w kind c s due =
     let f = guard_facts (is_deleting c.meta) (is_protected_claim c) (list_any (uses c) w.store.rows) (ap is_guard_due due) in
     let staying = f.0 in let bare = f.1 in
-    let b = binding_same c (record c.meta { finalizers = c.meta.finalizers ++ pvc_protection ∷ []; version = w.store.version + 1 }) (claim_alike c (c.meta.finalizers ++ pvc_protection ∷ []) (w.store.version + 1)) w.store.rows w.devices in
+    let b = binding_same c (record c.meta { finalizers = c.meta.finalizers ++ pvc_protection ∷ []; version = w.store.version + 1 })
+    (claim_alike c (c.meta.finalizers ++ pvc_protection ∷ []) (w.store.version + 1)) w.store.rows w.devices in
     let new : ClaimData = rewritten_claim c (record c { meta = guarded_meta pvc_protection c.meta }) (w.store.version + 1) in
     let last : is_protected_claim new ≡ true = named_last pvc_protection c.meta.finalizers in
     let before : guard_left (is_deleting c.meta) (is_protected_claim c) ≡ 2 = rw (staying, bare) refl in
     let after : guard_left (is_deleting new.meta) (is_protected_claim new) ≡ 1 = rw last refl in
     claim_update_lowers setup w kind c s (record c { meta = guarded_meta pvc_protection c.meta }) (Some c.meta.version) 1 refl (rw staying refl)
-    (λ h. sym (seeking_same c (record c.meta { finalizers = c.meta.finalizers ++ pvc_protection ∷ []; version = w.store.version + 1 }) (claim_alike c (c.meta.finalizers ++ pvc_protection ∷ []) (w.store.version + 1))) ∙ h)
+    (λ h. sym (seeking_same c (record c.meta { finalizers = c.meta.finalizers ++ pvc_protection ∷ []; version = w.store.version + 1 })
+    (claim_alike c (c.meta.finalizers ++ pvc_protection ∷ []) (w.store.version + 1))) ∙ h)
     (omega (arith, b, before, after))
 
 pub claim_unguard_pays : ClaimUnguardPays
@@ -410,13 +461,16 @@ claim_unguard_pays setup w kind c s due o e =
     after : guard_left (is_deleting c.meta) (has_name pvc_protection (without_name pvc_protection c.meta.finalizers)) ≡ 0
     after = let gone = f.0 in let bare = without_lacks pvc_protection c.meta.finalizers in rw (gone, bare) refl
 
-    is_new : IsUpdate w.store kind (Claim (record c { meta = unguarded_meta pvc_protection c.meta })) (Some c.meta.version) o → o ≡ Claim (rewritten_claim c (record c { meta = unguarded_meta pvc_protection c.meta }) (w.store.version + 1))
+    is_new : IsUpdate w.store kind (Claim (record c { meta = unguarded_meta pvc_protection c.meta })) (Some c.meta.version) o
+        → o ≡ Claim (rewritten_claim c (record c { meta = unguarded_meta pvc_protection c.meta }) (w.store.version + 1))
     is_new i =
         let old : i.old ≡ Claim c = one i.old (Claim c) (sym i.there ∙ s.there) in
         i.is ∙ ap (λ p. updated_object p (Claim (record c { meta = unguarded_meta pvc_protection c.meta })) (w.store.version + 1)) old
 
     by : IsUpdate w.store kind (Claim (record c { meta = unguarded_meta pvc_protection c.meta })) (Some c.meta.version) o
-        → Put w (effect setup w kind (Update (Claim (record c { meta = unguarded_meta pvc_protection c.meta })) (Some c.meta.version))) o ⊎ Took w (effect setup w kind (Update (Claim (record c { meta = unguarded_meta pvc_protection c.meta })) (Some c.meta.version))) (Update (Claim (record c { meta = unguarded_meta pvc_protection c.meta })) (Some c.meta.version)) o
+        → Put w (effect setup w kind (Update (Claim (record c { meta = unguarded_meta pvc_protection c.meta })) (Some c.meta.version))) o
+        ⊎ Took w (effect setup w kind (Update (Claim (record c { meta = unguarded_meta pvc_protection c.meta })) (Some c.meta.version)))
+        (Update (Claim (record c { meta = unguarded_meta pvc_protection c.meta })) (Some c.meta.version)) o
         → left_of (world_after w (effect setup w kind (Update (Claim (record c { meta = unguarded_meta pvc_protection c.meta })) (Some c.meta.version)))) + 1 ≤ left_of w
     by i (inl put) =
         let a = claim_alike c (without_name pvc_protection c.meta.finalizers) (w.store.version + 1) in
@@ -426,8 +480,13 @@ claim_unguard_pays setup w kind c s due o e =
         (λ h. sym (seeking_same c (record c.meta { finalizers = without_name pvc_protection c.meta.finalizers; version = w.store.version + 1 }) a) ∙ h) (omega (arith, b, p, q))
     by i (inr took) =
         let g = claim_gone w.store.rows w.devices c s.order s.there in
-        let t : Took w (effect setup w kind (Update (Claim (record c { meta = unguarded_meta pvc_protection c.meta })) (Some c.meta.version))) (Update (Claim (record c { meta = unguarded_meta pvc_protection c.meta })) (Some c.meta.version)) (Claim (rewritten_claim c (record c { meta = unguarded_meta pvc_protection c.meta }) (w.store.version + 1))) = subst (Took w _ _) (is_new i) took in
-        let e : left_of (world_after w (effect setup w kind (Update (Claim (record c { meta = unguarded_meta pvc_protection c.meta })) (Some c.meta.version)))) ≡ left_on (without_row (key_of (Claim c)) w.store.rows) w.devices =
-        ap (λ rows. left_on rows (world_after w (effect setup w kind (Update (Claim (record c { meta = unguarded_meta pvc_protection c.meta })) (Some c.meta.version)))).devices) t.rows ∙ ap (left_on (without_row (key_of (Claim c)) w.store.rows)) t.devices in
+        let t : Took w (effect setup w kind (Update (Claim (record c { meta = unguarded_meta pvc_protection c.meta })) (Some c.meta.version)))
+        (Update (Claim (record c { meta = unguarded_meta pvc_protection c.meta })) (Some c.meta.version))
+        (Claim (rewritten_claim c (record c { meta = unguarded_meta pvc_protection c.meta }) (w.store.version + 1))) = subst (Took w _ _) (is_new i) took in
+        let e : left_of (world_after w (effect setup w kind
+        (Update (Claim (record c { meta = unguarded_meta pvc_protection c.meta })) (Some c.meta.version)))) ≡ left_on (without_row (key_of (Claim c)) w.store.rows) w.devices =
+        ap (λ rows. left_on rows (world_after w
+        (effect setup w kind (Update (Claim (record c { meta = unguarded_meta pvc_protection c.meta })) (Some c.meta.version)))).devices) t.rows
+        ∙ ap (left_on (without_row (key_of (Claim c)) w.store.rows)) t.devices in
         let p = before in
         omega (arith, g, e, p)

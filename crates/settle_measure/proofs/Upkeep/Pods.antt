@@ -5,13 +5,13 @@ use Rattle.std.specs.List.{list_any}
 use Rattle.std.proofs.lemmas.Bool.{and_from, and_parts, or_left, and_right}
 use Rattle.std.proofs.lemmas.Bool.Decides.{nat_tests}
 use Rattle.std.proofs.lemmas.Slice.Eq.{bytes_eq-Decides}
-use Rattle.kube_types.specs.declared.uid.Uid.{Uid}
-use Rattle.kube_types.specs.declared.objects.Pod.{Pod as PodData}
-use Rattle.kube_types.specs.declared.objects.Object.{Object}
-use Rattle.kube_types.specs.declared.objects.Object.TheVariants.{Class, Node, Volume, Claim, Pod}
-use Rattle.kube_types.specs.Bindings.{is_deleting, is_scheduled}
-use Rattle.kube_types.specs.Keys.{AreRows, key_of, put_row, row_at, same_key, without_row}
-use Rattle.kube_types.proofs.SameKeys.{same_key-Decides}
+use Rattle.kube_parts.specs.declared.uid.Uid.{Uid}
+use Rattle.kube_objects.specs.declared.objects.Pod.{Pod as PodData}
+use Rattle.kube_objects.specs.declared.objects.Object.{Object}
+use Rattle.kube_objects.specs.declared.objects.Object.TheVariants.{Class, Node, Volume, Claim, Pod}
+use Rattle.kube_objects.specs.Bindings.{is_deleting, is_scheduled}
+use Rattle.kube_objects.specs.Keys.{AreRows, key_of, put_row, row_at, same_key, without_row}
+use Rattle.kube_objects.proofs.SameKeys.{same_key-Decides}
 use Rattle.call_types.specs.declared.request.Request.TheVariants.{BindPod, FinishPod, Mount, Unmount}
 use Rattle.call_types.specs.declared.reply.Reply.{Reply}
 use Rattle.call_types.specs.declared.reply.Reply.TheVariants.{Mounted}
@@ -58,7 +58,8 @@ assign_pays setup w kind p uid node order there free named o e =
         → left_of (world_after w (effect setup w kind (BindPod (key_of (Pod p)) uid node))) + 1 ≤ left_of w
     by i (inl put) =
         let new : PodData = record p { node = node; meta = record p.meta { version = w.store.version + 1 } } in
-        let t : Put w (effect setup w kind (BindPod (key_of (Pod p)) uid node)) (Pod (record p { node = node; meta = record p.meta { version = w.store.version + 1 } })) = subst (Put w _) (is_new i) put in
+        let t : Put w (effect setup w kind (BindPod (key_of (Pod p)) uid node))
+        (Pod (record p { node = node; meta = record p.meta { version = w.store.version + 1 } })) = subst (Put w _) (is_new i) put in
         let is : left_of (world_after w (effect setup w kind (BindPod (key_of (Pod p)) uid node))) ≡ left_on (put_row (Pod new) w.store.rows) w.devices =
         ap (λ rows. left_on rows (world_after w (effect setup w kind (BindPod (key_of (Pod p)) uid node))).devices) t.rows ∙ ap (left_on (put_row (Pod new) w.store.rows)) t.devices in
         let h = pod_put w.store.rows w.devices p new order refl there in
@@ -82,7 +83,8 @@ unfolding world_after after at_version with_meta
 finish_pays setup w kind p uid node epoch order there is =
     let h = pod_gone w.store.rows w.devices p order there in
     let s = pod_some w.devices p in
-    let e : left_of (world_after w (effect setup w kind (FinishPod (key_of (Pod p)) uid node epoch))) ≡ left_on (without_row (key_of (Pod p)) w.store.rows) w.devices = ap (λ x. left_of (world_after w x)) is in
+    let e : left_of (world_after w (effect setup w kind (FinishPod (key_of (Pod p)) uid node epoch))) ≡ left_on
+    (without_row (key_of (Pod p)) w.store.rows) w.devices = ap (λ x. left_of (world_after w x)) is in
     omega (arith, h, s, e)
 
 -- mounts
@@ -94,7 +96,8 @@ mounted_any : (node : List ℕ) (uid : Uid) (ms : List MountAt) → is_mounted_o
 mounted_any node uid [] = refl
 mounted_any node uid (m ∷ ms) = by (bytes_eq m.node node) (mounted_any node uid ms)
   where
-    by : (b : Bool) → is_mounted_on node uid ms ≡ list_any (is_of node uid) ms → list_any (λ r. same_uid r.pod uid) (cond b (m.row ∷ rows_on node ms) (rows_on node ms)) ≡ ((b && same_uid m.row.pod uid) || list_any (is_of node uid) ms)
+    by : (b : Bool) → is_mounted_on node uid ms ≡ list_any (is_of node uid) ms
+        → list_any (λ r. same_uid r.pod uid) (cond b (m.row ∷ rows_on node ms) (rows_on node ms)) ≡ ((b && same_uid m.row.pod uid) || list_any (is_of node uid) ms)
     by true h = ap (λ x. same_uid m.row.pod uid || x) h
     by false h = h
 
@@ -133,7 +136,8 @@ any_split p q new ms = any_join p (filter q ms) (new ∷ filter (λ m. not (q m)
     parts (m ∷ ns) = by (q m) (parts ns)
       where
         by : (b : Bool) → (list_any p (filter q ns) || (p new || list_any p (filter (λ m. not (q m)) ns))) ≡ (p new || list_any p ns)
-            → (list_any p (cond b (m ∷ filter q ns) (filter q ns)) || (p new || list_any p (cond (not b) (m ∷ filter (λ m. not (q m)) ns) (filter (λ m. not (q m)) ns)))) ≡ (p new || (p m || list_any p ns))
+            → (list_any p (cond b (m ∷ filter q ns) (filter q ns)) ||
+            (p new || list_any p (cond (not b) (m ∷ filter (λ m. not (q m)) ns) (filter (λ m. not (q m)) ns)))) ≡ (p new || (p m || list_any p ns))
         by true h = step (list_any p (filter q ns)) (p new) (list_any p (filter (λ m. not (q m)) ns)) (list_any p ns) (p m) h
         by false h = steps (list_any p (filter q ns)) (p new) (list_any p (filter (λ m. not (q m)) ns)) (list_any p ns) (p m) h
 
@@ -144,18 +148,21 @@ abbrev is_mounts : Reply → Bool
 is_mounts (Mounted rows) = true
 is_mounts reply = false
 
-stale_form : (d : Devices) (node : List ℕ) (stale : Option ℕ) (ms : List MountAt) → is_mounts (unless_stale d stale (with_mounts d node ms)).reply ≡ true → (unless_stale d stale (with_mounts d node ms)).devices ≡ record d { mounts = ms }
+stale_form : (d : Devices) (node : List ℕ) (stale : Option ℕ) (ms : List MountAt)
+    → is_mounts (unless_stale d stale (with_mounts d node ms)).reply ≡ true → (unless_stale d stale (with_mounts d node ms)).devices ≡ record d { mounts = ms }
 unfolding unless_stale with_mounts
 stale_form d node None ms e = refl
 stale_form d node (Some current) ms e = absurd (true≢false (sym e))
 
-mount_is : (setup : Setup) (d : Devices) (node : List ℕ) (epoch : ℕ) (uid : Uid) (claims : List Uid) (a : DeviceAnswer) → device_answer setup d (Mount node epoch uid claims) ≡ Some a → is_mounts a.reply ≡ true → a.devices ≡ record d { mounts = with_mount node uid claims d.mounts }
+mount_is : (setup : Setup) (d : Devices) (node : List ℕ) (epoch : ℕ) (uid : Uid) (claims : List Uid) (a : DeviceAnswer)
+    → device_answer setup d (Mount node epoch uid claims) ≡ Some a → is_mounts a.reply ≡ true → a.devices ≡ record d { mounts = with_mount node uid claims d.mounts }
 unfolding device_answer
 mount_is setup d node epoch uid claims a e reply =
     let is = one _ a e in
     ap (λ (x : DeviceAnswer). x.devices) (sym is) ∙ stale_form d node (epoch_if_stale d node epoch) (with_mount node uid claims d.mounts) (ap (λ (x : DeviceAnswer). is_mounts x.reply) is ∙ reply)
 
-unmount_is : (setup : Setup) (d : Devices) (node : List ℕ) (epoch : ℕ) (uid : Uid) (a : DeviceAnswer) → device_answer setup d (Unmount node epoch uid) ≡ Some a → is_mounts a.reply ≡ true → a.devices ≡ record d { mounts = without_mount node uid d.mounts }
+unmount_is : (setup : Setup) (d : Devices) (node : List ℕ) (epoch : ℕ) (uid : Uid) (a : DeviceAnswer)
+    → device_answer setup d (Unmount node epoch uid) ≡ Some a → is_mounts a.reply ≡ true → a.devices ≡ record d { mounts = without_mount node uid d.mounts }
 unfolding device_answer
 unmount_is setup d node epoch uid a e reply =
     let is = one _ a e in
@@ -172,7 +179,8 @@ module _ (w : World) (ms : List MountAt) (p : PodData) (uid : Uid) (order : AreR
   same_pod q e = by q.meta.uid e
     where
       by : (u : Option Uid) → is_pod_uid uid u ≡ false
-          → cond (is_scheduled q) (mount_left (is_deleting q.meta) (is_pod_uid_mounted (record w.devices { mounts = ms }) q.node u)) 4 ≡ cond (is_scheduled q) (mount_left (is_deleting q.meta) (is_pod_uid_mounted w.devices q.node u)) 4
+          → cond (is_scheduled q) (mount_left (is_deleting q.meta) (is_pod_uid_mounted (record w.devices { mounts = ms }) q.node u)) 4 ≡ cond
+          (is_scheduled q) (mount_left (is_deleting q.meta) (is_pod_uid_mounted w.devices q.node u)) 4
       by None e = refl
       by (Some u) e = ap (λ b. cond (is_scheduled q) (mount_left (is_deleting q.meta) b) 4) (others q.node u e)
 
@@ -191,7 +199,8 @@ module _ (w : World) (ms : List MountAt) (p : PodData) (uid : Uid) (order : AreR
           omega (arith, h, s)
       by false e false ek = let h = same_pod q e in omega (arith, h)
       by false e true ek =
-          let is : q ≡ p = pod_of q p (one (Pod q) (Pod p) (sym (stands w.store.rows order (Pod q) i) ∙ ap (λ j. row_at j w.store.rows) ((same_key-Decides (key_of (Pod q)) (key_of (Pod p))).0 ek) ∙ there)) in
+          let is : q ≡ p = pod_of q p (one (Pod q) (Pod p)
+          (sym (stands w.store.rows order (Pod q) i) ∙ ap (λ j. row_at j w.store.rows) ((same_key-Decides (key_of (Pod q)) (key_of (Pod p))).0 ek) ∙ there)) in
           subst (λ r. pod_left (record w.devices { mounts = ms }) r + 1 ≤ pod_left w.devices r) (sym is) pay
 
   each : (o : Object) → IsIn o w.store.rows → Pays (object_left w.store.rows w.devices) (object_left w.store.rows (record w.devices { mounts = ms })) (paid_at (key_of (Pod p)) 1) o
@@ -207,20 +216,26 @@ module _ (w : World) (ms : List MountAt) (p : PodData) (uid : Uid) (order : AreR
       let mine = one_pays (key_of (Pod p)) 1 (Pod p) w.store.rows there in
       omega (arith, sums, mine)
 
-mount_weight : (w : World) (ms : List MountAt) (p : PodData) (uid : Uid) → p.meta.uid ≡ Some uid → is_scheduled p ≡ true → is_deleting p.meta ≡ false → is_pod_mounted w.devices p ≡ false → is_mounted_on p.node uid ms ≡ true
+mount_weight : (w : World) (ms : List MountAt) (p : PodData) (uid : Uid) → p.meta.uid ≡ Some uid → is_scheduled p ≡ true → is_deleting p.meta ≡ false
+    → is_pod_mounted w.devices p ≡ false → is_mounted_on p.node uid ms ≡ true
     → pod_left (record w.devices { mounts = ms }) p + 1 ≤ pod_left w.devices p
 mount_weight w ms p uid has on staying before now =
     let after : is_pod_mounted (record w.devices { mounts = ms }) p ≡ true = ap (is_pod_uid_mounted (record w.devices { mounts = ms }) p.node) has ∙ now in
-    let was : pod_left w.devices p ≡ 3 = ap (λ b. cond b (mount_left (is_deleting p.meta) (is_pod_mounted w.devices p)) 4) on ∙ ap (λ b. mount_left b (is_pod_mounted w.devices p)) staying ∙ ap (mount_left false) before in
-    let is : pod_left (record w.devices { mounts = ms }) p ≡ 2 = ap (λ b. cond b (mount_left (is_deleting p.meta) (is_pod_mounted (record w.devices { mounts = ms }) p)) 4) on ∙ ap (mount_left (is_deleting p.meta)) after in
+    let was : pod_left w.devices p ≡ 3 = ap (λ b. cond b (mount_left (is_deleting p.meta) (is_pod_mounted w.devices p)) 4) on
+    ∙ ap (λ b. mount_left b (is_pod_mounted w.devices p)) staying ∙ ap (mount_left false) before in
+    let is : pod_left (record w.devices { mounts = ms }) p ≡ 2 =
+    ap (λ b. cond b (mount_left (is_deleting p.meta) (is_pod_mounted (record w.devices { mounts = ms }) p)) 4) on ∙ ap (mount_left (is_deleting p.meta)) after in
     omega (arith, was, is)
 
-unmount_weight : (w : World) (ms : List MountAt) (p : PodData) (uid : Uid) → p.meta.uid ≡ Some uid → is_scheduled p ≡ true → is_deleting p.meta ≡ true → is_pod_mounted w.devices p ≡ true → is_mounted_on p.node uid ms ≡ false
+unmount_weight : (w : World) (ms : List MountAt) (p : PodData) (uid : Uid) → p.meta.uid ≡ Some uid → is_scheduled p ≡ true
+    → is_deleting p.meta ≡ true → is_pod_mounted w.devices p ≡ true → is_mounted_on p.node uid ms ≡ false
     → pod_left (record w.devices { mounts = ms }) p + 1 ≤ pod_left w.devices p
 unmount_weight w ms p uid has on going before now =
     let after : is_pod_mounted (record w.devices { mounts = ms }) p ≡ false = ap (is_pod_uid_mounted (record w.devices { mounts = ms }) p.node) has ∙ now in
     let was : pod_left w.devices p ≡ 2 = ap (λ b. cond b (mount_left (is_deleting p.meta) (is_pod_mounted w.devices p)) 4) on ∙ ap (mount_left (is_deleting p.meta)) before in
-    let is : pod_left (record w.devices { mounts = ms }) p ≡ 1 = ap (λ b. cond b (mount_left (is_deleting p.meta) (is_pod_mounted (record w.devices { mounts = ms }) p)) 4) on ∙ ap (λ b. mount_left b (is_pod_mounted (record w.devices { mounts = ms }) p)) going ∙ ap (mount_left true) after in
+    let is : pod_left (record w.devices { mounts = ms }) p ≡ 1 =
+    ap (λ b. cond b (mount_left (is_deleting p.meta) (is_pod_mounted (record w.devices { mounts = ms }) p)) 4) on
+    ∙ ap (λ b. mount_left b (is_pod_mounted (record w.devices { mounts = ms }) p)) going ∙ ap (mount_left true) after in
     omega (arith, was, is)
 
 same_itself : (u : Uid) → same_uid u u ≡ true
@@ -231,10 +246,13 @@ mount_pays setup w p uid epoch claims a rows order there has on staying before o
     let is = mount_is setup w.devices p.node epoch uid claims a e (ap is_mounts reply) in
     let bare : is_mounted_on p.node uid w.devices.mounts ≡ false = sym (ap (is_pod_uid_mounted w.devices p.node) has) ∙ before in
     let ms : with_mount p.node uid claims w.devices.mounts ≡ put_mount (record { node = p.node; row = record { pod = uid; claims = claims } }) w.devices.mounts = rw bare refl in
-    let here : is_of p.node uid (record { node = p.node; row = record { pod = uid; claims = claims } }) ≡ true = and_from (bytes_eq p.node p.node) (same_uid uid uid) ((bytes_eq-Decides p.node p.node).1 refl) (same_itself uid) in
-    let now : is_mounted_on p.node uid (with_mount p.node uid claims w.devices.mounts) ≡ true = ap (is_mounted_on p.node uid) ms ∙ put_any p.node uid _ w.devices.mounts ∙ or_left _ (is_mounted_on p.node uid w.devices.mounts) here in
+    let here : is_of p.node uid (record { node = p.node; row = record { pod = uid; claims = claims } }) ≡ true =
+    and_from (bytes_eq p.node p.node) (same_uid uid uid) ((bytes_eq-Decides p.node p.node).1 refl) (same_itself uid) in
+    let now : is_mounted_on p.node uid (with_mount p.node uid claims w.devices.mounts) ≡ true = ap (is_mounted_on p.node uid) ms
+    ∙ put_any p.node uid _ w.devices.mounts ∙ or_left _ (is_mounted_on p.node uid w.devices.mounts) here in
     let low = mounts_lower w (with_mount p.node uid claims w.devices.mounts) p uid order there only
-    (λ node u differs. ap (is_mounted_on node u) ms ∙ put_any node u _ w.devices.mounts ∙ ap (λ b. b || is_mounted_on node u w.devices.mounts) (and_right (bytes_eq p.node node) (same_uid uid u) differs))
+    (λ node u differs. ap (is_mounted_on node u) ms ∙ put_any node u _ w.devices.mounts
+    ∙ ap (λ b. b || is_mounted_on node u w.devices.mounts) (and_right (bytes_eq p.node node) (same_uid uid u) differs))
     (mount_weight w (with_mount p.node uid claims w.devices.mounts) p uid has on staying before now) in
     subst (λ d. left_on w.store.rows d + 1 ≤ left_of w) (sym is) low
 
@@ -243,14 +261,16 @@ none_after : (node : List ℕ) (uid : Uid) (ms : List MountAt) → list_any (is_
 none_after node uid [] = refl
 none_after node uid (m ∷ ms) = by (is_of node uid m) refl (none_after node uid ms)
   where
-    by : (b : Bool) → is_of node uid m ≡ b → list_any (is_of node uid) (filter (λ n. not (is_of node uid n)) ms) ≡ false → list_any (is_of node uid) (cond (not b) (m ∷ filter (λ n. not (is_of node uid n)) ms) (filter (λ n. not (is_of node uid n)) ms)) ≡ false
+    by : (b : Bool) → is_of node uid m ≡ b → list_any (is_of node uid) (filter (λ n. not (is_of node uid n)) ms) ≡ false
+        → list_any (is_of node uid) (cond (not b) (m ∷ filter (λ n. not (is_of node uid n)) ms) (filter (λ n. not (is_of node uid n)) ms)) ≡ false
     by true e h = h
     by false e h = ap (λ b. b || list_any (is_of node uid) (filter (λ n. not (is_of node uid n)) ms)) e ∙ h
 
 two_uids : (u v x : Uid) → same_uid x u ≡ true → same_uid x v ≡ true → same_uid u v ≡ true
 two_uids u v x a b = grind (arith, nat_tests, a, b)
 
-others_after : (node : List ℕ) (uid : Uid) (on : List ℕ) (u : Uid) (ms : List MountAt) → same_uid uid u ≡ false → list_any (is_of on u) (filter (λ m. not (is_of node uid m)) ms) ≡ list_any (is_of on u) ms
+others_after : (node : List ℕ) (uid : Uid) (on : List ℕ) (u : Uid) (ms : List MountAt) → same_uid uid u ≡ false
+    → list_any (is_of on u) (filter (λ m. not (is_of node uid m)) ms) ≡ list_any (is_of on u) ms
 others_after node uid on u [] differs = refl
 others_after node uid on u (m ∷ ms) differs = by (is_of node uid m) refl (is_of on u m) refl (others_after node uid on u ms differs)
   where
@@ -266,7 +286,8 @@ others_after node uid on u (m ∷ ms) differs = by (is_of node uid m) refl (is_o
 pub unmount_pays : UnmountPays
 unmount_pays setup w p uid epoch a rows order there has on going before only e reply =
     let is = unmount_is setup w.devices p.node epoch uid a e (ap is_mounts reply) in
-    let now : is_mounted_on p.node uid (without_mount p.node uid w.devices.mounts) ≡ false = mounted_any p.node uid (without_mount p.node uid w.devices.mounts) ∙ none_after p.node uid w.devices.mounts in
+    let now : is_mounted_on p.node uid (without_mount p.node uid w.devices.mounts) ≡ false =
+    mounted_any p.node uid (without_mount p.node uid w.devices.mounts) ∙ none_after p.node uid w.devices.mounts in
     let low = mounts_lower w (without_mount p.node uid w.devices.mounts) p uid order there only
     (λ node u differs. mounted_any node u (without_mount p.node uid w.devices.mounts) ∙ others_after p.node uid node u w.devices.mounts differs ∙ sym (mounted_any node u w.devices.mounts))
     (unmount_weight w (without_mount p.node uid w.devices.mounts) p uid has on going before now) in

@@ -1,20 +1,20 @@
 -- Which writes of the binder and of the scheduler lower what is left to do, and by how much.
 -- A choice of this project.
 use Rattle.std.specs.Prelude.{ℕ, ◌≡◌, ◌⊎◌, true, false, List, Option, Some, None}
-use Rattle.kube_types.specs.declared.names.Due.TheVariants as dues
-use Rattle.kube_types.specs.declared.parts.VolumePhase.{VolumePhase}
-use Rattle.kube_types.specs.declared.parts.VolumePhase.TheVariants as volumes
-use Rattle.kube_types.specs.declared.objects.Claim.{Claim as ClaimData}
-use Rattle.kube_types.specs.declared.objects.Volume.{Volume as VolumeData}
-use Rattle.kube_types.specs.declared.objects.Object.TheVariants.{Volume, Claim}
-use Rattle.kube_types.specs.declared.parts.ClaimPhase.{ClaimPhase}
-use Rattle.kube_types.specs.declared.parts.ClaimPhase.TheVariants as claims
-use Rattle.kube_types.specs.declared.parts.Modes.{Modes}
-use Rattle.kube_types.specs.declared.objects.Amount.{Amount}
-use Rattle.kube_types.specs.declared.objects.Node.{Node as NodeData}
+use Rattle.kube_parts.specs.declared.names.Due.TheVariants as dues
+use Rattle.kube_parts.specs.declared.parts.VolumePhase.{VolumePhase}
+use Rattle.kube_parts.specs.declared.parts.VolumePhase.TheVariants as volumes
+use Rattle.kube_objects.specs.declared.objects.Claim.{Claim as ClaimData}
+use Rattle.kube_objects.specs.declared.objects.Volume.{Volume as VolumeData}
+use Rattle.kube_objects.specs.declared.objects.Object.TheVariants.{Volume, Claim}
+use Rattle.kube_parts.specs.declared.parts.ClaimPhase.{ClaimPhase}
+use Rattle.kube_parts.specs.declared.parts.ClaimPhase.TheVariants as claims
+use Rattle.kube_parts.specs.declared.parts.Modes.{Modes}
+use Rattle.kube_objects.specs.declared.objects.Amount.{Amount}
+use Rattle.kube_objects.specs.declared.objects.Node.{Node as NodeData}
 use Rattle.plain_data.specs.Pairs.{put_pair, without_key}
-use Rattle.kube_types.specs.Bindings.{beta_class, has_key, selected_node, carries, is_bound, is_completed, is_deleting, is_empty, is_ended, is_for}
-use Rattle.kube_types.specs.Keys.{key_of, row_at}
+use Rattle.kube_objects.specs.Bindings.{beta_class, has_key, selected_node, carries, is_bound, is_completed, is_deleting, is_empty, is_ended, is_for}
+use Rattle.kube_objects.specs.Keys.{key_of, row_at}
 use Rattle.call_types.specs.declared.request.NewStatus.TheVariants as statuses
 use Rattle.call_types.specs.declared.request.Request.{Request}
 use Rattle.call_types.specs.declared.request.Request.TheVariants.{Update, UpdateStatus}
@@ -60,31 +60,36 @@ MatchPays =
 -- the scheduler takes a volume for a claim that no volume carries
 abbrev pub PreparePays : Type 0
 PreparePays =
-    (setup : Setup) (w : World) (kind : SeatKind) (v : VolumeData) (c : ClaimData) (n : NodeData) → StandsVolume w v → StandsClaim w c → is_seeking c ≡ true → eligible v c (Some n) ≡ true → has_carrier w.store.rows c ≡ false
+    (setup : Setup) (w : World) (kind : SeatKind) (v : VolumeData) (c : ClaimData) (n : NodeData) → StandsVolume w v → StandsClaim w c
+    → is_seeking c ≡ true → eligible v c (Some n) ≡ true → has_carrier w.store.rows c ≡ false
     → Lowers setup w kind (write_reference v c) 1
 
 -- the claim names the volume, and is not completed
 abbrev pub NamedPays : Type 0
 NamedPays =
-    (setup : Setup) (w : World) (kind : SeatKind) (v : VolumeData) (c : ClaimData) → StandsVolume w v → StandsClaim w c → is_completed c ≡ false → is_deleting c.meta ≡ false → is_empty c.volume_name ≡ false → c.volume_name ≡ v.meta.name
+    (setup : Setup) (w : World) (kind : SeatKind) (v : VolumeData) (c : ClaimData) → StandsVolume w v → StandsClaim w c → is_completed c ≡ false
+    → is_deleting c.meta ≡ false → is_empty c.volume_name ≡ false → c.volume_name ≡ v.meta.name
     → named_due c (Some (Volume v)) ≡ Some dues.Bind → carries v c ≡ false → Lowers setup w kind (write_reference v c) 1
 
 -- the claim is completed, and its volume has no reference
 abbrev pub CompletedPays : Type 0
 CompletedPays =
-    (setup : Setup) (w : World) (kind : SeatKind) (v : VolumeData) (c : ClaimData) → StandsVolume w v → StandsClaim w c → is_completed c ≡ true → c.volume_name ≡ v.meta.name → v.claim_ref ≡ None → next_write v c ≡ Some (write_reference v c)
+    (setup : Setup) (w : World) (kind : SeatKind) (v : VolumeData) (c : ClaimData) → StandsVolume w v → StandsClaim w c → is_completed c ≡ true
+    → c.volume_name ≡ v.meta.name → v.claim_ref ≡ None → next_write v c ≡ Some (write_reference v c)
     → Lowers setup w kind (write_reference v c) 1
 
 -- the third write of a binding, after the second
 abbrev pub CompletionPays : Type 0
 CompletionPays =
-    (setup : Setup) (w : World) (kind : SeatKind) (v : VolumeData) (c : ClaimData) → StandsVolume w v → StandsClaim w c → carries v c ≡ true → is_bound v.phase ≡ true → is_completed c ≡ false → is_deleting c.meta ≡ false
+    (setup : Setup) (w : World) (kind : SeatKind) (v : VolumeData) (c : ClaimData) → StandsVolume w v → StandsClaim w c → carries v c ≡ true
+    → is_bound v.phase ≡ true → is_completed c ≡ false → is_deleting c.meta ≡ false
     → Lowers setup w kind (write_completion v c) 1
 
 -- the fourth write of a binding
 abbrev pub StatusPays : Type 0
 StatusPays =
-    (setup : Setup) (w : World) (kind : SeatKind) (v : VolumeData) (c : ClaimData) → StandsClaim w c → is_completed c ≡ true → row_at (volume_key c.volume_name) w.store.rows ≡ Some (Volume v) → carries v c ≡ true
+    (setup : Setup) (w : World) (kind : SeatKind) (v : VolumeData) (c : ClaimData) → StandsClaim w c → is_completed c ≡ true
+    → row_at (volume_key c.volume_name) w.store.rows ≡ Some (Volume v) → carries v c ≡ true
     → is_bound v.phase ≡ true → shows_bound c v ≡ false → Lowers setup w kind (write_claim_status v c) 1
 
 abbrev pub write_claim_phase : ClaimData → ClaimPhase → Modes → Option Amount → Request
@@ -99,13 +104,16 @@ LostPays =
 
 -- the node of a claim, written or taken back: what is left to do stays
 abbrev pub NodeStays : Type 0
-NodeStays = (setup : Setup) (w : World) (kind : SeatKind) (c : ClaimData) (node : List ℕ) → StandsClaim w c → Lowers setup w kind (Update (Claim (record c { meta = record c.meta { annotations = put_pair selected_node node c.meta.annotations } })) (Some c.meta.version)) 0
+NodeStays = (setup : Setup) (w : World) (kind : SeatKind) (c : ClaimData) (node : List ℕ) → StandsClaim w c
+    → Lowers setup w kind (Update (Claim (record c { meta = record c.meta { annotations = put_pair selected_node node c.meta.annotations } })) (Some c.meta.version)) 0
 
 abbrev pub NodeGoes : Type 0
-NodeGoes = (setup : Setup) (w : World) (kind : SeatKind) (c : ClaimData) → StandsClaim w c → Lowers setup w kind (Update (Claim (record c { meta = record c.meta { annotations = without_key selected_node c.meta.annotations } })) (Some c.meta.version)) 0
+NodeGoes = (setup : Setup) (w : World) (kind : SeatKind) (c : ClaimData) → StandsClaim w c
+    → Lowers setup w kind (Update (Claim (record c { meta = record c.meta { annotations = without_key selected_node c.meta.annotations } })) (Some c.meta.version)) 0
 
 -- a claim for which the binder has no volume gets its class
 abbrev pub ClassPays : Type 0
 ClassPays =
-    (setup : Setup) (w : World) (kind : SeatKind) (c : ClaimData) (class : List ℕ) → StandsClaim w c → is_seeking c ≡ true → c.class ≡ None → has_key beta_class c.meta.annotations ≡ false → has_match w.store.rows c ≡ false
+    (setup : Setup) (w : World) (kind : SeatKind) (c : ClaimData) (class : List ℕ) → StandsClaim w c → is_seeking c ≡ true → c.class ≡ None
+    → has_key beta_class c.meta.annotations ≡ false → has_match w.store.rows c ≡ false
     → Lowers setup w kind (Update (Claim (record c { class = Some class })) (Some c.meta.version)) 1

@@ -1,7 +1,7 @@
 -- How large the measure of a world is, how it falls from round to round, and what planned faults add to it.
 -- A choice of this project.
 use Rattle.std.specs.Prelude.{ℕ, ◌≡◌, ◌⊎◌, ◌≤◌, ◌+◌, ◌*◌, true, List, [], ◌∷◌, length, ⊤}
-use Rattle.kube_types.specs.declared.objects.Object.{Object}
+use Rattle.kube_objects.specs.declared.objects.Object.{Object}
 use Rattle.call_types.specs.declared.setup.Setup.{Setup}
 use Rattle.binder_model.specs.Devices.{Devices, is_planned}
 use Rattle.binder_model.specs.World.{World}

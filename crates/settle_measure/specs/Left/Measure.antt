@@ -2,25 +2,39 @@
 -- A choice of this project.
 use Rattle.std.specs.Prelude.{ℕ, ◌+◌, nat_lt, Bool, true, false, not, ◌&&◌, ◌||◌, List, [], ◌∷◌, Option, Some, None, is_some, length, filter, if◌then◌else◌}
 use Rattle.std.specs.List.{list_any}
-use Rattle.kube_types.specs.declared.uid.Uid.{Uid}
-use Rattle.kube_types.specs.declared.parts.ClaimPhase.{ClaimPhase}
-use Rattle.kube_types.specs.declared.parts.ClaimPhase.TheVariants as claims
-use Rattle.kube_types.specs.declared.parts.VolumePhase.{VolumePhase}
-use Rattle.kube_types.specs.declared.parts.VolumePhase.TheVariants as volumes
-use Rattle.kube_types.specs.declared.objects.DataId.{DataId}
-use Rattle.kube_types.specs.declared.objects.Ref.{Ref}
-use Rattle.kube_types.specs.declared.objects.Claim.{Claim as ClaimData}
-use Rattle.kube_types.specs.declared.objects.Pod.{Pod as PodData}
-use Rattle.kube_types.specs.declared.objects.Volume.{Volume as VolumeData}
-use Rattle.kube_types.specs.declared.objects.Object.{Object}
-use Rattle.kube_types.specs.declared.objects.Object.TheVariants.{Volume, Claim, Pod}
-use Rattle.kube_types.specs.Keys.{row_at}
-use Rattle.kube_types.specs.Bindings.{beta_class, has_key, is_deleting, is_scheduled, is_protected_volume, is_protected_claim, is_completed, is_ended, is_bound, is_available, is_empty, carries, ref_uid}
+use Rattle.kube_parts.specs.declared.uid.Uid.{Uid}
+use Rattle.kube_parts.specs.declared.parts.ClaimPhase.{ClaimPhase}
+use Rattle.kube_parts.specs.declared.parts.ClaimPhase.TheVariants as claims
+use Rattle.kube_parts.specs.declared.parts.VolumePhase.{VolumePhase}
+use Rattle.kube_parts.specs.declared.parts.VolumePhase.TheVariants as volumes
+use Rattle.kube_objects.specs.declared.objects.DataId.{DataId}
+use Rattle.kube_objects.specs.declared.objects.Ref.{Ref}
+use Rattle.kube_objects.specs.declared.objects.Claim.{Claim as ClaimData}
+use Rattle.kube_objects.specs.declared.objects.Pod.{Pod as PodData}
+use Rattle.kube_objects.specs.declared.objects.Volume.{Volume as VolumeData}
+use Rattle.kube_objects.specs.declared.objects.Object.{Object}
+use Rattle.kube_objects.specs.declared.objects.Object.TheVariants.{Volume, Claim, Pod}
+use Rattle.kube_objects.specs.Keys.{row_at}
+use Rattle.kube_objects.specs.Bindings.{
+  beta_class,
+  has_key,
+  is_deleting,
+  is_scheduled,
+  is_protected_volume,
+  is_protected_claim,
+  is_completed,
+  is_ended,
+  is_bound,
+  is_available,
+  is_empty,
+  carries,
+  ref_uid,
+}
 use Rattle.call_types.specs.declared.setup.Setup.{Setup}
 use Rattle.binder_model.specs.ObjectKeys.{claim_key, volume_key}
 use Rattle.binder_model.specs.Matching.{fits, is_selected}
 use Rattle.binder_model.specs.Devices.{Data, Devices, has_data, same_id}
-use Rattle.kube_types.specs.Sources.{data_id_of}
+use Rattle.kube_objects.specs.Sources.{data_id_of}
 use Rattle.binder_model.specs.BindWrites.{shows_bound}
 use Rattle.binder_model.specs.Provisioning.{data_name}
 use Rattle.binder_model.specs.Due.{is_pod_mounted}

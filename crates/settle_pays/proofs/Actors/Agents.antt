@@ -6,15 +6,15 @@ use Rattle.std.proofs.lemmas.List.{length-append}
 use Rattle.std.proofs.lemmas.Option.{slice_get_within}
 use Rattle.std.proofs.lemmas.Slice.Eq.{bytes_eq-Decides}
 use Rattle.std.proofs.lemmas.Bool.Decides.{Decides-eqb}
-use Rattle.kube_types.specs.declared.key.Key.{Key}
-use Rattle.kube_types.specs.declared.uid.Uid.{Uid}
-use Rattle.kube_types.specs.declared.objects.Claim.{Claim as ClaimData}
-use Rattle.kube_types.specs.declared.objects.Pod.{Pod as PodData}
-use Rattle.kube_types.specs.declared.objects.Object.{Object}
-use Rattle.kube_types.specs.declared.objects.Object.TheVariants.{Class, Node, Volume, Claim, Pod}
-use Rattle.kube_types.specs.Bindings.{is_deleting, is_scheduled}
-use Rattle.kube_types.specs.Keys.{AreRows, key_of, row_at}
-use Rattle.kube_types.proofs.KeyOrder.{row_at_key}
+use Rattle.kube_objects.specs.declared.key.Key.{Key}
+use Rattle.kube_parts.specs.declared.uid.Uid.{Uid}
+use Rattle.kube_objects.specs.declared.objects.Claim.{Claim as ClaimData}
+use Rattle.kube_objects.specs.declared.objects.Pod.{Pod as PodData}
+use Rattle.kube_objects.specs.declared.objects.Object.{Object}
+use Rattle.kube_objects.specs.declared.objects.Object.TheVariants.{Class, Node, Volume, Claim, Pod}
+use Rattle.kube_objects.specs.Bindings.{is_deleting, is_scheduled}
+use Rattle.kube_objects.specs.Keys.{AreRows, key_of, row_at}
+use Rattle.kube_objects.proofs.KeyOrder.{row_at_key}
 use Rattle.call_types.specs.declared.entry.Entry.{Entry}
 use Rattle.call_types.specs.declared.reply.MountRow.{MountRow}
 use Rattle.call_types.specs.declared.reply.Reply.{Reply}
@@ -109,7 +109,8 @@ module _ (p : PodData) (uid : Uid) (epoch : ℕ) (key : Key) where
     claim : ClaimData
     is : next ≡ under_at ready (steps.ReadsVolume name claim) (read_volume claim)
 
-  claim_on : (ready : List ReadyClaim) (name : List ℕ) (call : Request) (reply : Reply) (next : Under) → under_after (under_at ready (steps.ReadsClaim name) call) reply ≡ Some next → ReadsVolume ready name next
+  claim_on : (ready : List ReadyClaim) (name : List ℕ) (call : Request) (reply : Reply) (next : Under)
+      → under_after (under_at ready (steps.ReadsClaim name) call) reply ≡ Some next → ReadsVolume ready name next
   unfolding agent_call agent_moved
   claim_on ready name call (replies.Found (Claim c)) next e = by (is_agent_ready c && not (is_volume_read c.volume_name ready)) e
     where
@@ -124,11 +125,14 @@ module _ (p : PodData) (uid : Uid) (epoch : ℕ) (key : Key) where
     found : ReadyClaim
     is : next_at (ready ++ found ∷ []) (step_for p (ready ++ found ∷ [])) ≡ Some next
 
-  volume_on : (ready : List ReadyClaim) (name : List ℕ) (c : ClaimData) (call : Request) (reply : Reply) (next : Under) → under_after (under_at ready (steps.ReadsVolume name c) call) reply ≡ Some next → GoesOn ready next
+  volume_on : (ready : List ReadyClaim) (name : List ℕ) (c : ClaimData) (call : Request) (reply : Reply) (next : Under)
+      → under_after (under_at ready (steps.ReadsVolume name c) call) reply ≡ Some next → GoesOn ready next
   unfolding agent_call agent_moved
   volume_on ready name c call reply next e = by (ready_by (steps.ReadsVolume name c) reply) e
     where
-      by : (x : Option ReadyClaim) → with_call key (tasks.Agent (agent_after (op_at ready (steps.ReadsVolume name c)) (steps.ReadsVolume name c) x reply)) (agent_call (agent_after (op_at ready (steps.ReadsVolume name c)) (steps.ReadsVolume name c) x reply)) ≡ Some next → GoesOn ready next
+      by : (x : Option ReadyClaim) → with_call key (tasks.Agent
+          (agent_after (op_at ready (steps.ReadsVolume name c)) (steps.ReadsVolume name c) x reply))
+          (agent_call (agent_after (op_at ready (steps.ReadsVolume name c)) (steps.ReadsVolume name c) x reply)) ≡ Some next → GoesOn ready next
       by (Some found) is = record { found = found; is = is }
       by None is = none_some is
 
@@ -181,27 +185,33 @@ module _ (setup : Setup) (seat : ℕ) (p : PodData) (uid : Uid) (epoch : ℕ) (k
 
   -- a pod that stays
 
-  mounts_pay : is_deleting p.meta ≡ false → (h : List Entry) → IsPodThere (world setup h) p uid → (ready : List ReadyClaim) → WillPay setup seat seats.Agent h (under_at p uid epoch key ready steps.MountsPod (mount_of p uid epoch key ready))
-  mounts_pay staying h s ready = EachPays (mounting_pays setup (world setup h) p uid s epoch staying (uids_of ready)) (λ next e. none_some (sym (mount_ends p uid epoch key ready (mount_of p uid epoch key ready) _) ∙ e))
+  mounts_pay : is_deleting p.meta ≡ false → (h : List Entry) → IsPodThere (world setup h) p uid → (ready : List ReadyClaim)
+      → WillPay setup seat seats.Agent h (under_at p uid epoch key ready steps.MountsPod (mount_of p uid epoch key ready))
+  mounts_pay staying h s ready = EachPays (mounting_pays setup (world setup h) p uid s epoch staying (uids_of ready)) (λ next e. none_some
+      (sym (mount_ends p uid epoch key ready (mount_of p uid epoch key ready) _) ∙ e))
 
   volume_pays : (h : List Entry) → IsPodThere (world setup h) p uid → (ready : List ReadyClaim) (name : List ℕ) (u : Under) → ReadsVolume p uid epoch key ready name u
-      → ((g : List Entry) → IsPodThere (world setup g) p uid → (found : ReadyClaim) (next : Under) → Begins p uid epoch key (ready ++ found ∷ []) next → WillPay setup seat seats.Agent g next) → WillPay setup seat seats.Agent h u
+      → ((g : List Entry) → IsPodThere (world setup g) p uid → (found : ReadyClaim) (next : Under)
+      → Begins p uid epoch key (ready ++ found ∷ []) next → WillPay setup seat seats.Agent g next) → WillPay setup seat seats.Agent h u
   volume_pays h s ready name u x rest =
       subst (WillPay setup seat seats.Agent h) (sym x.is)
       (EachPays (reads_never h (volume_key x.claim.volume_name))
-      (λ next e. let g = volume_on p uid epoch key ready name x.claim (read_volume p uid epoch key x.claim) _ next e in rest (after h (read_volume p uid epoch key x.claim)) (after_read h (volume_key x.claim.volume_name) s) g.found next (begins p uid epoch key (ready ++ g.found ∷ []) next g.is)))
+      (λ next e. let g = volume_on p uid epoch key ready name x.claim (read_volume p uid epoch key x.claim) _ next e in
+      rest (after h (read_volume p uid epoch key x.claim)) (after_read h (volume_key x.claim.volume_name) s) g.found next (begins p uid epoch key (ready ++ g.found ∷ []) next g.is)))
 
   -- so many claims at most are still to be read
   one_less : (n : ℕ) (ready : List ReadyClaim) (found : ReadyClaim) → length p.claims ≤ length ready + suc n → length p.claims ≤ length (ready ++ found ∷ []) + n
   one_less n ready found most = let grown = length-append ready (found ∷ []) in omega (arith, most, grown)
 
-  next_pays : is_deleting p.meta ≡ false → (n : ℕ) (h : List Entry) → IsPodThere (world setup h) p uid → (ready : List ReadyClaim) → length p.claims ≤ length ready + n → (next : Under) → Begins p uid epoch key ready next → WillPay setup seat seats.Agent h next
+  next_pays : is_deleting p.meta ≡ false → (n : ℕ) (h : List Entry) → IsPodThere (world setup h) p uid → (ready : List ReadyClaim)
+      → length p.claims ≤ length ready + n → (next : Under) → Begins p uid epoch key ready next → WillPay setup seat seats.Agent h next
   next_pays staying n h s ready most next (Mounts is) = subst (WillPay setup seat seats.Agent h) (sym is) (mounts_pay staying h s ready)
   next_pays staying zero h s ready most next (Reads name within is) = absurd (omega (arith, most, within))
   next_pays staying (suc n) h s ready most next (Reads name within is) =
       subst (WillPay setup seat seats.Agent h) (sym is)
       (EachPays (reads_never h (claim_key p.meta.namespace name))
-      (λ u e. volume_pays (after h (read_claim p uid epoch key name)) (after_read h (claim_key p.meta.namespace name) s) ready name u (claim_on p uid epoch key ready name (read_claim p uid epoch key name) _ u e)
+      (λ u e. volume_pays (after h (read_claim p uid epoch key name)) (after_read h (claim_key p.meta.namespace name) s) ready name u
+      (claim_on p uid epoch key ready name (read_claim p uid epoch key name) _ u e)
       (λ g t found v b. next_pays staying n g t (ready ++ found ∷ []) (one_less n ready found most) v b)))
 
   -- a pod that is to go
@@ -216,16 +226,19 @@ module _ (setup : Setup) (seat : ℕ) (p : PodData) (uid : Uid) (epoch : ℕ) (k
   lists_pay : (h : List Entry) → IsPodThere (world setup h) p uid → WillPay setup seat seats.Agent h (under_at p uid epoch key [] steps.ReadsMounts (read_mounts p uid epoch key))
   lists_pay h s =
       EachPays (λ lasts. absurd (mounts_never setup (world setup h) seats.Agent p.node epoch lasts))
-      (λ next e. subst (WillPay setup seat seats.Agent (after h (read_mounts p uid epoch key))) (sym (mounts_on p uid epoch key (read_mounts p uid epoch key) _ next e)) (finishes_pay (after h (read_mounts p uid epoch key)) (on_store _ (world setup h) (listed_store h) s)))
+      (λ next e. subst (WillPay setup seat seats.Agent (after h (read_mounts p uid epoch key)))
+      (sym (mounts_on p uid epoch key (read_mounts p uid epoch key) _ next e)) (finishes_pay (after h (read_mounts p uid epoch key)) (on_store _ (world setup h) (listed_store h) s)))
 
   unmounted_store : (h : List Entry) → (world setup (after h (unmount p uid epoch key))).store ≡ (world setup h).store
   unfolding effect on_devices device_answer world_after
   unmounted_store h = refl
 
-  unmounts_pay : is_deleting p.meta ≡ true → (h : List Entry) → IsPodThere (world setup h) p uid → WillPay setup seat seats.Agent h (under_at p uid epoch key [] steps.Unmounts (unmount p uid epoch key))
+  unmounts_pay : is_deleting p.meta ≡ true → (h : List Entry) → IsPodThere (world setup h) p uid
+      → WillPay setup seat seats.Agent h (under_at p uid epoch key [] steps.Unmounts (unmount p uid epoch key))
   unmounts_pay going h s =
       EachPays (unmounting_pays setup (world setup h) p uid s epoch going)
-      (λ next e. subst (WillPay setup seat seats.Agent (after h (unmount p uid epoch key))) (sym (unmount_on p uid epoch key (unmount p uid epoch key) _ next e)) (lists_pay (after h (unmount p uid epoch key)) (on_store _ (world setup h) (unmounted_store h) s)))
+      (λ next e. subst (WillPay setup seat seats.Agent (after h (unmount p uid epoch key)))
+      (sym (unmount_on p uid epoch key (unmount p uid epoch key) _ next e)) (lists_pay (after h (unmount p uid epoch key)) (on_store _ (world setup h) (unmounted_store h) s)))
 
 -- ---- a decision
 
@@ -238,7 +251,8 @@ one_uid : (u v : Uid) → same_uid u v ≡ true → u ≡ v
 one_uid u v same = let level : u.0 ≡ v.0 = (Decides-eqb u.0 v.0).0 same in λ i. record { 0 = level i }
 
 -- no other pod has the UID
-one_pod : (setup : Setup) (h : List Entry) → IsRunOf setup h → (p : PodData) (uid : Uid) → row_at (key_of (Pod p)) (world setup h).store.rows ≡ Some (Pod p) → p.meta.uid ≡ Some uid → IsOnePod (world setup h) p uid
+one_pod : (setup : Setup) (h : List Entry) → IsRunOf setup h → (p : PodData) (uid : Uid)
+    → row_at (key_of (Pod p)) (world setup h).store.rows ≡ Some (Pod p) → p.meta.uid ≡ Some uid → IsOnePod (world setup h) p uid
 one_pod setup h run p uid there known q at own = by q.meta.uid refl own
   where
     by : (x : Option Uid) → q.meta.uid ≡ x → is_pod_uid uid x ≡ true → q ≡ p
@@ -256,7 +270,8 @@ abbrev is_begun : First → Bool
 is_begun (firsts.Begins task) = true
 is_begun first = false
 
-module _ (setup : Setup) (seat : ℕ) (role : Role) (kind : role.kind ≡ seats.Agent) (s : ActorState) (h : List Entry) (u : Under) (run : IsRunOf setup h) (p : IsDecisionPoint setup seat role h s h) (gives : GivesCall s.role s.memory (all_objects s.caches) u) where
+module _ (setup : Setup) (seat : ℕ) (role : Role) (kind : role.kind ≡ seats.Agent) (s : ActorState) (h : List Entry) (u : Under)
+    (run : IsRunOf setup h) (p : IsDecisionPoint setup seat role h s h) (gives : GivesCall s.role s.memory (all_objects s.caches) u) where
   abbrev rows : List Object
   rows = all_objects s.caches
 
@@ -295,24 +310,29 @@ module _ (setup : Setup) (seat : ℕ) (role : Role) (kind : role.kind ≡ seats.
       stays staying e =
           let task = begun (step_for q []) e in
           let calls : agent_call (op_at q uid epoch u.key [] (step_for q [])) ≡ Some u.call = ap task_call (sym task) ∙ gives.call in
-          let next : next_at q uid epoch u.key [] (step_for q []) ≡ Some (record { key = u.key; task = tasks.Agent (op_at q uid epoch u.key [] (step_for q [])); call = u.call }) = ap (with_call u.key (tasks.Agent (op_at q uid epoch u.key [] (step_for q [])))) calls in
+          let next : next_at q uid epoch u.key [] (step_for q []) ≡ Some
+          (record { key = u.key; task = tasks.Agent (op_at q uid epoch u.key [] (step_for q [])); call = u.call }) =
+          ap (with_call u.key (tasks.Agent (op_at q uid epoch u.key [] (step_for q [])))) calls in
           subst (WillPay setup seat seats.Agent h) (λ i. record { key = u.key; task = (sym task) i; call = u.call })
           (next_pays setup seat q uid epoch u.key staying (length q.claims) h stands [] (omega arith) _ (begins q uid epoch u.key [] _ next))
 
       by_deleting : (deleting mounted : Bool) → is_deleting q.meta ≡ deleting
-          → firsts.Begins u.task ≡ agent_first (if deleting then Some (at_start s.role.node epoch q uid steps.Unmounts) else if mounted then None else Some (at_start s.role.node epoch q uid (step_for q []))) → WillPay setup seat seats.Agent h u
+          → firsts.Begins u.task ≡ agent_first (if deleting then Some (at_start s.role.node epoch q uid steps.Unmounts) else if mounted then None
+          else Some (at_start s.role.node epoch q uid (step_for q []))) → WillPay setup seat seats.Agent h u
       by_deleting true mounted is e = goes is e
       by_deleting false true is e = not_dropped e
       by_deleting false false is e = stays is e
 
-    by_node : (on : Bool) (x : Option Uid) → (is_scheduled q && bytes_eq q.node s.role.node) ≡ on → q.meta.uid ≡ x → firsts.Begins u.task ≡ agent_first (if on then agent_known s.role.node epoch mounts q x else None) → WillPay setup seat seats.Agent h u
+    by_node : (on : Bool) (x : Option Uid) → (is_scheduled q && bytes_eq q.node s.role.node) ≡ on → q.meta.uid ≡ x
+        → firsts.Begins u.task ≡ agent_first (if on then agent_known s.role.node epoch mounts q x else None) → WillPay setup seat seats.Agent h u
     by_node false x on known e = not_dropped e
     by_node true None on known e = not_dropped e
     by_node true (Some uid) on known e =
         let parts = and_parts (is_scheduled q) (bytes_eq q.node s.role.node) on in
         by_deleting uid known parts.0 ((bytes_eq-Decides q.node s.role.node).0 parts.1) (is_deleting q.meta) (has_row uid mounts) refl e
 
-  by_row : (epoch : ℕ) (mounts : List MountRow) (row : Option Object) → row_at u.key rows ≡ row → firsts.Begins u.task ≡ agent_first (agent_begins s.role.node epoch mounts row) → WillPay setup seat seats.Agent h u
+  by_row : (epoch : ℕ) (mounts : List MountRow) (row : Option Object) → row_at u.key rows ≡ row
+      → firsts.Begins u.task ≡ agent_first (agent_begins s.role.node epoch mounts row) → WillPay setup seat seats.Agent h u
   by_row epoch mounts (Some (Pod q)) is e = by_node epoch mounts q is (is_scheduled q && bytes_eq q.node s.role.node) q.meta.uid refl refl e
   by_row epoch mounts None is e = not_dropped e
   by_row epoch mounts (Some (Class x)) is e = not_dropped e
@@ -327,4 +347,5 @@ module _ (setup : Setup) (seat : ℕ) (role : Role) (kind : role.kind ≡ seats.
   by_memory None None e = absurd e
 
 pub agents_pay : AgentsPay
-agents_pay setup seat role kind s h u run p gives = subst (λ k. WillPay setup seat k h u) (sym kind) (by_memory setup seat role kind s h u run p gives s.memory.epoch s.memory.mounts (decided setup seat role kind s h u run p gives))
+agents_pay setup seat role kind s h u run p gives =
+    subst (λ k. WillPay setup seat k h u) (sym kind) (by_memory setup seat role kind s h u run p gives s.memory.epoch s.memory.mounts (decided setup seat role kind s h u run p gives))

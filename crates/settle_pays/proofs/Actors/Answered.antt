@@ -1,17 +1,17 @@
 -- What is answered to the write of an object that stands: a refusal, or the object as it was written, which then has left or stands there.
 use Rattle.std.proofs.Common.{◌≡◌, ℕ, ◌+◌, Bool, true, false, Option, Some, None, refl, sym, subst}
-use Rattle.kube_types.specs.declared.key.Key.{Key}
-use Rattle.kube_types.specs.declared.names.Field.{Field}
-use Rattle.kube_types.specs.declared.names.Rule.{Rule}
-use Rattle.kube_types.specs.declared.parts.ClaimPhase.{ClaimPhase}
-use Rattle.kube_types.specs.declared.parts.Modes.{Modes}
-use Rattle.kube_types.specs.declared.parts.VolumePhase.{VolumePhase}
-use Rattle.kube_types.specs.declared.objects.Amount.{Amount}
-use Rattle.kube_types.specs.declared.objects.Claim.{Claim as ClaimData}
-use Rattle.kube_types.specs.declared.objects.Volume.{Volume as VolumeData}
-use Rattle.kube_types.specs.declared.objects.Object.{Object}
-use Rattle.kube_types.specs.declared.objects.Object.TheVariants.{Volume, Claim}
-use Rattle.kube_types.specs.Keys.{key_of, put_row, row_at}
+use Rattle.kube_objects.specs.declared.key.Key.{Key}
+use Rattle.kube_parts.specs.declared.names.Field.{Field}
+use Rattle.kube_parts.specs.declared.names.Rule.{Rule}
+use Rattle.kube_parts.specs.declared.parts.ClaimPhase.{ClaimPhase}
+use Rattle.kube_parts.specs.declared.parts.Modes.{Modes}
+use Rattle.kube_parts.specs.declared.parts.VolumePhase.{VolumePhase}
+use Rattle.kube_objects.specs.declared.objects.Amount.{Amount}
+use Rattle.kube_objects.specs.declared.objects.Claim.{Claim as ClaimData}
+use Rattle.kube_objects.specs.declared.objects.Volume.{Volume as VolumeData}
+use Rattle.kube_objects.specs.declared.objects.Object.{Object}
+use Rattle.kube_objects.specs.declared.objects.Object.TheVariants.{Volume, Claim}
+use Rattle.kube_objects.specs.Keys.{key_of, put_row, row_at}
 use Rattle.call_types.specs.declared.request.NewStatus.{NewStatus}
 use Rattle.call_types.specs.declared.request.NewStatus.TheVariants as statuses
 use Rattle.call_types.specs.declared.request.Request.TheVariants.{Update, UpdateStatus}
@@ -63,7 +63,8 @@ module _ (setup : Setup) (w : World) (kind : SeatKind) where
       subst (λ row. Answered w (updated_object old new (w.store.version + 1)) (OnStore (update w.store kind new given row))) (sym there)
       (refused_or w _ _ _ _ (rule_or w _ _ _ (field_or w _ _ _ (wrote w _))))
 
-  stated : (key : Key) (status : NewStatus) (given : Option ℕ) (old new : Object) → row_at key w.store.rows ≡ Some old → with_status status old ≡ Some new → Answered w (at_version new (w.store.version + 1)) (effect setup w kind (UpdateStatus key status given))
+  stated : (key : Key) (status : NewStatus) (given : Option ℕ) (old new : Object) → row_at key w.store.rows ≡ Some old
+      → with_status status old ≡ Some new → Answered w (at_version new (w.store.version + 1)) (effect setup w kind (UpdateStatus key status given))
   unfolding effect on_devices device_answer outcome update_status written_if_fits
   stated key status given old new there fits =
       subst (λ row. Answered w (at_version new (w.store.version + 1)) (OnStore (update_status w.store kind status given row))) (sym there)
@@ -71,21 +72,26 @@ module _ (setup : Setup) (w : World) (kind : SeatKind) where
 
   -- a volume
 
-  pub volume_updated : (v x : VolumeData) (given : Option ℕ) → row_at (key_of (Volume x)) w.store.rows ≡ Some (Volume v) → Answered w (Volume (rewritten v x (w.store.version + 1))) (effect setup w kind (Update (Volume x) given))
+  pub volume_updated : (v x : VolumeData) (given : Option ℕ) → row_at (key_of (Volume x)) w.store.rows ≡ Some (Volume v)
+      → Answered w (Volume (rewritten v x (w.store.version + 1))) (effect setup w kind (Update (Volume x) given))
   unfolding updated_object with_meta with_status_of
   volume_updated v x given there = updated (Volume v) (Volume x) given there
 
-  pub volume_phased : (v : VolumeData) (phase : VolumePhase) (given : Option ℕ) → row_at (volume_key v.meta.name) w.store.rows ≡ Some (Volume v) → Answered w (Volume (phased v phase (w.store.version + 1))) (effect setup w kind (UpdateStatus (volume_key v.meta.name) (statuses.Volume phase) given))
+  pub volume_phased : (v : VolumeData) (phase : VolumePhase) (given : Option ℕ) → row_at (volume_key v.meta.name) w.store.rows ≡ Some (Volume v)
+      → Answered w (Volume (phased v phase (w.store.version + 1))) (effect setup w kind (UpdateStatus (volume_key v.meta.name) (statuses.Volume phase) given))
   unfolding with_status at_version with_meta
   volume_phased v phase given there = stated (volume_key v.meta.name) (statuses.Volume phase) given (Volume v) (Volume (record v { phase = phase })) there refl
 
   -- a claim
 
-  pub claim_updated : (c x : ClaimData) (given : Option ℕ) → row_at (key_of (Claim x)) w.store.rows ≡ Some (Claim c) → Answered w (Claim (rewritten_claim c x (w.store.version + 1))) (effect setup w kind (Update (Claim x) given))
+  pub claim_updated : (c x : ClaimData) (given : Option ℕ) → row_at (key_of (Claim x)) w.store.rows ≡ Some (Claim c)
+      → Answered w (Claim (rewritten_claim c x (w.store.version + 1))) (effect setup w kind (Update (Claim x) given))
   unfolding updated_object with_meta with_status_of
   claim_updated c x given there = updated (Claim c) (Claim x) given there
 
   pub claim_stated : (c : ClaimData) (phase : ClaimPhase) (modes : Modes) (amount : Option Amount) (given : Option ℕ) → row_at (claim_key c.meta.namespace c.meta.name) w.store.rows ≡ Some (Claim c)
-      → Answered w (Claim (with_claim_status c phase modes amount (w.store.version + 1))) (effect setup w kind (UpdateStatus (claim_key c.meta.namespace c.meta.name) (statuses.Claim phase modes amount) given))
+      → Answered w (Claim (with_claim_status c phase modes amount (w.store.version + 1)))
+      (effect setup w kind (UpdateStatus (claim_key c.meta.namespace c.meta.name) (statuses.Claim phase modes amount) given))
   unfolding with_status at_version with_meta
-  claim_stated c phase modes amount given there = stated (claim_key c.meta.namespace c.meta.name) (statuses.Claim phase modes amount) given (Claim c) (Claim (record c { phase = phase; got_modes = modes; got = amount })) there refl
+  claim_stated c phase modes amount given there =
+      stated (claim_key c.meta.namespace c.meta.name) (statuses.Claim phase modes amount) given (Claim c) (Claim (record c { phase = phase; got_modes = modes; got = amount })) there refl

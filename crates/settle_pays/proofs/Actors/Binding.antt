@@ -3,22 +3,50 @@ use Rattle.std.proofs.Common.{◌≡◌, ◌∙◌, ◌⊎◌, ℕ, ◌+◌, Lis
 use Rattle.std.specs.Prelude.{◌&&◌, ◌||◌, bytes_eq, is_none, is_some, not}
 use Rattle.std.proofs.lemmas.Bool.{and_from}
 use Rattle.std.proofs.lemmas.Slice.Eq.{bytes_eq-Decides}
-use Rattle.kube_types.specs.declared.key.Key.{Key}
-use Rattle.kube_types.specs.declared.uid.Uid.{Uid}
-use Rattle.kube_types.specs.declared.parts.ClaimPhase.TheVariants as claims
-use Rattle.kube_types.specs.declared.parts.VolumePhase.TheVariants as volumes
-use Rattle.kube_types.specs.declared.objects.Meta.{Meta}
-use Rattle.kube_types.specs.declared.objects.Ref.{Ref}
-use Rattle.kube_types.specs.declared.objects.Claim.{Claim as ClaimData}
-use Rattle.kube_types.specs.declared.objects.Volume.{Volume as VolumeData}
-use Rattle.kube_types.specs.declared.objects.Object.TheVariants.{Claim, Volume}
-use Rattle.kube_types.specs.Bindings.{bind_completed, bound_by_controller, carries, is_bound, is_completed, is_deleting, is_empty, is_ended, is_protected_volume, ref_uid, refers_carrying, uid_carries, names_claim, yes}
-use Rattle.kube_types.specs.Keys.{key_of, put_row, row_at}
+use Rattle.kube_objects.specs.declared.key.Key.{Key}
+use Rattle.kube_parts.specs.declared.uid.Uid.{Uid}
+use Rattle.kube_parts.specs.declared.parts.ClaimPhase.TheVariants as claims
+use Rattle.kube_parts.specs.declared.parts.VolumePhase.TheVariants as volumes
+use Rattle.kube_objects.specs.declared.objects.Meta.{Meta}
+use Rattle.kube_objects.specs.declared.objects.Ref.{Ref}
+use Rattle.kube_objects.specs.declared.objects.Claim.{Claim as ClaimData}
+use Rattle.kube_objects.specs.declared.objects.Volume.{Volume as VolumeData}
+use Rattle.kube_objects.specs.declared.objects.Object.TheVariants.{Claim, Volume}
+use Rattle.kube_objects.specs.Bindings.{
+  bind_completed,
+  bound_by_controller,
+  carries,
+  is_bound,
+  is_completed,
+  is_deleting,
+  is_empty,
+  is_ended,
+  is_protected_volume,
+  ref_uid,
+  refers_carrying,
+  uid_carries,
+  names_claim,
+  yes,
+}
+use Rattle.kube_objects.specs.Keys.{key_of, put_row, row_at}
 use Rattle.call_types.specs.declared.entry.Entry.{Entry}
 use Rattle.call_types.specs.declared.request.Request.{Request}
 use Rattle.call_types.specs.declared.request.SeatKind.TheVariants as seats
 use Rattle.call_types.specs.declared.setup.Setup.{Setup}
-use Rattle.binder_model.specs.BindWrites.{annotated_meta, annotated_meta_if, claim_write, completed_with, is_completed_with, next_write, shows_bound, taken_for, write_bound, write_claim_status, write_completion, write_reference}
+use Rattle.binder_model.specs.BindWrites.{
+  annotated_meta,
+  annotated_meta_if,
+  claim_write,
+  completed_with,
+  is_completed_with,
+  next_write,
+  shows_bound,
+  taken_for,
+  write_bound,
+  write_claim_status,
+  write_completion,
+  write_reference,
+}
 use Rattle.binder_model.specs.ObjectKeys.{volume_key}
 use Rattle.binder_model.specs.Same.{same_amount, same_modes}
 use Rattle.binder_model.specs.World.{effect, world}
@@ -47,8 +75,11 @@ stage : (v : VolumeData) (c : ClaimData) (call : Request) → next_write v c ≡
 unfolding next_write claim_write
 stage v c call e = by (carries v c) (is_ended v.phase) (is_bound v.phase) (is_protected_volume v) (is_completed_with c v) (shows_bound c v) refl refl refl refl refl e
   where
-    by : (carrying ended bound guarded completed shown : Bool) → carries v c ≡ carrying → is_ended v.phase ≡ ended → is_bound v.phase ≡ bound → is_completed_with c v ≡ completed → shows_bound c v ≡ shown
-        → (if not carrying then (if ended then None else Some (write_reference v c)) else if not bound then (if ended || not guarded then None else Some (write_bound v)) else if not completed then Some (write_completion v c) else if not shown then Some (write_claim_status v c) else None) ≡ Some call
+    by : (carrying ended bound guarded completed shown : Bool) → carries v c ≡ carrying → is_ended v.phase ≡ ended → is_bound v.phase ≡ bound
+        → is_completed_with c v ≡ completed → shows_bound c v ≡ shown
+        → (if not carrying then (if ended then None else Some (write_reference v c)) else if not bound then
+        (if ended || not guarded then None else Some (write_bound v)) else if not completed then Some
+        (write_completion v c) else if not shown then Some (write_claim_status v c) else None) ≡ Some call
         → Stage v c call
     by false true bound guarded completed shown ec ee eb ed es n = none_some n
     by false false bound guarded completed shown ec ee eb ed es n = First ec ee (sym (one _ call n))
@@ -156,7 +187,8 @@ module _ (setup : Setup) (seat : ℕ) (key : Key) where
   unfolding moved
   volume_next h v new c call (Refuses refusal is) on n moves = none_some (sym (ap (moved (machines.Binds v c)) is) ∙ moves)
   volume_next h v new c call (Goes is) on n moves = none_some (sym (ap (moved (machines.Binds v c)) is) ∙ moves)
-  volume_next h v new c call (Stays is put) on n moves = subst (MachinePays setup seat key (with_own setup seat h call)) (one (machines.Binds new c) n (sym (ap (moved (machines.Binds v c)) is) ∙ moves)) (on put)
+  volume_next h v new c call (Stays is put) on n moves =
+      subst (MachinePays setup seat key (with_own setup seat h call)) (one (machines.Binds new c) n (sym (ap (moved (machines.Binds v c)) is) ∙ moves)) (on put)
 
   claim_next : (h : List Entry) (v : VolumeData) (c new : ClaimData) (call : Request) → Answered (world setup h) (Claim new) (effect setup (world setup h) seats.Binder call)
       → ((world setup (with_own setup seat h call)).store.rows ≡ put_row (Claim new) (world setup h).store.rows → Pays (with_own setup seat h call) v new)
@@ -164,7 +196,8 @@ module _ (setup : Setup) (seat : ℕ) (key : Key) where
   unfolding moved
   claim_next h v c new call (Refuses refusal is) on n moves = none_some (sym (ap (moved (machines.Binds v c)) is) ∙ moves)
   claim_next h v c new call (Goes is) on n moves = none_some (sym (ap (moved (machines.Binds v c)) is) ∙ moves)
-  claim_next h v c new call (Stays is put) on n moves = subst (MachinePays setup seat key (with_own setup seat h call)) (one (machines.Binds v new) n (sym (ap (moved (machines.Binds v c)) is) ∙ moves)) (on put)
+  claim_next h v c new call (Stays is put) on n moves =
+      subst (MachinePays setup seat key (with_own setup seat h call)) (one (machines.Binds v new) n (sym (ap (moved (machines.Binds v c)) is) ∙ moves)) (on put)
 
   -- after the last write nothing is left to be written
   shown_ends : (h : List Entry) (v : VolumeData) (c : ClaimData) → carries v c ≡ true → is_bound v.phase ≡ true → is_completed_with c v ≡ true → shows_bound c v ≡ true → Pays h v c
@@ -177,7 +210,8 @@ module _ (setup : Setup) (seat : ℕ) (key : Key) where
       by (Fourth so on done open_ is) = absurd (true≢false (sym shown ∙ open_))
 
   -- the fourth write
-  fourth : (h : List Entry) (v : VolumeData) (c : ClaimData) → StandsVolume (world setup h) v → StandsClaim (world setup h) c → carries v c ≡ true → is_bound v.phase ≡ true → is_completed c ≡ true → c.volume_name ≡ v.meta.name → Pays h v c
+  fourth : (h : List Entry) (v : VolumeData) (c : ClaimData) → StandsVolume (world setup h) v → StandsClaim (world setup h) c → carries v c ≡ true
+      → is_bound v.phase ≡ true → is_completed c ≡ true → c.volume_name ≡ v.meta.name → Pays h v c
   fourth h v c s sc carried bound completed named call asks = by (stage v c call (bind_is v c call asks))
     where
       shows : shows_bound (shown_claim h v c) v ≡ true
@@ -190,7 +224,8 @@ module _ (setup : Setup) (seat : ℕ) (key : Key) where
       writes open_ =
           write_pays setup seat key h (machines.Binds v c) (write_claim_status v c) refl (status_pays setup (world setup h) seats.Binder v c sc completed there carried bound open_)
           (claim_next h v c (shown_claim h v c) (write_claim_status v c) (claim_stated setup (world setup h) seats.Binder c claims.Bound v.modes (Some v.amount) (Some c.meta.version) sc.there)
-          (λ put. shown_ends (with_own setup seat h (write_claim_status v c)) v (shown_claim h v c) (carries_alike v c (shown_claim h v c) refl refl refl ∙ carried) bound (completed_so v (shown_claim h v c) completed named) shows))
+          (λ put. shown_ends (with_own setup seat h (write_claim_status v c)) v (shown_claim h v c)
+          (carries_alike v c (shown_claim h v c) refl refl refl ∙ carried) bound (completed_so v (shown_claim h v c) completed named) shows))
 
       by : Stage v c call → PaysFrom setup seat key h (machines.Binds v c) call
       by (First free going is) = absurd (true≢false (sym carried ∙ free))
@@ -199,15 +234,20 @@ module _ (setup : Setup) (seat : ℕ) (key : Key) where
       by (Fourth so on done open_ is) = subst (PaysFrom setup seat key h (machines.Binds v c)) (sym is) (writes open_)
 
   -- the third write, and those after it
-  third : (h : List Entry) (v : VolumeData) (c : ClaimData) → StandsVolume (world setup h) v → StandsClaim (world setup h) c → carries v c ≡ true → is_bound v.phase ≡ true → GoesOnWith v c → Pays h v c
+  third : (h : List Entry) (v : VolumeData) (c : ClaimData) → StandsVolume (world setup h) v → StandsClaim (world setup h) c → carries v c ≡ true
+      → is_bound v.phase ≡ true → GoesOnWith v c → Pays h v c
   third h v c s sc carried bound (inr done) call asks = fourth h v c s sc carried bound done.0 done.1 call asks
   third h v c s sc carried bound (inl open_) call asks = by (stage v c call (bind_is v c call asks))
     where
       writes : PaysFrom setup seat key h (machines.Binds v c) (write_completion v c)
       writes =
           write_pays setup seat key h (machines.Binds v c) (write_completion v c) refl (completion_pays setup (world setup h) seats.Binder v c s sc carried bound open_.0 open_.1)
-          (claim_next h v c (done_claim h v c) (write_completion v c) (claim_updated setup (world setup h) seats.Binder c (completed_with c v) (Some c.meta.version) (ap (λ k. row_at k (world setup h).store.rows) (done_key v c 0) ∙ sc.there))
-          (λ put. fourth (with_own setup seat h (write_completion v c)) v (done_claim h v c) (same_volume setup seat h (write_completion v c) c (done_claim h v c) sc put v s) (new_claim setup seat h (write_completion v c) c (done_claim h v c) sc put refl) (done_carried v c (next_version h) ∙ carried) bound (done_completed v c (next_version h)) (done_named v c (next_version h))))
+          (claim_next h v c (done_claim h v c) (write_completion v c)
+          (claim_updated setup (world setup h) seats.Binder c (completed_with c v) (Some c.meta.version) (ap (λ k. row_at k (world setup h).store.rows) (done_key v c 0) ∙ sc.there))
+          (λ put. fourth (with_own setup seat h (write_completion v c)) v (done_claim h v c)
+          (same_volume setup seat h (write_completion v c) c (done_claim h v c) sc put v s)
+          (new_claim setup seat h (write_completion v c) c (done_claim h v c) sc put refl) (done_carried v c (next_version h) ∙ carried) bound
+          (done_completed v c (next_version h)) (done_named v c (next_version h))))
 
       by : Stage v c call → PaysFrom setup seat key h (machines.Binds v c) call
       by (First free going is) = absurd (true≢false (sym carried ∙ free))
@@ -224,7 +264,9 @@ module _ (setup : Setup) (seat : ℕ) (key : Key) where
           let u = carried_uid v c carried in
           write_pays setup seat key h (machines.Binds v c) (write_bound v) refl (bound_write_pays setup (world setup h) seats.Binder v u.0 s u.1 going open_)
           (volume_next h v (bound_volume h v) c (write_bound v) (volume_phased setup (world setup h) seats.Binder v volumes.Bound (Some v.meta.version) s.there)
-          (λ put. third (with_own setup seat h (write_bound v)) (bound_volume h v) c (new_volume setup seat h (write_bound v) v (bound_volume h v) s refl put) (same_claim setup seat h (write_bound v) v (bound_volume h v) s refl put c sc) carried refl (with_same_name v (bound_volume h v) c refl goes)))
+          (λ put. third (with_own setup seat h (write_bound v)) (bound_volume h v) c
+          (new_volume setup seat h (write_bound v) v (bound_volume h v) s refl put)
+          (same_claim setup seat h (write_bound v) v (bound_volume h v) s refl put c sc) carried refl (with_same_name v (bound_volume h v) c refl goes)))
 
       on : is_bound v.phase ≡ true → PaysFrom setup seat key h (machines.Binds v c) call
       on bound = third h v c s sc carried bound goes call asks
@@ -243,8 +285,13 @@ module _ (setup : Setup) (seat : ℕ) (key : Key) where
       writes : carries v c ≡ false → next_write v c ≡ Some (write_reference v c) → PaysFrom setup seat key h (machines.Binds v c) (write_reference v c)
       writes free next =
           write_pays setup seat key h (machines.Binds v c) (write_reference v c) refl (first free next)
-          (volume_next h v (taken_volume h v c) c (write_reference v c) (volume_updated setup (world setup h) seats.Binder v (taken_for v c) (Some v.meta.version) (ap (λ k. row_at k (world setup h).store.rows) (taken_key v c 0) ∙ at_key setup (world setup h) seats.Binder v s))
-          (λ put. second (with_own setup seat h (write_reference v c)) (taken_volume h v c) c (new_volume setup seat h (write_reference v c) v (taken_volume h v c) s (taken_key v c (next_version h)) put) (same_claim setup seat h (write_reference v c) v (taken_volume h v c) s (taken_key v c (next_version h)) put c sc) (taken_carries v c (next_version h) sc.uid sc.has) (with_same_name v (taken_volume h v c) c (ap (λ (k : Key). k.name) (taken_key v c (next_version h))) goes)))
+          (volume_next h v (taken_volume h v c) c (write_reference v c)
+          (volume_updated setup (world setup h) seats.Binder v (taken_for v c) (Some v.meta.version)
+          (ap (λ k. row_at k (world setup h).store.rows) (taken_key v c 0) ∙ at_key setup (world setup h) seats.Binder v s))
+          (λ put. second (with_own setup seat h (write_reference v c)) (taken_volume h v c) c
+          (new_volume setup seat h (write_reference v c) v (taken_volume h v c) s (taken_key v c (next_version h)) put)
+          (same_claim setup seat h (write_reference v c) v (taken_volume h v c) s (taken_key v c (next_version h)) put c sc)
+          (taken_carries v c (next_version h) sc.uid sc.has) (with_same_name v (taken_volume h v c) c (ap (λ (k : Key). k.name) (taken_key v c (next_version h))) goes)))
 
       on : carries v c ≡ true → PaysFrom setup seat key h (machines.Binds v c) call
       on carried = second h v c s sc carried goes call asks

@@ -3,13 +3,13 @@ use Rattle.std.proofs.Common.{◌≡◌, ◌∙◌, ℕ, ◌+◌, ◌≤◌, Lis
 use Rattle.std.specs.Prelude.{◌&&◌, ◌||◌, bytes_eq, cond, not}
 use Rattle.std.specs.List.{list_any}
 use Rattle.std.proofs.lemmas.Bool.{or_left}
-use Rattle.kube_types.specs.declared.uid.Uid.{Uid}
-use Rattle.kube_types.specs.declared.objects.Pod.{Pod as PodData}
-use Rattle.kube_types.specs.declared.objects.Object.{Object}
-use Rattle.kube_types.specs.declared.objects.Object.TheVariants.{Pod}
-use Rattle.kube_types.specs.Bindings.{is_deleting, is_scheduled, is_uid}
-use Rattle.kube_types.specs.Keys.{AreRows, key_of, row_at}
-use Rattle.kube_types.specs.declared.names.Field.TheVariants as fields
+use Rattle.kube_parts.specs.declared.uid.Uid.{Uid}
+use Rattle.kube_objects.specs.declared.objects.Pod.{Pod as PodData}
+use Rattle.kube_objects.specs.declared.objects.Object.{Object}
+use Rattle.kube_objects.specs.declared.objects.Object.TheVariants.{Pod}
+use Rattle.kube_objects.specs.Bindings.{is_deleting, is_scheduled, is_uid}
+use Rattle.kube_objects.specs.Keys.{AreRows, key_of, row_at}
+use Rattle.kube_parts.specs.declared.names.Field.TheVariants as fields
 use Rattle.call_types.specs.declared.reply.Refusal.TheVariants as refusals
 use Rattle.call_types.specs.declared.request.Request.TheVariants as requests
 use Rattle.call_types.specs.declared.request.SeatKind.TheVariants as seats
@@ -43,7 +43,8 @@ without_none : (node : List ℕ) (pod : Uid) (ms : List MountAt) → is_mounted_
 without_none node pod [] none = refl
 without_none node pod (m ∷ ms) none = by (bytes_eq m.node node) (same_uid m.row.pod pod) refl none (without_none node pod ms)
   where
-    by : (here same : Bool) → same_uid m.row.pod pod ≡ same → list_any (λ r. same_uid r.pod pod) (if here then m.row ∷ rows_on node ms else rows_on node ms) ≡ false → (is_mounted_on node pod ms ≡ false → without_mount node pod ms ≡ ms)
+    by : (here same : Bool) → same_uid m.row.pod pod ≡ same
+        → list_any (λ r. same_uid r.pod pod) (if here then m.row ∷ rows_on node ms else rows_on node ms) ≡ false → (is_mounted_on node pod ms ≡ false → without_mount node pod ms ≡ ms)
         → cond (not (here && same)) (m ∷ without_mount node pod ms) (without_mount node pod ms) ≡ m ∷ ms
     by true true is bare rest = absurd (true≢false (sym (or_left (same_uid m.row.pod pod) (is_mounted_on node pod ms) is) ∙ bare))
     by true false is bare rest = ap (λ xs. m ∷ xs) (rest (sym (ap (λ b. b || is_mounted_on node pod ms) is) ∙ bare))
@@ -83,9 +84,11 @@ module _ (setup : Setup) (w : World) (p : PodData) (uid : Uid) (s : IsPodThere w
     unfolding world_after with_mounts device_answer unless_stale
     new_pays fresh bare =
         let ms : List MountAt = with_mount p.node uid claims w.devices.mounts in
-        falls ms (mount_pays setup w p uid epoch claims (with_mounts w.devices p.node ms) (rows_on p.node ms) s.order s.there s.known s.scheduled staying (mounted_is false bare) s.only (rw fresh refl) refl)
+        falls ms (mount_pays setup w p uid epoch claims (with_mounts w.devices p.node ms)
+        (rows_on p.node ms) s.order s.there s.known s.scheduled staying (mounted_is false bare) s.only (rw fresh refl) refl)
 
-    by_mounted : epoch_if_stale w.devices p.node epoch ≡ None → (b : Bool) → is_mounted_on p.node uid w.devices.mounts ≡ b → PaysBy (with_mounts w.devices p.node (with_mount p.node uid claims w.devices.mounts))
+    by_mounted : epoch_if_stale w.devices p.node epoch ≡ None → (b : Bool) → is_mounted_on p.node uid w.devices.mounts ≡ b
+        → PaysBy (with_mounts w.devices p.node (with_mount p.node uid claims w.devices.mounts))
     by_mounted fresh true there = same_pays (with_mount p.node uid claims w.devices.mounts) (rw there refl)
     by_mounted fresh false bare = new_pays fresh bare
 
@@ -105,7 +108,8 @@ module _ (setup : Setup) (w : World) (p : PodData) (uid : Uid) (s : IsPodThere w
         let ms : List MountAt = without_mount p.node uid w.devices.mounts in
         falls ms (unmount_pays setup w p uid epoch (with_mounts w.devices p.node ms) (rows_on p.node ms) s.order s.there s.known s.scheduled going (mounted_is true there) s.only (rw fresh refl) refl)
 
-    by_there : epoch_if_stale w.devices p.node epoch ≡ None → (b : Bool) → is_mounted_on p.node uid w.devices.mounts ≡ b → PaysBy (with_mounts w.devices p.node (without_mount p.node uid w.devices.mounts))
+    by_there : epoch_if_stale w.devices p.node epoch ≡ None → (b : Bool) → is_mounted_on p.node uid w.devices.mounts ≡ b
+        → PaysBy (with_mounts w.devices p.node (without_mount p.node uid w.devices.mounts))
     by_there fresh true there = gone_pays fresh there
     by_there fresh false bare = same_pays (without_mount p.node uid w.devices.mounts) (without_none p.node uid w.devices.mounts bare)
 
@@ -130,7 +134,8 @@ module _ (setup : Setup) (w : World) (p : PodData) (order : AreRows w.store.rows
   placed true q same o e = none_some e
   placed false q same o e = ap (λ (x : PodData). Removes (at_version (Pod x) (w.store.version + 1))) same
 
-  going : (b : Bool) (q : PodData) → q ≡ p → EndsIt (refuse b (refusals.Invalid fields.Deletion) (refuse (not (bytes_eq q.node node)) (refusals.Invalid fields.NodeName) (Removes (at_version (Pod q) (w.store.version + 1)))))
+  going : (b : Bool) (q : PodData) → q ≡ p
+      → EndsIt (refuse b (refusals.Invalid fields.Deletion) (refuse (not (bytes_eq q.node node)) (refusals.Invalid fields.NodeName) (Removes (at_version (Pod q) (w.store.version + 1)))))
   unfolding refuse
   going true q same o e = none_some e
   going false q same o e = placed (not (bytes_eq q.node node)) q same o e

@@ -3,22 +3,22 @@ use Rattle.std.proofs.Common.{◌≡◌, ◌∙◌, ℕ, List, [], ◌∷◌, Bo
 use Rattle.std.specs.Prelude.{◌&&◌, ◌||◌, is_none, is_some, not}
 use Rattle.std.specs.List.{list_any}
 use Rattle.std.proofs.lemmas.Bool.{and_parts}
-use Rattle.kube_types.specs.declared.key.Key.{Key}
-use Rattle.kube_types.specs.declared.uid.Uid.{Uid}
-use Rattle.kube_types.specs.declared.names.Due.TheVariants as dues
+use Rattle.kube_objects.specs.declared.key.Key.{Key}
+use Rattle.kube_parts.specs.declared.uid.Uid.{Uid}
+use Rattle.kube_parts.specs.declared.names.Due.TheVariants as dues
 use Rattle.kube_types.specs.declared.lookup.Live.TheVariants.{NotAsked}
-use Rattle.kube_types.specs.declared.parts.ClaimPhase.{ClaimPhase}
-use Rattle.kube_types.specs.declared.parts.ClaimPhase.TheVariants as claims
-use Rattle.kube_types.specs.declared.parts.Kind.TheVariants as kinds
-use Rattle.kube_types.specs.declared.objects.Class.{Class as ClassData}
-use Rattle.kube_types.specs.declared.objects.Ref.{Ref}
-use Rattle.kube_types.specs.declared.objects.Claim.{Claim as ClaimData}
-use Rattle.kube_types.specs.declared.objects.Volume.{Volume as VolumeData}
-use Rattle.kube_types.specs.declared.objects.Object.{Object}
-use Rattle.kube_types.specs.declared.objects.Object.TheVariants.{Volume}
-use Rattle.kube_types.specs.Bindings.{beta_class, carries, has_key, is_completed, is_deleting, is_empty, is_for, is_lost, is_uid, lacks_class, names_claim, ref_uid, refers_carrying, uid_carries}
-use Rattle.kube_types.specs.Keys.{AreRows, is_of_kind, key_of, row_at, rows_of}
-use Rattle.kube_types.proofs.KeyOrder.{row_at_key}
+use Rattle.kube_parts.specs.declared.parts.ClaimPhase.{ClaimPhase}
+use Rattle.kube_parts.specs.declared.parts.ClaimPhase.TheVariants as claims
+use Rattle.kube_parts.specs.declared.parts.Kind.TheVariants as kinds
+use Rattle.kube_objects.specs.declared.objects.Class.{Class as ClassData}
+use Rattle.kube_objects.specs.declared.objects.Ref.{Ref}
+use Rattle.kube_objects.specs.declared.objects.Claim.{Claim as ClaimData}
+use Rattle.kube_objects.specs.declared.objects.Volume.{Volume as VolumeData}
+use Rattle.kube_objects.specs.declared.objects.Object.{Object}
+use Rattle.kube_objects.specs.declared.objects.Object.TheVariants.{Volume}
+use Rattle.kube_objects.specs.Bindings.{beta_class, carries, has_key, is_completed, is_deleting, is_empty, is_for, is_lost, is_uid, lacks_class, names_claim, ref_uid, refers_carrying, uid_carries}
+use Rattle.kube_objects.specs.Keys.{AreRows, is_of_kind, key_of, row_at, rows_of}
+use Rattle.kube_objects.proofs.KeyOrder.{row_at_key}
 use Rattle.call_types.specs.declared.entry.Entry.{Entry}
 use Rattle.call_types.specs.declared.request.Request.{Request}
 use Rattle.call_types.specs.declared.request.Request.TheVariants.{Get}
@@ -34,7 +34,7 @@ use Rattle.binder_model.specs.World.{world}
 use Rattle.model_laws.proofs.Histories.{rows_stand_in_order}
 use Rattle.model_laws.proofs.Lists.{IsIn, none_some, one, some_filter}
 use Rattle.model_laws.proofs.Readings.{found_stands, member_stands}
-use Rattle.kube_types.specs.VolumeIndex.{as_volume}
+use Rattle.volume_index.specs.VolumeIndex.{as_volume}
 use Rattle.claim_sync.specs.declared.action.ClaimStep.{ClaimStep}
 use Rattle.claim_sync.specs.declared.action.ClaimStep.TheVariants as claim_steps
 use Rattle.claim_sync.specs.ClaimDecision.{IsVolumeFor, claim_decision, completed_step, has_write, is_blocked, is_open_to, may_assign, named_step, named_volume, unless_lost, unnamed_step}
@@ -114,7 +114,8 @@ module _ (setup : Setup) (seat : ℕ) (key : Key) where
   unfolding call_of moved
   loses_pay h c sc completed away open_ call asks =
       subst (PaysFrom setup seat key h (machines.Loses c)) (one (write_lost c) call asks)
-      (write_pays setup seat key h (machines.Loses c) (write_lost c) refl (lost_pays setup (world setup h) seats.Binder c c.got_modes c.got sc completed away (lost_same c.phase ∙ open_)) (λ n moves. none_some moves))
+      (write_pays setup seat key h (machines.Loses c) (write_lost c) refl
+      (lost_pays setup (world setup h) seats.Binder c c.got_modes c.got sc completed away (lost_same c.phase ∙ open_)) (λ n moves. none_some moves))
 
   confirmed_is : (c : ClaimData) (step : ClaimStep) (machine : Machine) → confirmed_for c step ≡ Some machine → machine ≡ machines.Loses c
   confirmed_is c claim_steps.Lost machine e = sym (one (machines.Loses c) machine e)
@@ -133,24 +134,28 @@ module _ (setup : Setup) (seat : ℕ) (key : Key) where
   unfolding call_of
   reads_pay h c sc completed away open_ call asks =
       subst (PaysFrom setup seat key h (machines.ReadsVolume c)) (held_is _ (Get (volume_key c.volume_name)) call asks)
-      (read_pays setup seat key h (machines.ReadsVolume c) (volume_key c.volume_name) (λ n moves. subst (MachinePays setup seat key (with_own setup seat h (Get (volume_key c.volume_name)))) (sym (loses n moves)) lost))
+      (read_pays setup seat key h (machines.ReadsVolume c) (volume_key c.volume_name)
+      (λ n moves. subst (MachinePays setup seat key (with_own setup seat h (Get (volume_key c.volume_name)))) (sym (loses n moves)) lost))
     where
       same : world setup (with_own setup seat h (Get (volume_key c.volume_name))) ≡ world setup h
       same = get_stays setup (world setup h) seats.Binder (volume_key c.volume_name)
 
       loses : (n : Machine) → moved (machines.ReadsVolume c) (answer setup h (Get (volume_key c.volume_name))) ≡ Some n → n ≡ machines.Loses c
-      loses n moves = read_loses c (row_at (volume_key c.volume_name) (world setup h).store.rows) n (sym (ap (moved (machines.ReadsVolume c)) (get_said setup (world setup h) seats.Binder (volume_key c.volume_name))) ∙ moves)
+      loses n moves = read_loses c (row_at (volume_key c.volume_name) (world setup h).store.rows) n
+          (sym (ap (moved (machines.ReadsVolume c)) (get_said setup (world setup h) seats.Binder (volume_key c.volume_name))) ∙ moves)
 
       lost : MachinePays setup seat key (with_own setup seat h (Get (volume_key c.volume_name))) (machines.Loses c)
       lost = loses_pay (with_own setup seat h (Get (volume_key c.volume_name))) c (subst (λ w. StandsClaim w c) (sym same) sc) completed
           (subst (λ w. (v : VolumeData) → row_at (volume_key c.volume_name) w.store.rows ≡ Some (Volume v) → carries v c ≡ false) (sym same) away) open_
 
-  assigns_pay : (h : List Entry) (c : ClaimData) (x : ClassData) → StandsClaim (world setup h) c → measure.is_seeking c ≡ true → lacks_class c ≡ true → has_match (world setup h).store.rows c ≡ false → MachinePays setup seat key h (machines.AssignsClass c x)
+  assigns_pay : (h : List Entry) (c : ClaimData) (x : ClassData) → StandsClaim (world setup h) c → measure.is_seeking c ≡ true → lacks_class c ≡ true
+      → has_match (world setup h).store.rows c ≡ false → MachinePays setup seat key h (machines.AssignsClass c x)
   unfolding call_of moved
   assigns_pay h c x sc seeking lacks none call asks =
       let l = and_parts (is_none c.class) (not (has_key beta_class c.meta.annotations)) lacks in
       subst (PaysFrom setup seat key h (machines.AssignsClass c x)) (held_is _ (write_class c x) call asks)
-      (write_pays setup seat key h (machines.AssignsClass c x) (write_class c x) refl (class_pays setup (world setup h) seats.Binder c x.meta.name sc seeking (none_text c.class l.0) (not_true (has_key beta_class c.meta.annotations) l.1) none) (λ n moves. none_some moves))
+      (write_pays setup seat key h (machines.AssignsClass c x) (write_class c x) refl
+      (class_pays setup (world setup h) seats.Binder c x.meta.name sc seeking (none_text c.class l.0) (not_true (has_key beta_class c.meta.annotations) l.1) none) (λ n moves. none_some moves))
     where
       none_text : (y : Option (List ℕ)) → is_none y ≡ true → y ≡ None
       none_text None e = refl
@@ -162,7 +167,8 @@ module _ (setup : Setup) (seat : ℕ) (key : Key) where
 
 -- ---- the decision, on rows that are the store's where the binder follows
 
-module _ (setup : Setup) (seat : ℕ) (key : Key) (h : List Entry) (pass : ImportsPass setup.imports) (cached : List Object) (ordered : AreRows cached) (agree : AgreeForBinder cached (world setup h).store.rows) (c : ClaimData) (sc : StandsClaim (world setup h) c) (machine : Machine) where
+module _ (setup : Setup) (seat : ℕ) (key : Key) (h : List Entry) (pass : ImportsPass setup.imports) (cached : List Object) (ordered : AreRows cached)
+    (agree : AgreeForBinder cached (world setup h).store.rows) (c : ClaimData) (sc : StandsClaim (world setup h) c) (machine : Machine) where
   abbrev rows : List Object
   rows = (world setup h).store.rows
 
@@ -209,16 +215,19 @@ module _ (setup : Setup) (seat : ℕ) (key : Key) (h : List Entry) (pass : Impor
       by true is e = drops_none machine e
       by false is e = on is e
 
-  completed_on : is_completed c ≡ true → is_empty c.volume_name ≡ false → (v : VolumeData) → row_at (volume_key c.volume_name) rows ≡ Some (Volume v) → Decided (completed_step c NotAsked (Some v)) → PaysHere machine
+  completed_on : is_completed c ≡ true → is_empty c.volume_name ≡ false → (v : VolumeData) → row_at (volume_key c.volume_name) rows ≡ Some (Volume v)
+      → Decided (completed_step c NotAsked (Some v)) → PaysHere machine
   completed_on completed named v on d = by (has_other_uid v c) (has_write v c) refl refl d
     where
-      by : (other writes : Bool) → has_other_uid v c ≡ other → has_write v c ≡ writes → Decided (if other then unless_lost c claim_steps.Lost else if writes then claim_steps.Bind else claim_steps.Nothing) → PaysHere machine
+      by : (other writes : Bool) → has_other_uid v c ≡ other → has_write v c ≡ writes
+          → Decided (if other then unless_lost c claim_steps.Lost else if writes then claim_steps.Bind else claim_steps.Nothing) → PaysHere machine
       by true writes eo ew e = lost_unless claim_steps.Lost e (λ open_ f. begins (machines.ReadsVolume c) (f ∙ ap (λ b. binder_firsts.Begins (lost_for b c)) named)
           (reads_pay setup seat key h c sc completed (λ u at. ap (λ x. carries x c) (ap (volume_in u) (sym at ∙ on)) ∙ other_free v c eo) open_))
       by false true eo ew e =
           let w = and_parts (is_none v.claim_ref || carries v c) (is_some (next_write v c)) ew in
           binds_named named e v on (inr (completed, named_by v on))
-          (λ free next. completed_pays setup (world setup h) seats.Binder v c (stands_named v on) sc completed (named_by v on) (none_ref v.claim_ref (left_of_or (is_none v.claim_ref) (carries v c) free w.0)) next)
+          (λ free next. completed_pays setup (world setup h) seats.Binder v c (stands_named v on) sc completed (named_by v on)
+          (none_ref v.claim_ref (left_of_or (is_none v.claim_ref) (carries v c) free w.0)) next)
         where
           left_of_or : (a b : Bool) → b ≡ false → (a || b) ≡ true → a ≡ true
           left_of_or true b f g = refl
@@ -237,10 +246,12 @@ module _ (setup : Setup) (seat : ℕ) (key : Key) (h : List Entry) (pass : Impor
       by (IsOne v on) = completed_on completed named v on (subst (λ y. Decided (completed_step c NotAsked (as_volume y))) (volume_seen c.volume_name ∙ on) d)
 
   -- open, and it names a volume
-  named_on : is_completed c ≡ false → is_deleting c.meta ≡ false → is_empty c.volume_name ≡ false → (v : VolumeData) → row_at (volume_key c.volume_name) rows ≡ Some (Volume v) → Decided (named_step c (Some v)) → PaysHere machine
+  named_on : is_completed c ≡ false → is_deleting c.meta ≡ false → is_empty c.volume_name ≡ false → (v : VolumeData)
+      → row_at (volume_key c.volume_name) rows ≡ Some (Volume v) → Decided (named_step c (Some v)) → PaysHere machine
   named_on open_ staying named v on d = by (is_blocked v) (is_open_to v c) refl refl d
     where
-      by : (blocked free : Bool) → is_blocked v ≡ blocked → is_open_to v c ≡ free → Decided (if blocked then claim_steps.Nothing else if free then claim_steps.Bind else claim_steps.Nothing) → PaysHere machine
+      by : (blocked free : Bool) → is_blocked v ≡ blocked → is_open_to v c ≡ free
+          → Decided (if blocked then claim_steps.Nothing else if free then claim_steps.Bind else claim_steps.Nothing) → PaysHere machine
       by true free eb ef e = drops_none machine e
       by false true eb ef e =
           binds_named named e v on (inl (open_, staying))
@@ -263,7 +274,8 @@ module _ (setup : Setup) (seat : ℕ) (key : Key) (h : List Entry) (pass : Impor
   matched open_ staying empty b =
       begins (machines.Binds b.volume c) b.begins
       (binds_pay setup seat key h b.volume c (volume_stands setup h b.volume at) sc (inl (open_, staying))
-      (λ free next. match_pays setup (world setup h) seats.Binder b.volume c (volume_stands setup h b.volume at) sc seeking (ap (λ v. eligible v c None) same ∙ best.candidate.eligible) free own_first))
+      (λ free next. match_pays setup (world setup h) seats.Binder b.volume c (volume_stands setup h b.volume at) sc seeking
+      (ap (λ v. eligible v c None) same ∙ best.candidate.eligible) free own_first))
     where
       best : IsBestAt cached c None (waits_for_pod cached c) [] b.place
       best = subst (λ x. IsVolumeFor x cached c (Some b.place)) empty b.choice
@@ -281,12 +293,14 @@ module _ (setup : Setup) (seat : ℕ) (key : Key) (h : List Entry) (pass : Impor
       on = member_stands (Volume b.volume) rows (rows_stand_in_order setup h) (goes_over cached rows ordered agree (Volume b.volume) refl among)
 
       at : row_at (volume_key b.volume.meta.name) rows ≡ Some (Volume b.volume)
-      at = ap (λ namespace. row_at (record { kind = kinds.PersistentVolume; namespace = namespace; name = b.volume.meta.name }) rows) (sym (no_namespace b.volume (rows_are_valid setup h pass (key_of (Volume b.volume)) (Volume b.volume) on))) ∙ on
+      at = ap (λ namespace. row_at (record { kind = kinds.PersistentVolume; namespace = namespace; name = b.volume.meta.name }) rows)
+          (sym (no_namespace b.volume (rows_are_valid setup h pass (key_of (Volume b.volume)) (Volume b.volume) on))) ∙ on
 
       own_first : (u : VolumeData) → row_at (key_of (Volume u)) rows ≡ Some (Volume u) → eligible u c None ≡ true → is_for u c ≡ true → is_for b.volume c ≡ true
       own_first u there fit own =
           ap (λ v. is_for v c) same
-          ∙ best_is_own cached c (waits_for_pod cached c) b.place best u (goes_over rows cached (rows_stand_in_order setup h) (λ k g. sym (agree k g)) (Volume u) refl (found_stands (key_of (Volume u)) (Volume u) rows there)) fit own
+          ∙ best_is_own cached c (waits_for_pod cached c) b.place best u
+          (goes_over rows cached (rows_stand_in_order setup h) (λ k g. sym (agree k g)) (Volume u) refl (found_stands (key_of (Volume u)) (Volume u) rows there)) fit own
 
   unnamed_so : is_completed c ≡ false → is_deleting c.meta ≡ false → is_empty c.volume_name ≡ true → Decided (unnamed_step cached c) → PaysHere machine
   unnamed_so open_ staying empty d = by (has_match cached c) (may_assign cached c) refl refl d
@@ -294,7 +308,8 @@ module _ (setup : Setup) (seat : ℕ) (key : Key) (h : List Entry) (pass : Impor
       seeking : measure.is_seeking c ≡ true
       seeking = rw (open_, staying, empty) refl
 
-      by : (found may : Bool) → has_match cached c ≡ found → may_assign cached c ≡ may → Decided (if found then claim_steps.Bind else if may then claim_steps.AssignClass else claim_steps.Nothing) → PaysHere machine
+      by : (found may : Bool) → has_match cached c ≡ found → may_assign cached c ≡ may
+          → Decided (if found then claim_steps.Bind else if may then claim_steps.AssignClass else claim_steps.Nothing) → PaysHere machine
       by true may ef em e = matched open_ staying empty e
       by false true ef em e =
           let l = and_parts (lacks_class c) (list_any is_default_row cached) em in
@@ -306,7 +321,8 @@ module _ (setup : Setup) (seat : ℕ) (key : Key) (h : List Entry) (pass : Impor
   claim_begun_pays d = by (is_completed c) (is_empty c.volume_name) (is_deleting c.meta) refl refl refl d
     where
       by : (completed empty deleting : Bool) → is_completed c ≡ completed → is_empty c.volume_name ≡ empty → is_deleting c.meta ≡ deleting
-          → Decided (if completed then (if empty then unless_lost c claim_steps.Lost else completed_step c NotAsked (named_volume cached c)) else if deleting then claim_steps.Nothing else if empty then unnamed_step cached c else named_step c (named_volume cached c))
+          → Decided (if completed then (if empty then unless_lost c claim_steps.Lost else completed_step c NotAsked (named_volume cached c)) else if
+          deleting then claim_steps.Nothing else if empty then unnamed_step cached c else named_step c (named_volume cached c))
           → PaysHere machine
       by true true deleting ec ee ed e =
           lost_unless claim_steps.Lost e (λ open_ f. begins (machines.Loses c) (f ∙ ap (λ b. binder_firsts.Begins (lost_for b c)) ee) (loses_pay setup seat key h c sc ec (unnamed_away ee) open_))

@@ -1,7 +1,7 @@
 -- A decision of the binder begins one of its machines, so what each of them pays is what the decision pays.
 use Rattle.std.proofs.Common.{◌≡◌, ◌∙◌, ℕ, List, Some, refl, sym, ap, subst}
-use Rattle.kube_types.specs.declared.objects.Object.{Object}
-use Rattle.kube_types.specs.Keys.{row_at}
+use Rattle.kube_objects.specs.declared.objects.Object.{Object}
+use Rattle.kube_objects.specs.Keys.{row_at}
 use Rattle.call_types.specs.declared.entry.Entry.{Entry}
 use Rattle.call_types.specs.declared.request.SeatKind.TheVariants as seats
 use Rattle.call_types.specs.declared.setup.Setup.{Setup}
@@ -16,7 +16,8 @@ use Rattle.worker_core.specs.Tasks.{IsBinderFirst, task_call}
 use Rattle.settle_pays.specs.Pays.Pays.{WillPay}
 use Rattle.settle_pays.proofs.Actors.Walking.{MachinePays}
 
-module _ (setup : Setup) (seat : ℕ) (h : List Entry) (u : Under) (rows : List Object) (asks : task_call u.task ≡ Some u.call) (each : (machine : Machine) → IsFirst rows (row_at u.key rows) (binder_firsts.Begins machine) → MachinePays setup seat u.key h machine) where
+module _ (setup : Setup) (seat : ℕ) (h : List Entry) (u : Under) (rows : List Object) (asks : task_call u.task ≡ Some u.call)
+    (each : (machine : Machine) → IsFirst rows (row_at u.key rows) (binder_firsts.Begins machine) → MachinePays setup seat u.key h machine) where
   by_task : (task : Task) → u.task ≡ task → IsBinderFirst rows u.key (firsts.Begins task) → WillPay setup seat seats.Binder h u
   by_task (tasks.Binder machine) is begins =
       subst (WillPay setup seat seats.Binder h) (λ i. record { key = u.key; task = (sym is) i; call = u.call }) (each machine begins u.call (ap task_call (sym is) ∙ asks))

@@ -1,15 +1,15 @@
 -- An Erase pays: a planned fault is behind then, and data that are removed were the volume's to pay for.
 use Rattle.std.proofs.Common.{◌≡◌, ◌∙◌, ℕ, ◌+◌, ◌≤◌, ◌<◌, ◌^◌, List, Bool, true, false, true≢false, Option, Some, None, inl, inr, refl, sym, arith, if◌then◌else◌}
 use Rattle.std.proofs.lemmas.Slice.Eq.{bytes_eq-Decides}
-use Rattle.kube_types.specs.declared.uid.Uid.{Uid}
-use Rattle.kube_types.specs.declared.objects.Claim.{Claim as ClaimData}
-use Rattle.kube_types.specs.declared.objects.DataId.{DataId}
-use Rattle.kube_types.specs.declared.objects.Volume.{Volume as VolumeData}
-use Rattle.kube_types.specs.declared.objects.Object.{Object}
-use Rattle.kube_types.specs.declared.objects.Object.TheVariants.{Claim, Volume}
-use Rattle.kube_types.specs.Bindings.{is_deleting}
-use Rattle.kube_types.specs.Keys.{AreRows, key_of, row_at}
-use Rattle.kube_types.specs.Sources.{data_id_of}
+use Rattle.kube_parts.specs.declared.uid.Uid.{Uid}
+use Rattle.kube_objects.specs.declared.objects.Claim.{Claim as ClaimData}
+use Rattle.kube_objects.specs.declared.objects.DataId.{DataId}
+use Rattle.kube_objects.specs.declared.objects.Volume.{Volume as VolumeData}
+use Rattle.kube_objects.specs.declared.objects.Object.{Object}
+use Rattle.kube_objects.specs.declared.objects.Object.TheVariants.{Claim, Volume}
+use Rattle.kube_objects.specs.Bindings.{is_deleting}
+use Rattle.kube_objects.specs.Keys.{AreRows, key_of, row_at}
+use Rattle.kube_objects.specs.Sources.{data_id_of}
 use Rattle.call_types.specs.declared.reply.Refusal.TheVariants as refusals
 use Rattle.call_types.specs.declared.reply.Reply.TheVariants as replies
 use Rattle.call_types.specs.declared.request.Request.TheVariants as requests
@@ -30,7 +30,8 @@ use Rattle.settle_pays.proofs.Actors.Ids.{AreFew, IsAlone, alone}
 -- no two claims have data of one name
 abbrev pub HaveOwnNames : List Object → Type 0
 HaveOwnNames rows =
-    (c e : ClaimData) (u v : Uid) → row_at (key_of (Claim c)) rows ≡ Some (Claim c) → row_at (key_of (Claim e)) rows ≡ Some (Claim e) → c.meta.uid ≡ Some u → e.meta.uid ≡ Some v → data_name u ≡ data_name v
+    (c e : ClaimData) (u v : Uid) → row_at (key_of (Claim c)) rows ≡ Some (Claim c) → row_at (key_of (Claim e)) rows ≡ Some (Claim e)
+    → c.meta.uid ≡ Some u → e.meta.uid ≡ Some v → data_name u ≡ data_name v
     → key_of (Claim c) ≡ key_of (Claim e)
 
 -- a volume that stays, in a store of claims with names of their own, and data with ids of their own
@@ -43,7 +44,8 @@ pub record IsErasable (w : World) (v : VolumeData) : Type 0 where
   pub short : most < 2 ^ 60
   pub few : AreFew most w.devices.stored
 
-pub owner : (rows : List Object) → HaveOwnNames rows → (name : List ℕ) (c e : ClaimData) → row_at (key_of (Claim c)) rows ≡ Some (Claim c) → row_at (key_of (Claim e)) rows ≡ Some (Claim e) → is_data_name name c.meta.uid ≡ true → is_data_name name e.meta.uid ≡ true
+pub owner : (rows : List Object) → HaveOwnNames rows → (name : List ℕ) (c e : ClaimData) → row_at (key_of (Claim c)) rows ≡ Some (Claim c)
+    → row_at (key_of (Claim e)) rows ≡ Some (Claim e) → is_data_name name c.meta.uid ≡ true → is_data_name name e.meta.uid ≡ true
     → key_of (Claim c) ≡ key_of (Claim e)
 owner rows names name c e sc se nc ne = by c.meta.uid e.meta.uid refl refl nc ne
   where

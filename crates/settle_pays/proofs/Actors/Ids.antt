@@ -1,12 +1,41 @@
 -- The data of a history are counted by their ids, so no two have one id.
-use Rattle.std.proofs.Common.{◌≡◌, ◌∙◌, ℕ, ◌+◌, ◌≤◌, ◌<◌, ◌^◌, suc, List, [], ◌∷◌, ◌++◌, Bool, true, false, true≢false, Option, Some, None, inl, inr, refl, sym, ap, subst, arith, length, if◌then◌else◌}
+use Rattle.std.proofs.Common.{
+  ◌≡◌,
+  ◌∙◌,
+  ℕ,
+  ◌+◌,
+  ◌≤◌,
+  ◌<◌,
+  ◌^◌,
+  suc,
+  List,
+  [],
+  ◌∷◌,
+  ◌++◌,
+  Bool,
+  true,
+  false,
+  true≢false,
+  Option,
+  Some,
+  None,
+  inl,
+  inr,
+  refl,
+  sym,
+  ap,
+  subst,
+  arith,
+  length,
+  if◌then◌else◌,
+}
 use Rattle.std.specs.Prelude.{◌&&◌, ◌||◌, bytes_eq, codes, decimal, drop, nat_lt, not, ⊤}
 use Rattle.std.specs.List.{list_any}
 use Rattle.std.proofs.lemmas.Bool.{and_parts, not-true}
 use Rattle.std.proofs.lemmas.Fmt.{decimal_injective}
 use Rattle.std.proofs.lemmas.Slice.Eq.{bytes_eq-Decides}
 use Rattle.plain_data.specs.Pairs.{Pair}
-use Rattle.kube_types.specs.declared.objects.DataId.{DataId}
+use Rattle.kube_objects.specs.declared.objects.DataId.{DataId}
 use Rattle.call_types.specs.declared.entry.Entry.{Entry}
 use Rattle.call_types.specs.declared.reply.Refusal.TheVariants.{BackFault}
 use Rattle.call_types.specs.declared.reply.Reply.TheVariants.{Refused}
@@ -16,7 +45,26 @@ use Rattle.call_types.specs.declared.request.SeatKind.{SeatKind}
 use Rattle.call_types.specs.declared.setup.Pool.{Pool}
 use Rattle.call_types.specs.declared.setup.Setup.{Setup}
 use Rattle.binder_model.specs.Answers.{Outcome, is_user}
-use Rattle.binder_model.specs.Devices.{Data, DeviceAnswer, Devices, after_call, data_after_erase, data_named, device_answer, epoch_if_stale, erase, has_id, is_planned, provision, provision_new, same_id, take_node, unless_planned, unless_stale, with_mounts}
+use Rattle.binder_model.specs.Devices.{
+  Data,
+  DeviceAnswer,
+  Devices,
+  after_call,
+  data_after_erase,
+  data_named,
+  device_answer,
+  epoch_if_stale,
+  erase,
+  has_id,
+  is_planned,
+  provision,
+  provision_new,
+  same_id,
+  take_node,
+  unless_planned,
+  unless_stale,
+  with_mounts,
+}
 use Rattle.binder_model.specs.Watching.{oldest}
 use Rattle.binder_model.specs.World.{Effect, OnDevices, OnStore, SetsMoment, World, base, effect, is_time, on_devices, set_time, watch, world, world_after}
 use Rattle.model_laws.proofs.Lists.{IsIn}
@@ -60,12 +108,14 @@ unfolding unless_stale
 stale_keeps most d None next k = k
 stale_keeps most d (Some current) next k = as_before most _ _ refl
 
-new_keeps : (most : ℕ) (pools : List Pool) (d : Devices) (name provisioner : List ℕ) (bytes : ℕ) (labels : Option (List Pair)) (place : Option ℕ) → Keeps most d (provision_new pools d name provisioner bytes labels place)
+new_keeps : (most : ℕ) (pools : List Pool) (d : Devices) (name provisioner : List ℕ) (bytes : ℕ) (labels : Option (List Pair)) (place : Option ℕ)
+    → Keeps most d (provision_new pools d name provisioner bytes labels place)
 unfolding provision_new
 new_keeps most pools d name provisioner bytes labels None = as_before most _ _ refl
 new_keeps most pools d name provisioner bytes labels (Some place) = λ a. let few = a.few in record { counted = (refl, a.counted); few = omega (arith, few) }
 
-provision_keeps : (most : ℕ) (pools : List Pool) (d : Devices) (name provisioner : List ℕ) (bytes : ℕ) (labels : Option (List Pair)) (x : Option Data) → Keeps most d (provision pools d name provisioner bytes labels x)
+provision_keeps : (most : ℕ) (pools : List Pool) (d : Devices) (name provisioner : List ℕ) (bytes : ℕ) (labels : Option (List Pair))
+    (x : Option Data) → Keeps most d (provision pools d name provisioner bytes labels x)
 unfolding provision
 provision_keeps most pools d name provisioner bytes labels (Some x) = as_before most _ _ refl
 provision_keeps most pools d name provisioner bytes labels None = new_keeps most pools d name provisioner bytes labels _
@@ -95,7 +145,8 @@ KeepsIf most d (Some a) = Keeps most d a
 
 devices_keep : (most : ℕ) (setup : Setup) (d : Devices) (request : Request) → KeepsIf most d (device_answer setup d request)
 unfolding device_answer take_node with_mounts
-devices_keep most setup d (requests.Provision name provisioner bytes labels) = planned_keeps most setup d _ (provision_keeps most setup.pools d name provisioner bytes labels (data_named name d.stored))
+devices_keep most setup d (requests.Provision name provisioner bytes labels) =
+    planned_keeps most setup d _ (provision_keeps most setup.pools d name provisioner bytes labels (data_named name d.stored))
 devices_keep most setup d (requests.Erase id) = planned_keeps most setup d _ (erase_keeps most d id)
 devices_keep most setup d (requests.TakeNode node) = as_before most _ _ refl
 devices_keep most setup d (requests.Mounts n epoch) = stale_keeps most d (epoch_if_stale d n epoch) _ (as_before most _ _ refl)

@@ -2,14 +2,14 @@
 use Rattle.std.proofs.Common.{◌≡◌, ◌∙◌, ℕ, ◌+◌, ◌<◌, ◌^◌, List, [], ◌∷◌, Some, inl, inr, sym, ap, subst, arith, length}
 use Rattle.std.specs.Prelude.{codes}
 use Rattle.std.proofs.lemmas.List.{append_cancel_left}
-use Rattle.kube_types.specs.declared.uid.Uid.{Uid}
-use Rattle.kube_types.specs.declared.key.Key.{Key}
-use Rattle.kube_types.specs.declared.objects.Object.{Object}
-use Rattle.kube_types.specs.Keys.{AreRows, key_of, meta_of, put_row, row_at, without_row}
-use Rattle.kube_types.specs.Uids.{uid_of_serial, uid_of_text, uid_text}
-use Rattle.kube_types.proofs.KeyOrder.{row_at-put_row, row_at-put_row_other, row_at-without_row, row_at-without_row_other}
-use Rattle.kube_types.proofs.SameKeys.{key_tells}
-use Rattle.kube_types.proofs.UidTexts.{reads_back}
+use Rattle.kube_parts.specs.declared.uid.Uid.{Uid}
+use Rattle.kube_objects.specs.declared.key.Key.{Key}
+use Rattle.kube_objects.specs.declared.objects.Object.{Object}
+use Rattle.kube_objects.specs.Keys.{AreRows, key_of, meta_of, put_row, row_at, without_row}
+use Rattle.kube_parts.specs.Uids.{uid_of_serial, uid_of_text, uid_text}
+use Rattle.kube_objects.proofs.KeyOrder.{row_at-put_row, row_at-put_row_other, row_at-without_row, row_at-without_row_other}
+use Rattle.kube_objects.proofs.SameKeys.{key_tells}
+use Rattle.kube_parts.proofs.UidTexts.{reads_back}
 use Rattle.call_types.specs.declared.entry.Entry.{Entry}
 use Rattle.call_types.specs.declared.reply.Change.{Change}
 use Rattle.call_types.specs.declared.reply.Change.TheVariants.{Added, Modified, Deleted}
@@ -37,13 +37,15 @@ AreFitting rows = (key : Key) (o : Object) (uid : Uid) → row_at key rows ≡ S
 serial_fits : (n : ℕ) → n < most_serials → Fits (uid_of_serial n)
 serial_fits n small = omega (arith, small)
 
-new_fits : (w : World) (change : Change) (o : Object) → w.store.version + 1 < most_serials → OfStore (Gives (w.store.version + 1)) (OnStore (Stores change o)) → IsInPlace w.store.rows change o → AreFitting w.store.rows
+new_fits : (w : World) (change : Change) (o : Object) → w.store.version + 1 < most_serials
+    → OfStore (Gives (w.store.version + 1)) (OnStore (Stores change o)) → IsInPlace w.store.rows change o → AreFitting w.store.rows
     → (uid : Uid) → (meta_of o).uid ≡ Some uid → Fits uid
 new_fits w Added o small gives place fit uid its = subst Fits (one _ uid (sym gives ∙ its)) (serial_fits (w.store.version + 1) small)
 new_fits w Modified o small gives place fit uid its = fit (key_of o) place.0 uid place.1.0 (sym place.1.1.uid ∙ its)
 new_fits w Deleted o small gives place fit uid its = fit (key_of o) place.0 uid place.1.0 (sym place.1.1.uid ∙ its)
 
-step_fits : (w : World) (x : Effect) → AreRows w.store.rows → w.store.version + 1 < most_serials → OfStore (Gives (w.store.version + 1)) x → OfStore (ChangeOf w.store.rows) x → AreFitting w.store.rows → AreFitting (world_after w x).store.rows
+step_fits : (w : World) (x : Effect) → AreRows w.store.rows → w.store.version + 1 < most_serials → OfStore (Gives (w.store.version + 1)) x
+    → OfStore (ChangeOf w.store.rows) x → AreFitting w.store.rows → AreFitting (world_after w x).store.rows
 unfolding world_after after
 step_fits w (OnStore (Says reply)) rows small g c fit key o uid is its = fit key o uid is its
 step_fits w (OnStore (Stores change new)) rows small g c fit key o uid is its = elim (key_tells (key_of new) key) [

@@ -2,12 +2,12 @@
 use Rattle.std.proofs.Common.{◌≡◌, ◌∙◌, ℕ, List, true, Some, None, refl, sym, ap, subst}
 use Rattle.std.specs.Prelude.{Option}
 use Rattle.kube_types.specs.declared.lookup.Live.TheVariants.{NotAsked}
-use Rattle.kube_types.specs.declared.objects.Claim.{Claim as ClaimData}
-use Rattle.kube_types.specs.declared.objects.Volume.{Volume as VolumeData}
-use Rattle.kube_types.specs.declared.objects.Object.{Object}
-use Rattle.kube_types.specs.declared.objects.Object.TheVariants.{Class, Node, Volume, Claim, Pod}
-use Rattle.kube_types.specs.Keys.{key_of, row_at}
-use Rattle.kube_types.proofs.KeyOrder.{row_at_key}
+use Rattle.kube_objects.specs.declared.objects.Claim.{Claim as ClaimData}
+use Rattle.kube_objects.specs.declared.objects.Volume.{Volume as VolumeData}
+use Rattle.kube_objects.specs.declared.objects.Object.{Object}
+use Rattle.kube_objects.specs.declared.objects.Object.TheVariants.{Class, Node, Volume, Claim, Pod}
+use Rattle.kube_objects.specs.Keys.{key_of, row_at}
+use Rattle.kube_objects.proofs.KeyOrder.{row_at_key}
 use Rattle.call_types.specs.declared.entry.Entry.{Entry}
 use Rattle.call_types.specs.declared.request.SeatKind.TheVariants as seats
 use Rattle.call_types.specs.declared.setup.Setup.{Setup}
@@ -39,7 +39,8 @@ use Rattle.settle_pays.proofs.Actors.Deciding.{by_machine}
 use Rattle.settle_pays.proofs.Actors.Volumes.{begun_pays, drops_none, volume_begun}
 use Rattle.settle_pays.proofs.Actors.Walking.{MachinePays, claim_stands, volume_stands}
 
-module _ (setup : Setup) (seat : ℕ) (role : Role) (kind : role.kind ≡ seats.Binder) (s : ActorState) (h : List Entry) (u : Under) (run : IsRunOf setup h) (p : IsDecisionPoint setup seat role h s h) (gives : GivesCall s.role s.memory (all_objects s.caches) u) where
+module _ (setup : Setup) (seat : ℕ) (role : Role) (kind : role.kind ≡ seats.Binder) (s : ActorState) (h : List Entry) (u : Under)
+    (run : IsRunOf setup h) (p : IsDecisionPoint setup seat role h s h) (gives : GivesCall s.role s.memory (all_objects s.caches) u) where
   abbrev rows : List Object
   rows = (world setup h).store.rows
 
@@ -61,13 +62,16 @@ module _ (setup : Setup) (seat : ℕ) (role : Role) (kind : role.kind ≡ seats.
       let own : key_of o ≡ u.key = row_at_key u.key o cached row in
       sym (agree (key_of o) f) ∙ (ap (λ k. row_at k cached) own ∙ row)
 
-  of_volume : (v : VolumeData) → row_at u.key cached ≡ Some (Volume v) → (machine : Machine) → binder_firsts.Begins machine ≡ volume_first v (volume_decision cached v NotAsked) → MachinePays setup seat u.key h machine
+  of_volume : (v : VolumeData) → row_at u.key cached ≡ Some (Volume v) → (machine : Machine)
+      → binder_firsts.Begins machine ≡ volume_first v (volume_decision cached v NotAsked) → MachinePays setup seat u.key h machine
   of_volume v row machine begins =
       let there = on_store (Volume v) refl row in
       let own : key_of (Volume v) ≡ volume_key v.meta.name = rw (no_namespace v (stored setup h (key_of (Volume v)) (Volume v) run.imports there).valid) refl in
-      begun_pays setup seat u.key h v machine (volume_stands setup h v (ap (λ k. row_at k rows) (sym own) ∙ there)) (volume_begun rows v machine cached (λ r. agree (claim_key r.namespace r.name) refl) begins)
+      begun_pays setup seat u.key h v machine (volume_stands setup h v (ap (λ k. row_at k rows) (sym own) ∙ there))
+      (volume_begun rows v machine cached (λ r. agree (claim_key r.namespace r.name) refl) begins)
 
-  of_claim : (c : ClaimData) → row_at u.key cached ≡ Some (Claim c) → (machine : Machine) → IsClaimFirst cached c (claim_decision cached c NotAsked) (binder_firsts.Begins machine) → MachinePays setup seat u.key h machine
+  of_claim : (c : ClaimData) → row_at u.key cached ≡ Some (Claim c) → (machine : Machine)
+      → IsClaimFirst cached c (claim_decision cached c NotAsked) (binder_firsts.Begins machine) → MachinePays setup seat u.key h machine
   of_claim c row machine begins =
       let there = on_store (Claim c) refl row in
       let known = has_uid c.meta.uid (rows_known setup h run.imports (key_of (Claim c)) (Claim c) there) in

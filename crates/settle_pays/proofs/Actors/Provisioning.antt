@@ -3,16 +3,16 @@ use Rattle.std.proofs.Common.{◌≡◌, ◌∙◌, ℕ, ◌+◌, ◌≤◌, Lis
 use Rattle.std.specs.Prelude.{◌&&◌, ◌||◌, bytes_eq, cond, is_none, not}
 use Rattle.std.specs.List.{list_any}
 use Rattle.plain_data.specs.Pairs.{Pair}
-use Rattle.kube_types.specs.declared.uid.Uid.{Uid}
-use Rattle.kube_types.specs.declared.key.Key.{Key}
-use Rattle.kube_types.specs.declared.objects.Class.{Class as ClassData}
-use Rattle.kube_types.specs.declared.objects.Claim.{Claim as ClaimData}
-use Rattle.kube_types.specs.declared.objects.DataId.{DataId}
-use Rattle.kube_types.specs.declared.objects.Object.{Object}
-use Rattle.kube_types.specs.declared.objects.Object.TheVariants.{Class, Node, Volume, Claim, Pod}
-use Rattle.kube_types.specs.Bindings.{class_of_claim, is_completed, is_deleting, is_empty}
-use Rattle.kube_types.specs.Keys.{row_at}
-use Rattle.kube_types.proofs.KeyOrder.{row_at_key}
+use Rattle.kube_parts.specs.declared.uid.Uid.{Uid}
+use Rattle.kube_objects.specs.declared.key.Key.{Key}
+use Rattle.kube_objects.specs.declared.objects.Class.{Class as ClassData}
+use Rattle.kube_objects.specs.declared.objects.Claim.{Claim as ClaimData}
+use Rattle.kube_objects.specs.declared.objects.DataId.{DataId}
+use Rattle.kube_objects.specs.declared.objects.Object.{Object}
+use Rattle.kube_objects.specs.declared.objects.Object.TheVariants.{Class, Node, Volume, Claim, Pod}
+use Rattle.kube_objects.specs.Bindings.{class_of_claim, is_completed, is_deleting, is_empty}
+use Rattle.kube_objects.specs.Keys.{row_at}
+use Rattle.kube_objects.proofs.KeyOrder.{row_at_key}
 use Rattle.call_types.specs.declared.entry.Entry.{Entry}
 use Rattle.call_types.specs.declared.reply.Refusal.TheVariants as refusals
 use Rattle.call_types.specs.declared.reply.Reply.{Reply}
@@ -63,7 +63,8 @@ lacks_named : (name : List ℕ) (stored : List Data) → data_named name stored 
 lacks_named name [] e = refl
 lacks_named name (x ∷ xs) e = by (x.there && bytes_eq x.name name) e (lacks_named name xs)
   where
-    by : (b : Bool) → cond b (Some x) (data_named name xs) ≡ None → (data_named name xs ≡ None → list_any (λ y. y.there && bytes_eq y.name name) xs ≡ false) → (b || list_any (λ y. y.there && bytes_eq y.name name) xs) ≡ false
+    by : (b : Bool) → cond b (Some x) (data_named name xs) ≡ None
+        → (data_named name xs ≡ None → list_any (λ y. y.there && bytes_eq y.name name) xs ≡ false) → (b || list_any (λ y. y.there && bytes_eq y.name name) xs) ≡ false
     by true found rest = none_some (sym found)
     by false found rest = rest found
 
@@ -72,7 +73,8 @@ module _ (setup : Setup) (w : World) (c : ClaimData) (s : StandsClaim w c) (seek
   name = data_name s.uid
 
   abbrev answered : Bool → Option Data → DeviceAnswer
-  answered planned found = if planned then after_call w.devices (replies.Refused (refusals.BackFault (w.devices.calls + 1))) else provision setup.pools w.devices name x.provisioner c.amount.bytes labels found
+  answered planned found = if planned then after_call w.devices (replies.Refused (refusals.BackFault (w.devices.calls + 1))) else provision
+      setup.pools w.devices name x.provisioner c.amount.bytes labels found
 
   abbrev PaysBy : DeviceAnswer → Type 0
   PaysBy a = LastsBetween w (world_after w (OnDevices a)) (reply_to (OnDevices a)) → work_left setup (world_after w (OnDevices a)) + 1 ≤ work_left setup w
@@ -85,7 +87,8 @@ module _ (setup : Setup) (w : World) (c : ClaimData) (s : StandsClaim w c) (seek
       let less : faults_left setup d + 1 ≤ faults_left setup w.devices = back_fault_pays setup w.devices d refl planned in
       omega (arith, same, less)
 
-  by_fit : is_planned (w.devices.calls + 1) setup.faults ≡ false → data_named name w.devices.stored ≡ None → (fit : Option ℕ) → first_fit x.provisioner c.amount.bytes labels w.devices.stored 0 setup.pools ≡ fit → PaysBy (provision_new setup.pools w.devices name x.provisioner c.amount.bytes labels fit)
+  by_fit : is_planned (w.devices.calls + 1) setup.faults ≡ false → data_named name w.devices.stored ≡ None → (fit : Option ℕ)
+      → first_fit x.provisioner c.amount.bytes labels w.devices.stored 0 setup.pools ≡ fit → PaysBy (provision_new setup.pools w.devices name x.provisioner c.amount.bytes labels fit)
   unfolding world_after reply_to provision_new device_answer unless_planned provision
   by_fit unplanned lacks None fits (inl written) = absurd written
   by_fit unplanned lacks None fits (inr (inl moved)) = no_devices_moved w moved
@@ -93,7 +96,8 @@ module _ (setup : Setup) (w : World) (c : ClaimData) (s : StandsClaim w c) (seek
   by_fit unplanned lacks (Some place) fits lasts =
       let a : DeviceAnswer = provision_new setup.pools w.devices name x.provisioner c.amount.bytes labels (Some place) in
       let is : device_answer setup w.devices (requests.Provision name x.provisioner c.amount.bytes labels) ≡ Some a = rw (unplanned, lacks, fits) refl in
-      let less = provision_pays setup w c x.provisioner c.amount.bytes labels a (fresh_id x.provisioner w.devices.stored) (topology_at place setup.pools) s seeking (lacks_named name w.devices.stored lacks) is refl in
+      let less = provision_pays setup w c x.provisioner c.amount.bytes labels a (fresh_id x.provisioner w.devices.stored)
+      (topology_at place setup.pools) s seeking (lacks_named name w.devices.stored lacks) is refl in
       let rises : w.devices.calls ≤ w.devices.calls + 1 = omega arith in
       let faults : faults_left setup a.devices ≤ faults_left setup w.devices = calls_stay setup w.devices a.devices rises in
       omega (arith, less, faults)
@@ -137,7 +141,8 @@ module _ (key : Key) (c : ClaimData) (uid : Uid) (x : ClassData) where
   goes_on labels call (replies.Provisioned id topology) next e = Creates id topology (sym (one _ next e))
   goes_on labels call (replies.Refused (refusals.Exhausted free)) next e = by x.delayed e
     where
-      by : (b : Bool) → with_call key (tasks.Provision (at_step c uid x (if b then steps.ClearsNode else steps.Parked))) (provision_call_at (if b then steps.ClearsNode else steps.Parked) c uid x) ≡ Some next → GoesOn key c uid x next
+      by : (b : Bool) → with_call key (tasks.Provision (at_step c uid x (if b then steps.ClearsNode else steps.Parked)))
+          (provision_call_at (if b then steps.ClearsNode else steps.Parked) c uid x) ≡ Some next → GoesOn key c uid x next
       by true is = TakesBack (sym (one _ next is))
       by false is = none_some is
   goes_on labels call (replies.Refused _) next e = none_some e
@@ -156,7 +161,8 @@ module _ (setup : Setup) (seat : ℕ) (key : Key) (c : ClaimData) (uid : Uid) (k
   abbrev stands : (h : List Entry) → IsThere h → StandsClaim (world setup h) c
   stands h there = record { order = rows_stand_in_order setup h; there = there; stays = staying; uid = uid; has = known }
 
-  creates_pay : (h : List Entry) → IsThere h → (id : DataId) (topology : Option (List ℕ × List ℕ)) → WillPay setup seat seats.Ops h (at key c uid x (steps.Creates id topology) (create_call c uid x id topology))
+  creates_pay : (h : List Entry) → IsThere h → (id : DataId) (topology : Option (List ℕ × List ℕ))
+      → WillPay setup seat seats.Ops h (at key c uid x (steps.Creates id topology) (create_call c uid x id topology))
   creates_pay h there id topology =
       EachPays (lowering_pays setup (world setup h) seats.Ops (create_call c uid x id topology) refl (create_pays setup (world setup h) seats.Ops c x id topology (stands h there) seeking))
       (λ next e. none_some (sym (create_ends key c uid x id topology (create_call c uid x id topology) _) ∙ e))
@@ -182,8 +188,10 @@ module _ (setup : Setup) (seat : ℕ) (key : Key) (c : ClaimData) (uid : Uid) (k
       on next (TakesBack is) = subst (WillPay setup seat seats.Ops (own_entry setup seat seats.Ops h (ask_call c uid x labels) ∷ h)) (sym is) (clears_pay _ still)
 
   steps_pay : (h : List Entry) → IsThere h → (step : ProvisionStep) (call : Request) → provision_call_at step c uid x ≡ Some call → WillPay setup seat seats.Ops h (at key c uid x step call)
-  steps_pay h there (steps.Provisions labels) call e = subst (λ r. WillPay setup seat seats.Ops h (at key c uid x (steps.Provisions labels) r)) (one (ask_call c uid x labels) call e) (asks_pay h there labels)
-  steps_pay h there (steps.Creates id topology) call e = subst (λ r. WillPay setup seat seats.Ops h (at key c uid x (steps.Creates id topology) r)) (one (create_call c uid x id topology) call e) (creates_pay h there id topology)
+  steps_pay h there (steps.Provisions labels) call e =
+      subst (λ r. WillPay setup seat seats.Ops h (at key c uid x (steps.Provisions labels) r)) (one (ask_call c uid x labels) call e) (asks_pay h there labels)
+  steps_pay h there (steps.Creates id topology) call e =
+      subst (λ r. WillPay setup seat seats.Ops h (at key c uid x (steps.Creates id topology) r)) (one (create_call c uid x id topology) call e) (creates_pay h there id topology)
   steps_pay h there steps.ClearsNode call e = subst (λ r. WillPay setup seat seats.Ops h (at key c uid x steps.ClearsNode r)) (one (clear_call c) call e) (clears_pay h there)
   steps_pay h there steps.Done call e = none_some e
   steps_pay h there steps.Parked call e = none_some e
@@ -235,7 +243,8 @@ abbrev is_provision : First → Bool
 is_provision (firsts.Begins (tasks.Provision op)) = true
 is_provision first = false
 
-module _ (setup : Setup) (seat : ℕ) (role : Role) (kind : role.kind ≡ seats.Ops) (s : ActorState) (h : List Entry) (u : Under) (op : ProvisionOp) (task : u.task ≡ tasks.Provision op) (p : IsDecisionPoint setup seat role h s h) (gives : GivesCall s.role s.memory (all_objects s.caches) u) where
+module _ (setup : Setup) (seat : ℕ) (role : Role) (kind : role.kind ≡ seats.Ops) (s : ActorState) (h : List Entry) (u : Under) (op : ProvisionOp)
+    (task : u.task ≡ tasks.Provision op) (p : IsDecisionPoint setup seat role h s h) (gives : GivesCall s.role s.memory (all_objects s.caches) u) where
   abbrev rows : List Object
   rows = all_objects s.caches
 
@@ -243,20 +252,24 @@ module _ (setup : Setup) (seat : ℕ) (role : Role) (kind : role.kind ≡ seats.
   s_kind = ap (λ (r : Role). r.kind) p.role_is ∙ kind
 
   decided : firsts.Begins (tasks.Provision op) ≡ ops_first (claim_begins rows (row_at u.key rows)) (volume_begins (row_at u.key rows))
-  decided = subst (λ t. firsts.Begins t ≡ ops_first (claim_begins rows (row_at u.key rows)) (volume_begins (row_at u.key rows))) task (subst (λ k. IsFirstOf k s.role.node s.memory rows u.key (firsts.Begins u.task)) s_kind gives.decided)
+  decided = subst (λ t. firsts.Begins t ≡ ops_first (claim_begins rows (row_at u.key rows)) (volume_begins (row_at u.key rows))) task
+      (subst (λ k. IsFirstOf k s.role.node s.memory rows u.key (firsts.Begins u.task)) s_kind gives.decided)
 
   not_erasing : {X : Type 0} (erasing : Option EraseOp) → firsts.Begins (tasks.Provision op) ≡ erase_first erasing → X
   not_erasing None e = absurd (true≢false (ap is_provision e))
   not_erasing (Some other) e = absurd (true≢false (ap is_provision e))
 
-  by_claim : (c : ClaimData) → row_at u.key rows ≡ Some (Claim c) → (found : Option ProvisionOp) → claim_for rows c ≡ found → firsts.Begins (tasks.Provision op) ≡ ops_first found None → WillPay setup seat seats.Ops h u
+  by_claim : (c : ClaimData) → row_at u.key rows ≡ Some (Claim c) → (found : Option ProvisionOp) → claim_for rows c ≡ found
+      → firsts.Begins (tasks.Provision op) ≡ ops_first found None → WillPay setup seat seats.Ops h u
   unfolding provision_call
   by_claim c row None is e = not_erasing None e
   by_claim c row (Some begun) is e =
       let same : op ≡ begun = ap (op_in op) e in
       let b = begun_so rows c begun is in
-      let there : row_at u.key (world setup h).store.rows ≡ Some (Claim c) = sym (p.sees u.key (ap (λ k. follows k u.key.kind) s_kind ∙ ap (λ (k : Key). follows seats.Ops k.kind) (sym (row_at_key u.key (Claim c) rows row)))) ∙ row in
-      let here : row_at (claim_key c.meta.namespace c.meta.name) (world setup h).store.rows ≡ Some (Claim c) = ap (λ k. row_at k (world setup h).store.rows) (row_at_key u.key (Claim c) (world setup h).store.rows there) ∙ there in
+      let there : row_at u.key (world setup h).store.rows ≡ Some (Claim c) =
+      sym (p.sees u.key (ap (λ k. follows k u.key.kind) s_kind ∙ ap (λ (k : Key). follows seats.Ops k.kind) (sym (row_at_key u.key (Claim c) rows row)))) ∙ row in
+      let here : row_at (claim_key c.meta.namespace c.meta.name) (world setup h).store.rows ≡ Some (Claim c) =
+      ap (λ k. row_at k (world setup h).store.rows) (row_at_key u.key (Claim c) (world setup h).store.rows there) ∙ there in
       let whole : u.task ≡ tasks.Provision (at_step c b.uid b.class b.step) = task ∙ ap (λ o. tasks.Provision o) (same ∙ b.is) in
       let call : provision_call_at b.step c b.uid b.class ≡ Some u.call = ap task_call (sym whole) ∙ gives.call in
       subst (WillPay setup seat seats.Ops h) (λ i. record { key = u.key; task = (sym whole) i; call = u.call }) (steps_pay setup seat u.key c b.uid b.known b.seeking b.class h here b.step u.call call)
@@ -270,4 +283,5 @@ module _ (setup : Setup) (seat : ℕ) (role : Role) (kind : role.kind ≡ seats.
   by_row (Some (Pod x)) is e = not_erasing None e
 
 pub provisioning_pays : ProvisioningPays
-provisioning_pays setup seat role kind s h u op p gives task = subst (λ k. WillPay setup seat k h u) (sym kind) (by_row setup seat role kind s h u op task p gives (row_at u.key (all_objects s.caches)) refl (decided setup seat role kind s h u op task p gives))
+provisioning_pays setup seat role kind s h u op p gives task =
+    subst (λ k. WillPay setup seat k h u) (sym kind) (by_row setup seat role kind s h u op task p gives (row_at u.key (all_objects s.caches)) refl (decided setup seat role kind s h u op task p gives))

@@ -1,19 +1,19 @@
 -- The reclaimer pays: it reads the volume, erases its data, and deletes it or writes phase Failed.
 use Rattle.std.proofs.Common.{◌≡◌, ◌∙◌, ℕ, ◌+◌, List, ◌∷◌, Bool, true, false, true≢false, Option, Some, None, inl, inr, refl, sym, ap, subst, if◌then◌else◌, length}
 use Rattle.std.specs.Prelude.{◌&&◌, is_some, not}
-use Rattle.kube_types.specs.declared.key.Key.{Key}
-use Rattle.kube_types.specs.declared.names.Due.{Due}
-use Rattle.kube_types.specs.declared.names.Due.TheVariants as dues
-use Rattle.kube_types.specs.declared.parts.VolumePhase.{VolumePhase}
-use Rattle.kube_types.specs.declared.parts.VolumePhase.TheVariants as phases
-use Rattle.kube_types.specs.declared.uid.Uid.{Uid}
-use Rattle.kube_types.specs.declared.objects.Volume.{Volume as VolumeData}
-use Rattle.kube_types.specs.declared.objects.Object.{Object}
-use Rattle.kube_types.specs.declared.objects.Object.TheVariants.{Class, Node, Volume, Claim, Pod}
-use Rattle.kube_types.specs.Bindings.{is_delete, is_deleting, is_ended, ref_uid}
-use Rattle.kube_types.specs.Keys.{AreRows, key_of, row_at}
-use Rattle.kube_types.specs.Sources.{data_id_of}
-use Rattle.kube_types.proofs.KeyOrder.{row_at_key}
+use Rattle.kube_objects.specs.declared.key.Key.{Key}
+use Rattle.kube_parts.specs.declared.names.Due.{Due}
+use Rattle.kube_parts.specs.declared.names.Due.TheVariants as dues
+use Rattle.kube_parts.specs.declared.parts.VolumePhase.{VolumePhase}
+use Rattle.kube_parts.specs.declared.parts.VolumePhase.TheVariants as phases
+use Rattle.kube_parts.specs.declared.uid.Uid.{Uid}
+use Rattle.kube_objects.specs.declared.objects.Volume.{Volume as VolumeData}
+use Rattle.kube_objects.specs.declared.objects.Object.{Object}
+use Rattle.kube_objects.specs.declared.objects.Object.TheVariants.{Class, Node, Volume, Claim, Pod}
+use Rattle.kube_objects.specs.Bindings.{is_delete, is_deleting, is_ended, ref_uid}
+use Rattle.kube_objects.specs.Keys.{AreRows, key_of, row_at}
+use Rattle.kube_objects.specs.Sources.{data_id_of}
+use Rattle.kube_objects.proofs.KeyOrder.{row_at_key}
 use Rattle.call_types.specs.declared.entry.Entry.{Entry}
 use Rattle.call_types.specs.declared.reply.Refusal.TheVariants as refusals
 use Rattle.call_types.specs.declared.reply.Reply.{Reply}
@@ -76,7 +76,8 @@ record IsEnded (v : VolumeData) : Type 0 where
 ended_so : (v : VolumeData) → reclaim_due v ≡ Some dues.Reclaim → IsEnded v
 ended_so v e = by (is_ended v.phase) (is_delete v.policy) (ref_uid v.claim_ref) (is_deleting v.meta) refl refl refl e
   where
-    by : (a b : Bool) (x : Option Uid) (d : Bool) → is_ended v.phase ≡ a → ref_uid v.claim_ref ≡ x → is_deleting v.meta ≡ d → (if a && b && is_some x && not d then Some dues.Reclaim else None) ≡ Some dues.Reclaim → IsEnded v
+    by : (a b : Bool) (x : Option Uid) (d : Bool) → is_ended v.phase ≡ a → ref_uid v.claim_ref ≡ x → is_deleting v.meta ≡ d
+        → (if a && b && is_some x && not d then Some dues.Reclaim else None) ≡ Some dues.Reclaim → IsEnded v
     by true true (Some uid) false ended refers staying e = record { ended = ended; staying = staying; uid = uid; refers = refers }
     by true true (Some uid) true ended refers staying e = none_some e
     by true true None d ended refers staying e = none_some e
@@ -120,7 +121,8 @@ module _ (key : Key) (v : VolumeData) where
   reads_on call next e = by (reclaim_due v) v.meta.uid e
     where
       by : (x : Option Due) (y : Option Uid)
-          → with_task key (Some (tasks.Erase (if is_some x then at_known (record { volume = v; step = steps.ReadsVolume }) v y else record { volume = v; step = steps.Done }))) ≡ Some next → Erases key v next
+          → with_task key (Some (tasks.Erase
+          (if is_some x then at_known (record { volume = v; step = steps.ReadsVolume }) v y else record { volume = v; step = steps.Done }))) ≡ Some next → Erases key v next
       by (Some action) (Some uid) is = record { uid = uid; is = sym (one _ next is) }
       by (Some action) None is = none_some is
       by None y is = none_some is
@@ -211,13 +213,16 @@ module _ (setup : Setup) (seat : ℕ) (key : Key) (v : VolumeData) where
 
   deletes_pay : (h : List Entry) → IsReclaimed (world setup h) v → (uid : Uid) → WillPay setup seat seats.Ops h (at key v (steps.Deletes uid) (delete_of v uid))
   deletes_pay h r uid =
-      EachPays (subst (λ k. Pays setup (world setup h) seats.Ops (requests.Delete k (Some uid))) (sym r.own_key) (lowering_pays setup (world setup h) seats.Ops (requests.Delete (volume_key v.meta.name) (Some uid)) refl (delete_pays setup (world setup h) seats.Ops v (Some uid) (stands (world setup h) r) r.due)))
+      EachPays (subst (λ k. Pays setup (world setup h) seats.Ops (requests.Delete k (Some uid))) (sym r.own_key)
+      (lowering_pays setup (world setup h) seats.Ops (requests.Delete (volume_key v.meta.name) (Some uid)) refl
+      (delete_pays setup (world setup h) seats.Ops v (Some uid) (stands (world setup h) r) r.due)))
       (λ next e. none_some (sym (delete_ends key v uid (delete_of v uid) _) ∙ e))
 
   fail_pays : (w : World) → IsReclaimed w v → (phase : VolumePhase) → v.phase ≡ phase → is_ended phase ≡ true → Pays setup w seats.Ops (fail_call v)
   fail_pays w r phases.Released is ended =
       subst (λ k. Pays setup w seats.Ops (requests.UpdateStatus k (statuses.Volume phases.Failed) (Some v.meta.version))) (sym r.own_key)
-      (lowering_pays setup w seats.Ops (requests.UpdateStatus (volume_key v.meta.name) (statuses.Volume phases.Failed) (Some v.meta.version)) refl (failed_pays setup w seats.Ops v (ended_so v r.due).uid (stands w r) (ended_so v r.due).refers is))
+      (lowering_pays setup w seats.Ops (requests.UpdateStatus (volume_key v.meta.name) (statuses.Volume phases.Failed) (Some v.meta.version)) refl
+      (failed_pays setup w seats.Ops v (ended_so v r.due).uid (stands w r) (ended_so v r.due).refers is))
   fail_pays w r phases.Failed is ended = λ lasts. absurd (fails_again w v (at_own_key w r) (ended_so v r.due).staying is setup lasts)
   fail_pays w r phases.Pending is ended = absurd (true≢false (sym ended))
   fail_pays w r phases.Available is ended = absurd (true≢false (sym ended))
@@ -258,7 +263,8 @@ module _ (setup : Setup) (seat : ℕ) (key : Key) (v : VolumeData) where
       said : reply_to (effect setup (world setup h) seats.Ops (get_call v)) ≡ replies.Found (Volume v)
       said = get_said setup (world setup h) seats.Ops (key_of_volume v) ∙ ap got (at_own_key (world setup h) r)
 
-      on : (next : Under) → under_after (at key v steps.ReadsVolume (get_call v)) (reply_to (effect setup (world setup h) seats.Ops (get_call v))) ≡ Some next → WillPay setup seat seats.Ops (read h) next
+      on : (next : Under) → under_after (at key v steps.ReadsVolume (get_call v))
+          (reply_to (effect setup (world setup h) seats.Ops (get_call v))) ≡ Some next → WillPay setup seat seats.Ops (read h) next
       on next e =
           let x = reads_on key v (get_call v) next (ap (under_after (at key v steps.ReadsVolume (get_call v))) (sym said) ∙ e) in
           subst (WillPay setup seat seats.Ops (read h)) (sym x.is) (erases_pay (read h) (subst (λ w. IsReclaimed w v) (sym same) r) (subst (λ w. IsErasable w v) (sym same) s) x.uid)
@@ -282,7 +288,8 @@ abbrev is_erase : First → Bool
 is_erase (firsts.Begins (tasks.Erase op)) = true
 is_erase first = false
 
-module _ (setup : Setup) (seat : ℕ) (role : Role) (kind : role.kind ≡ seats.Ops) (fit : UidsFit setup) (s : ActorState) (h : List Entry) (u : Under) (op : EraseOp) (task : u.task ≡ tasks.Erase op) (run : IsRunOf setup h) (p : IsDecisionPoint setup seat role h s h) (gives : GivesCall s.role s.memory (all_objects s.caches) u) where
+module _ (setup : Setup) (seat : ℕ) (role : Role) (kind : role.kind ≡ seats.Ops) (fit : UidsFit setup) (s : ActorState) (h : List Entry) (u : Under)
+    (op : EraseOp) (task : u.task ≡ tasks.Erase op) (run : IsRunOf setup h) (p : IsDecisionPoint setup seat role h s h) (gives : GivesCall s.role s.memory (all_objects s.caches) u) where
   abbrev rows : List Object
   rows = all_objects s.caches
 
@@ -290,22 +297,34 @@ module _ (setup : Setup) (seat : ℕ) (role : Role) (kind : role.kind ≡ seats.
   s_kind = ap (λ (r : Role). r.kind) p.role_is ∙ kind
 
   decided : firsts.Begins (tasks.Erase op) ≡ ops_first (claim_begins rows (row_at u.key rows)) (volume_begins (row_at u.key rows))
-  decided = subst (λ t. firsts.Begins t ≡ ops_first (claim_begins rows (row_at u.key rows)) (volume_begins (row_at u.key rows))) task (subst (λ k. IsFirstOf k s.role.node s.memory rows u.key (firsts.Begins u.task)) s_kind gives.decided)
+  decided = subst (λ t. firsts.Begins t ≡ ops_first (claim_begins rows (row_at u.key rows)) (volume_begins (row_at u.key rows))) task
+      (subst (λ k. IsFirstOf k s.role.node s.memory rows u.key (firsts.Begins u.task)) s_kind gives.decided)
 
   not_erasing : {X : Type 0} (first : First) → is_erase first ≡ false → firsts.Begins (tasks.Erase op) ≡ first → X
   not_erasing first e is = absurd (true≢false (ap is_erase is ∙ e))
 
-  by_volume : (v : VolumeData) → row_at u.key rows ≡ Some (Volume v) → (action : Option Due) → reclaim_due v ≡ action → firsts.Begins (tasks.Erase op) ≡ erase_first (volume_for v action) → WillPay setup seat seats.Ops h u
+  by_volume : (v : VolumeData) → row_at u.key rows ≡ Some (Volume v) → (action : Option Due) → reclaim_due v ≡ action
+      → firsts.Begins (tasks.Erase op) ≡ erase_first (volume_for v action) → WillPay setup seat seats.Ops h u
   unfolding erase_call
   by_volume v row (Some dues.Reclaim) due e =
       let same : op ≡ record { volume = v; step = steps.ReadsVolume } = ap (op_in op) e in
-      let there : row_at u.key (world setup h).store.rows ≡ Some (Volume v) = sym (p.sees u.key (ap (λ k. follows k u.key.kind) s_kind ∙ ap (λ (k : Key). follows seats.Ops k.kind) (sym (row_at_key u.key (Volume v) rows row)))) ∙ row in
+      let there : row_at u.key (world setup h).store.rows ≡ Some (Volume v) =
+      sym (p.sees u.key (ap (λ k. follows k u.key.kind) s_kind ∙ ap (λ (k : Key). follows seats.Ops k.kind) (sym (row_at_key u.key (Volume v) rows row)))) ∙ row in
       let st : IsStored (world setup h) (Volume v) = stored setup h u.key (Volume v) run.imports there in
       let own_key : key_of_volume v ≡ volume_key v.meta.name = rw (no_namespace v st.valid) refl in
       let at_key : row_at (volume_key v.meta.name) (world setup h).store.rows ≡ Some (Volume v) = ap (λ k. row_at k (world setup h).store.rows) (sym own_key) ∙ st.there in
       let ended = ended_so v due in
       let r : IsReclaimed (world setup h) v = record { order = rows_stand_in_order setup h; there = at_key; own_key = own_key; due = due } in
-      let x : IsErasable (world setup h) v = record { order = rows_stand_in_order setup h; there = st.there; staying = ended.staying; names = own_names setup h run fit; most = length h; short = run.short; few = data_are_few setup h } in
+      let x : IsErasable (world setup h) v = record {
+        order = rows_stand_in_order setup h;
+        there = st.there;
+        staying = ended.staying;
+        names =
+            own_names setup h run fit;
+        most = length h;
+        short = run.short;
+        few = data_are_few setup h;
+      } in
       let whole : u.task ≡ tasks.Erase (record { volume = v; step = steps.ReadsVolume }) = task ∙ ap (λ o. tasks.Erase o) same in
       let call : u.call ≡ get_call v = one u.call (get_call v) (sym gives.call ∙ ap task_call whole) in
       subst (WillPay setup seat seats.Ops h) (λ i. record { key = u.key; task = (sym whole) i; call = (sym call) i }) (reads_pay setup seat u.key v h r x)
@@ -325,7 +344,9 @@ module _ (setup : Setup) (seat : ℕ) (role : Role) (kind : role.kind ≡ seats.
   by_key (Some (Pod x)) is e = not_erasing firsts.Drops refl e
 
 pub reclaiming_pays : ReclaimingPays
-reclaiming_pays setup seat role kind fit s h u op run p gives task = subst (λ k. WillPay setup seat k h u) (sym kind) (by_key setup seat role kind fit s h u op task run p gives (row_at u.key (all_objects s.caches)) refl (decided setup seat role kind fit s h u op task run p gives))
+reclaiming_pays setup seat role kind fit s h u op run p gives task =
+    subst (λ k. WillPay setup seat k h u) (sym kind)
+    (by_key setup seat role kind fit s h u op task run p gives (row_at u.key (all_objects s.caches)) refl (decided setup seat role kind fit s h u op task run p gives))
 
 -- ---- the whole role
 

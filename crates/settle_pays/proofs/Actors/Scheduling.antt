@@ -1,11 +1,11 @@
 -- The scheduler pays: what it begins lowers what is left to do, call by call.
 use Rattle.std.proofs.Common.{◌≡◌, ◌∙◌, ℕ, List, Bool, true, false, true≢false, Option, Some, None, refl, sym, ap, subst, if◌then◌else◌}
 use Rattle.std.specs.Prelude.{slice_get}
-use Rattle.kube_types.specs.declared.key.Key.{Key}
-use Rattle.kube_types.specs.declared.objects.Object.{Object}
-use Rattle.kube_types.specs.declared.objects.Object.TheVariants.{Class, Node, Volume, Claim, Pod}
-use Rattle.kube_types.specs.Keys.{key_of, row_at}
-use Rattle.kube_types.proofs.KeyOrder.{row_at_key}
+use Rattle.kube_objects.specs.declared.key.Key.{Key}
+use Rattle.kube_objects.specs.declared.objects.Object.{Object}
+use Rattle.kube_objects.specs.declared.objects.Object.TheVariants.{Class, Node, Volume, Claim, Pod}
+use Rattle.kube_objects.specs.Keys.{key_of, row_at}
+use Rattle.kube_objects.proofs.KeyOrder.{row_at_key}
 use Rattle.call_types.specs.declared.entry.Entry.{Entry}
 use Rattle.call_types.specs.declared.request.Request.{Request}
 use Rattle.call_types.specs.declared.request.Request.TheVariants as requests
@@ -95,14 +95,19 @@ moved key op next e = by (schedule_call op) refl e
     by (Some call) is found = record { task = ap (task_of next) (sym found); call = is ∙ ap Some (ap (call_of next) found) }
 
 module _ (setup : Setup) (seat : ℕ) where
-  will_pay : (h : List Entry) (u : Under) (op : ScheduleOp) → u.task ≡ tasks.Schedule op → schedule_call op ≡ Some u.call → writes.Pays setup seat seats.Scheduler h u → WillPay setup seat seats.Scheduler h u
+  will_pay : (h : List Entry) (u : Under) (op : ScheduleOp) → u.task ≡ tasks.Schedule op → schedule_call op ≡ Some u.call
+      → writes.Pays setup seat seats.Scheduler h u → WillPay setup seat seats.Scheduler h u
   will_pay h u op task call (writes.EachPays lowers on) =
-      EachPays (lowering_pays setup (world setup h) seats.Scheduler u.call (write_stores u.call (asks_write op u.call call)) (subst (Lowers setup (world setup h) seats.Scheduler u.call) (worth_same u.call) lowers))
-      (λ next e. let m = moved u.key (schedule_moved op (reply_to (effect setup (world setup h) seats.Scheduler u.call))) next (ap (λ t. under_after (record { key = u.key; task = t; call = u.call }) (reply_to (effect setup (world setup h) seats.Scheduler u.call))) (sym task) ∙ e) in will_pay _ next _ m.task m.call (on next e))
+      EachPays (lowering_pays setup (world setup h) seats.Scheduler u.call (write_stores u.call (asks_write op u.call call))
+      (subst (Lowers setup (world setup h) seats.Scheduler u.call) (worth_same u.call) lowers))
+      (λ next e. let m = moved u.key (schedule_moved op (reply_to (effect setup (world setup h) seats.Scheduler u.call))) next
+      (ap (λ t. under_after (record { key = u.key; task = t; call = u.call }) (reply_to (effect setup (world setup h) seats.Scheduler u.call)))
+      (sym task) ∙ e) in will_pay _ next _ m.task m.call (on next e))
 
 -- ---- a decision
 
-module _ (setup : Setup) (seat : ℕ) (role : Role) (kind : role.kind ≡ seats.Scheduler) (s : ActorState) (h : List Entry) (u : Under) (run : IsRunOf setup h) (p : IsDecisionPoint setup seat role h s h) (gives : GivesCall s.role s.memory (all_objects s.caches) u) where
+module _ (setup : Setup) (seat : ℕ) (role : Role) (kind : role.kind ≡ seats.Scheduler) (s : ActorState) (h : List Entry) (u : Under)
+    (run : IsRunOf setup h) (p : IsDecisionPoint setup seat role h s h) (gives : GivesCall s.role s.memory (all_objects s.caches) u) where
   abbrev rows : List Object
   rows = (world setup h).store.rows
 
@@ -112,7 +117,8 @@ module _ (setup : Setup) (seat : ℕ) (role : Role) (kind : role.kind ≡ seats.
   decided : IsPodFirst rows refused (row_at u.key rows) (firsts.Begins u.task)
   decided =
       let s_kind : s.role.kind ≡ seats.Scheduler = ap (λ (r : Role). r.kind) p.role_is ∙ kind in
-      subst (λ xs. IsPodFirst xs refused (row_at u.key xs) (firsts.Begins u.task)) (schedulers_see_all setup seat role h s h kind p) (subst (λ k. IsFirstOf k s.role.node s.memory (all_objects s.caches) u.key (firsts.Begins u.task)) s_kind gives.decided)
+      subst (λ xs. IsPodFirst xs refused (row_at u.key xs) (firsts.Begins u.task)) (schedulers_see_all setup seat role h s h kind p)
+      (subst (λ k. IsFirstOf k s.role.node s.memory (all_objects s.caches) u.key (firsts.Begins u.task)) s_kind gives.decided)
 
   -- by the machine that began
   by_op : (op : ScheduleOp) → u.task ≡ tasks.Schedule op → (row : Option Object) → row_at u.key rows ≡ row → BeginsOn rows refused row (Some op) → WillPay setup seat seats.Scheduler h u
@@ -137,4 +143,5 @@ module _ (setup : Setup) (seat : ℕ) (role : Role) (kind : role.kind ≡ seats.
   by_task (tasks.Erase op) is begins = absurd begins
 
 pub scheduling_pays : SchedulingPays
-scheduling_pays setup seat role kind s h u run p gives = subst (λ k. WillPay setup seat k h u) (sym kind) (by_task setup seat role kind s h u run p gives u.task refl (decided setup seat role kind s h u run p gives))
+scheduling_pays setup seat role kind s h u run p gives =
+    subst (λ k. WillPay setup seat k h u) (sym kind) (by_task setup seat role kind s h u run p gives u.task refl (decided setup seat role kind s h u run p gives))

@@ -2,15 +2,15 @@
 use Rattle.std.proofs.Common.{◌≡◌, ◌∙◌, ℕ, List, [], ◌∷◌, ◌++◌, Bool, true, false, Option, Some, None, inl, inr, refl, sym, ap, subst}
 use Rattle.std.specs.Prelude.{cond, ⊤}
 use Rattle.std.proofs.lemmas.Bool.{and_right}
-use Rattle.kube_types.specs.declared.uid.Uid.{Uid}
-use Rattle.kube_types.specs.declared.objects.Pod.{Pod as PodData}
-use Rattle.kube_types.specs.declared.objects.Object.{Object}
-use Rattle.kube_types.specs.declared.objects.Object.TheVariants.{Class, Node, Volume, Claim, Pod}
-use Rattle.kube_types.specs.declared.key.Key.{Key}
-use Rattle.kube_types.specs.Bindings.{has_name, is_deleting, pv_protection, pvc_protection}
-use Rattle.kube_types.specs.Keys.{AreRows, key_of, meta_of, put_row, row_at, without_row}
-use Rattle.kube_types.proofs.KeyOrder.{row_at-put_row, row_at-put_row_other, row_at-without_row, row_at-without_row_other}
-use Rattle.kube_types.proofs.SameKeys.{key_tells}
+use Rattle.kube_parts.specs.declared.uid.Uid.{Uid}
+use Rattle.kube_objects.specs.declared.objects.Pod.{Pod as PodData}
+use Rattle.kube_objects.specs.declared.objects.Object.{Object}
+use Rattle.kube_objects.specs.declared.objects.Object.TheVariants.{Class, Node, Volume, Claim, Pod}
+use Rattle.kube_objects.specs.declared.key.Key.{Key}
+use Rattle.kube_objects.specs.Bindings.{has_name, is_deleting, pv_protection, pvc_protection}
+use Rattle.kube_objects.specs.Keys.{AreRows, key_of, meta_of, put_row, row_at, without_row}
+use Rattle.kube_objects.proofs.KeyOrder.{row_at-put_row, row_at-put_row_other, row_at-without_row, row_at-without_row_other}
+use Rattle.kube_objects.proofs.SameKeys.{key_tells}
 use Rattle.call_types.specs.declared.edit.Edit.{Edit}
 use Rattle.call_types.specs.declared.entry.Entry.{Entry}
 use Rattle.call_types.specs.declared.request.NewStatus.{NewStatus}
@@ -18,7 +18,28 @@ use Rattle.call_types.specs.declared.request.Request.{Request}
 use Rattle.call_types.specs.declared.request.Request.TheVariants as requests
 use Rattle.call_types.specs.declared.request.SeatKind.{SeatKind}
 use Rattle.call_types.specs.declared.setup.Setup.{Setup}
-use Rattle.binder_model.specs.Answers.{Outcome, Says, Stores, Removes, after, bind, create, delete, delete_of, edit, edit_to, finish, get, list, outcome, update, update_status, write_of, write_outcome, written_if_fits}
+use Rattle.binder_model.specs.Answers.{
+  Outcome,
+  Says,
+  Stores,
+  Removes,
+  after,
+  bind,
+  create,
+  delete,
+  delete_of,
+  edit,
+  edit_to,
+  finish,
+  get,
+  list,
+  outcome,
+  update,
+  update_status,
+  write_of,
+  write_outcome,
+  written_if_fits,
+}
 use Rattle.binder_model.specs.Edits.{edited_object}
 use Rattle.binder_model.specs.Imports.{imported_object}
 use Rattle.binder_model.specs.Store.{State, admitted_object, at_version, created_object, has_no_names, leaves, leaves_at_once, with_finalizer, with_meta, without_status}

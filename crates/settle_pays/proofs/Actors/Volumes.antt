@@ -1,19 +1,19 @@
 -- What the binder begins for a volume pays.
 use Rattle.std.proofs.Common.{◌≡◌, ◌∙◌, ℕ, ◌+◌, List, Bool, true, false, true≢false, Option, Some, None, refl, sym, ap, subst, if◌then◌else◌}
 use Rattle.std.specs.Prelude.{◌&&◌, ◌||◌, bytes_eq, is_some, not}
-use Rattle.kube_types.specs.declared.key.Key.{Key}
-use Rattle.kube_types.specs.declared.uid.Uid.{Uid}
-use Rattle.kube_types.specs.declared.names.Due.TheVariants as dues
+use Rattle.kube_objects.specs.declared.key.Key.{Key}
+use Rattle.kube_parts.specs.declared.uid.Uid.{Uid}
+use Rattle.kube_parts.specs.declared.names.Due.TheVariants as dues
 use Rattle.kube_types.specs.declared.lookup.Live.TheVariants.{NotAsked}
-use Rattle.kube_types.specs.declared.parts.VolumePhase.{VolumePhase}
-use Rattle.kube_types.specs.declared.parts.VolumePhase.TheVariants as volumes
-use Rattle.kube_types.specs.declared.objects.Ref.{Ref}
-use Rattle.kube_types.specs.declared.objects.Claim.{Claim as ClaimData}
-use Rattle.kube_types.specs.declared.objects.Volume.{Volume as VolumeData}
-use Rattle.kube_types.specs.declared.objects.Object.{Object}
-use Rattle.kube_types.specs.declared.objects.Object.TheVariants.{Volume}
-use Rattle.kube_types.specs.Bindings.{bound_by_controller, has_key, is_available, is_bound, is_empty, is_ended, is_protected_volume, ref_uid}
-use Rattle.kube_types.specs.Keys.{key_of, put_row, row_at}
+use Rattle.kube_parts.specs.declared.parts.VolumePhase.{VolumePhase}
+use Rattle.kube_parts.specs.declared.parts.VolumePhase.TheVariants as volumes
+use Rattle.kube_objects.specs.declared.objects.Ref.{Ref}
+use Rattle.kube_objects.specs.declared.objects.Claim.{Claim as ClaimData}
+use Rattle.kube_objects.specs.declared.objects.Volume.{Volume as VolumeData}
+use Rattle.kube_objects.specs.declared.objects.Object.{Object}
+use Rattle.kube_objects.specs.declared.objects.Object.TheVariants.{Volume}
+use Rattle.kube_objects.specs.Bindings.{bound_by_controller, has_key, is_available, is_bound, is_empty, is_ended, is_protected_volume, ref_uid}
+use Rattle.kube_objects.specs.Keys.{key_of, put_row, row_at}
 use Rattle.call_types.specs.declared.entry.Entry.{Entry}
 use Rattle.call_types.specs.declared.reply.Reply.{Reply}
 use Rattle.call_types.specs.declared.request.Request.{Request}
@@ -46,7 +46,8 @@ pub data VolumeBegun (rows : List Object) (v : VolumeData) (machine : Machine) :
   Bounds : machine ≡ machines.MarksBound v → volume_due rows v ≡ Some dues.Bound → VolumeBegun rows v machine
   Releases : machine ≡ machines.Releases v → volume_due rows v ≡ Some dues.Release → VolumeBegun rows v machine
   Unbinds : machine ≡ machines.Unbinds v → volume_due rows v ≡ Some dues.Unbind → VolumeBegun rows v machine
-  Reads : (r : Ref) (uid : Uid) → machine ≡ machines.ReadsClaim v → v.claim_ref ≡ Some r → r.uid ≡ Some uid → is_ended v.phase ≡ false → claim_with uid (row_at (claim_key r.namespace r.name) rows) ≡ None → volume_due rows v ≡ Some dues.Release → VolumeBegun rows v machine
+  Reads : (r : Ref) (uid : Uid) → machine ≡ machines.ReadsClaim v → v.claim_ref ≡ Some r → r.uid ≡ Some uid → is_ended v.phase ≡ false
+      → claim_with uid (row_at (claim_key r.namespace r.name) rows) ≡ None → volume_due rows v ≡ Some dues.Release → VolumeBegun rows v machine
 
 pub this_begins : (a b : Machine) → binder_firsts.Begins a ≡ binder_firsts.Begins b → a ≡ b
 this_begins a b e = ap (machine_in a) e
@@ -62,7 +63,8 @@ module _ (rows : List Object) (v : VolumeData) (machine : Machine) where
   free_begun : volume_due rows v ≡ (if is_available v.phase then None else Some dues.Available) → binder_firsts.Begins machine ≡ volume_first v (free_action v) → VolumeBegun rows v machine
   free_begun due e = by (is_available v.phase) due e
     where
-      by : (b : Bool) → volume_due rows v ≡ (if b then None else Some dues.Available) → binder_firsts.Begins machine ≡ volume_first v (if b then actions.Nothing else actions.Available) → VolumeBegun rows v machine
+      by : (b : Bool) → volume_due rows v ≡ (if b then None else Some dues.Available)
+          → binder_firsts.Begins machine ≡ volume_first v (if b then actions.Nothing else actions.Available) → VolumeBegun rows v machine
       by true d e = drops_none machine e
       by false d e = Frees (this_begins machine (machines.Frees v) e) d
 
@@ -72,7 +74,8 @@ module _ (rows : List Object) (v : VolumeData) (machine : Machine) where
     where
       by : (empty same rests reclaimed : Bool)
           → volume_due rows v ≡ (if empty then None else if same then (if rests then None else Some dues.Bound) else if reclaimed then Some dues.Release else Some dues.Unbind)
-          → binder_firsts.Begins machine ≡ volume_first v (if empty then actions.QueueClaim else if same then (if rests then actions.Nothing else actions.Bound) else if reclaimed then actions.Release else actions.Unbind)
+          → binder_firsts.Begins machine ≡ volume_first v
+          (if empty then actions.QueueClaim else if same then (if rests then actions.Nothing else actions.Bound) else if reclaimed then actions.Release else actions.Unbind)
           → VolumeBegun rows v machine
       by true same rests reclaimed d e = queues_none machine v.claim_ref e
       by false true true reclaimed d e = drops_none machine e
@@ -80,26 +83,31 @@ module _ (rows : List Object) (v : VolumeData) (machine : Machine) where
       by false false rests true d e = Releases (this_begins machine (machines.Releases v) e) d
       by false false rests false d e = Unbinds (this_begins machine (machines.Unbinds v) e) d
 
-  referred_begun : (r : Ref) (uid : Uid) → v.claim_ref ≡ Some r → r.uid ≡ Some uid → is_ended v.phase ≡ false → volume_due rows v ≡ referred_due v (claim_with uid (row_at (claim_key r.namespace r.name) rows))
+  referred_begun : (r : Ref) (uid : Uid) → v.claim_ref ≡ Some r → r.uid ≡ Some uid → is_ended v.phase ≡ false
+      → volume_due rows v ≡ referred_due v (claim_with uid (row_at (claim_key r.namespace r.name) rows))
       → binder_firsts.Begins machine ≡ volume_first v (referred_action v false (or_else (claim_with uid (row_at (claim_key r.namespace r.name) rows)) None)) → VolumeBegun rows v machine
   unfolding referred_due
   referred_begun r uid refers known open_ due e = by (claim_with uid (row_at (claim_key r.namespace r.name) rows)) refl due e
     where
-      by : (x : Option ClaimData) → claim_with uid (row_at (claim_key r.namespace r.name) rows) ≡ x → volume_due rows v ≡ referred_due v x → binder_firsts.Begins machine ≡ volume_first v (referred_action v false (or_else x None)) → VolumeBegun rows v machine
+      by : (x : Option ClaimData) → claim_with uid (row_at (claim_key r.namespace r.name) rows) ≡ x → volume_due rows v ≡ referred_due v x
+          → binder_firsts.Begins machine ≡ volume_first v (referred_action v false (or_else x None)) → VolumeBegun rows v machine
       by None is d e = Reads r uid (this_begins machine (machines.ReadsClaim v) e) refers known open_ is d
       by (Some c) is d e = claimed_begun c d e
 
   -- by the rows that are looked at, of which the claim's stands as in the store
-  pub volume_begun : (seen : List Object) → ((r : Ref) → row_at (claim_key r.namespace r.name) seen ≡ row_at (claim_key r.namespace r.name) rows) → binder_firsts.Begins machine ≡ volume_first v (volume_decision seen v NotAsked) → VolumeBegun rows v machine
+  pub volume_begun : (seen : List Object) → ((r : Ref) → row_at (claim_key r.namespace r.name) seen ≡ row_at (claim_key r.namespace r.name) rows)
+      → binder_firsts.Begins machine ≡ volume_first v (volume_decision seen v NotAsked) → VolumeBegun rows v machine
   unfolding volume_due reference_due volume_decision
   volume_begun seen same e = by v.claim_ref refl e
     where
       by_uid : (r : Ref) → v.claim_ref ≡ Some r → (u : Option Uid) → r.uid ≡ u
-          → binder_firsts.Begins machine ≡ volume_first v (if not (is_some u) then free_action v else if is_ended v.phase then actions.Nothing else referred_action v false (claim_by_uid seen r u NotAsked)) → VolumeBegun rows v machine
+          → binder_firsts.Begins machine ≡ volume_first v
+          (if not (is_some u) then free_action v else if is_ended v.phase then actions.Nothing else referred_action v false (claim_by_uid seen r u NotAsked)) → VolumeBegun rows v machine
       by_uid r refers None known e = free_begun (ap (reference_due rows v) refers ∙ ap (uid_due rows v r) known) e
       by_uid r refers (Some uid) known e = ended (is_ended v.phase) refl e
         where
-          ended : (b : Bool) → is_ended v.phase ≡ b → binder_firsts.Begins machine ≡ volume_first v (if b then actions.Nothing else referred_action v false (claim_of seen r uid NotAsked)) → VolumeBegun rows v machine
+          ended : (b : Bool) → is_ended v.phase ≡ b
+              → binder_firsts.Begins machine ≡ volume_first v (if b then actions.Nothing else referred_action v false (claim_of seen r uid NotAsked)) → VolumeBegun rows v machine
           ended true is e = drops_none machine e
           ended false is e =
               referred_begun r uid refers known is
@@ -107,7 +115,9 @@ module _ (rows : List Object) (v : VolumeData) (machine : Machine) where
               (subst (λ x. binder_firsts.Begins machine ≡ volume_first v (referred_action v false (or_else (claim_with uid x) None))) (same r) e)
 
       by : (r : Option Ref) → v.claim_ref ≡ r
-          → binder_firsts.Begins machine ≡ volume_first v (if not (is_some (ref_uid r)) then free_action v else if is_ended v.phase then actions.Nothing else referred_action v false (claim_by_reference seen r NotAsked)) → VolumeBegun rows v machine
+          → binder_firsts.Begins machine ≡ volume_first v
+          (if not (is_some (ref_uid r)) then free_action v else if is_ended v.phase then actions.Nothing else referred_action v false
+          (claim_by_reference seen r NotAsked)) → VolumeBegun rows v machine
       by None refers e = free_begun (ap (reference_due rows v) refers) e
       by (Some r) refers e = by_uid r refers r.uid refl e
 
@@ -154,7 +164,9 @@ unbound_key : (v : VolumeData) → key_of (Volume (unbound_volume v)) ≡ key_of
 unfolding unbound_volume
 unbound_key v = by (has_key bound_by_controller v.meta.annotations)
   where
-    by : (b : Bool) → key_of (Volume (if b then record v { claim_ref = None; meta = record v.meta { annotations = without_key bound_by_controller v.meta.annotations } } else record v { claim_ref = without_uid v.claim_ref })) ≡ key_of (Volume v)
+    by : (b : Bool) → key_of (Volume
+        (if b then record v { claim_ref = None; meta = record v.meta { annotations = without_key bound_by_controller v.meta.annotations } } else
+        record v { claim_ref = without_uid v.claim_ref })) ≡ key_of (Volume v)
     by true = refl
     by false = refl
 
@@ -183,7 +195,8 @@ read_is v r call refers e = by (is_empty v.meta.namespace && is_some v.meta.uid)
     by false x is found = none_some found
 
 -- what follows the read, where it finds no claim with the UID of the reference
-read_releases : (v : VolumeData) (r : Ref) (uid : Uid) (x : Option Object) (machine : Machine) → v.claim_ref ≡ Some r → r.uid ≡ Some uid → is_ended v.phase ≡ false → claim_with uid x ≡ None → moved (machines.ReadsClaim v) (got x) ≡ Some machine → machine ≡ machines.Releases v
+read_releases : (v : VolumeData) (r : Ref) (uid : Uid) (x : Option Object) (machine : Machine) → v.claim_ref ≡ Some r → r.uid ≡ Some uid
+    → is_ended v.phase ≡ false → claim_with uid x ≡ None → moved (machines.ReadsClaim v) (got x) ≡ Some machine → machine ≡ machines.Releases v
 unfolding moved volume_read
 read_releases v r uid x machine refers known open_ away e = by x away e
   where
@@ -199,7 +212,8 @@ read_releases v r uid x machine refers known open_ away e = by x away e
 
 module _ (setup : Setup) (seat : ℕ) (key : Key) where
   -- a phase is the last write
-  phase_pays : (h : List Entry) (v : VolumeData) (phase : VolumePhase) (machine : Machine) → call_of machine ≡ phase_call v phase → ((reply : Reply) → moved machine reply ≡ None) → Lowers setup (world setup h) seats.Binder (write_phase v phase) 1
+  phase_pays : (h : List Entry) (v : VolumeData) (phase : VolumePhase) (machine : Machine) → call_of machine ≡ phase_call v phase
+      → ((reply : Reply) → moved machine reply ≡ None) → Lowers setup (world setup h) seats.Binder (write_phase v phase) 1
       → MachinePays setup seat key h machine
   phase_pays h v phase machine call ends lowers given asks =
       subst (PaysFrom setup seat key h machine) (sym (phase_is v phase given (sym call ∙ asks)))
@@ -227,32 +241,38 @@ module _ (setup : Setup) (seat : ℕ) (key : Key) where
   unbinds_pay h v s due call asks =
       subst (PaysFrom setup seat key h (machines.Unbinds v)) (one (write_unbound v) call asks)
       (write_pays setup seat key h (machines.Unbinds v) (write_unbound v) refl (unbind_pays setup (world setup h) seats.Binder v s due)
-      (λ n moves. by n moves (volume_updated setup (world setup h) seats.Binder v (unbound_volume v) (Some v.meta.version) (ap (λ k. row_at k (world setup h).store.rows) (unbound_key v) ∙ at_key setup (world setup h) seats.Binder v s))))
+      (λ n moves. by n moves (volume_updated setup (world setup h) seats.Binder v (unbound_volume v) (Some v.meta.version)
+      (ap (λ k. row_at k (world setup h).store.rows) (unbound_key v) ∙ at_key setup (world setup h) seats.Binder v s))))
     where
-      then_free : (n : Machine) → (world setup (with_own setup seat h (write_unbound v))).store.rows ≡ put_row (Volume (unbound h v)) (world setup h).store.rows → FreesNext (unbound h v) n → MachinePays setup seat key (with_own setup seat h (write_unbound v)) n
+      then_free : (n : Machine) → (world setup (with_own setup seat h (write_unbound v))).store.rows ≡ put_row (Volume (unbound h v)) (world setup
+          h).store.rows → FreesNext (unbound h v) n → MachinePays setup seat key (with_own setup seat h (write_unbound v)) n
       then_free n put f =
           subst (MachinePays setup seat key (with_own setup seat h (write_unbound v))) (sym f.is)
           (frees_pay (with_own setup seat h (write_unbound v)) (unbound h v) (new_volume setup seat h (write_unbound v) v (unbound h v) s (unbound_key v) put) (free_due _ (unbound h v) f.uid f.phase))
 
-      by : (n : Machine) → moved (machines.Unbinds v) (answer setup h (write_unbound v)) ≡ Some n → Answered (world setup h) (Volume (unbound h v)) (effect setup (world setup h) seats.Binder (write_unbound v)) → MachinePays setup seat key (with_own setup seat h (write_unbound v)) n
+      by : (n : Machine) → moved (machines.Unbinds v) (answer setup h (write_unbound v)) ≡ Some n
+          → Answered (world setup h) (Volume (unbound h v)) (effect setup (world setup h) seats.Binder (write_unbound v)) → MachinePays setup seat key (with_own setup seat h (write_unbound v)) n
       by n moves (Refuses refusal is) = none_some (sym (ap (moved (machines.Unbinds v)) is) ∙ moves)
       by n moves (Goes is) = none_some (sym (ap (moved (machines.Unbinds v)) is) ∙ moves)
       by n moves (Stays is put) = then_free n put (frees_next (unbound h v) n (sym (ap (moved (machines.Unbinds v)) is) ∙ moves))
 
   -- the read of the claim, and phase Released after it
-  reads_pay : (h : List Entry) (v : VolumeData) (r : Ref) (uid : Uid) → StandsVolume (world setup h) v → v.claim_ref ≡ Some r → r.uid ≡ Some uid → is_ended v.phase ≡ false → claim_with uid (row_at (claim_key r.namespace r.name) (world setup h).store.rows) ≡ None
+  reads_pay : (h : List Entry) (v : VolumeData) (r : Ref) (uid : Uid) → StandsVolume (world setup h) v → v.claim_ref ≡ Some r → r.uid ≡ Some uid
+      → is_ended v.phase ≡ false → claim_with uid (row_at (claim_key r.namespace r.name) (world setup h).store.rows) ≡ None
       → volume_due (world setup h).store.rows v ≡ Some dues.Release → MachinePays setup seat key h (machines.ReadsClaim v)
   reads_pay h v r uid s refers known open_ away due call asks =
       subst (PaysFrom setup seat key h (machines.ReadsClaim v)) (sym (read_is v r call refers asks))
       (read_pays setup seat key h (machines.ReadsClaim v) (claim_key r.namespace r.name)
       (λ n moves. subst (MachinePays setup seat key (with_own setup seat h (Get (claim_key r.namespace r.name)))) (sym (released n moves))
-      (releases_pay (with_own setup seat h (Get (claim_key r.namespace r.name))) v (subst (λ w. StandsVolume w v) (sym same) s) (subst (λ w. volume_due w.store.rows v ≡ Some dues.Release) (sym same) due))))
+      (releases_pay (with_own setup seat h (Get (claim_key r.namespace r.name))) v (subst (λ w. StandsVolume w v) (sym same) s)
+      (subst (λ w. volume_due w.store.rows v ≡ Some dues.Release) (sym same) due))))
     where
       same : world setup (with_own setup seat h (Get (claim_key r.namespace r.name))) ≡ world setup h
       same = get_stays setup (world setup h) seats.Binder (claim_key r.namespace r.name)
 
       released : (n : Machine) → moved (machines.ReadsClaim v) (answer setup h (Get (claim_key r.namespace r.name))) ≡ Some n → n ≡ machines.Releases v
-      released n moves = read_releases v r uid (row_at (claim_key r.namespace r.name) (world setup h).store.rows) n refers known open_ away (sym (ap (moved (machines.ReadsClaim v)) (get_said setup (world setup h) seats.Binder (claim_key r.namespace r.name))) ∙ moves)
+      released n moves = read_releases v r uid (row_at (claim_key r.namespace r.name) (world setup h).store.rows) n refers known open_ away
+          (sym (ap (moved (machines.ReadsClaim v)) (get_said setup (world setup h) seats.Binder (claim_key r.namespace r.name))) ∙ moves)
 
   -- whatever begins for a volume pays
   pub begun_pays : (h : List Entry) (v : VolumeData) (machine : Machine) → StandsVolume (world setup h) v → VolumeBegun (world setup h).store.rows v machine → MachinePays setup seat key h machine

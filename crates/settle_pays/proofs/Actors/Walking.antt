@@ -1,14 +1,14 @@
 -- What the binder has under way, call by call: what an answer makes of it, and which volume and claim then stand.
 use Rattle.std.proofs.Common.{◌≡◌, ◌≢◌, ◌∙◌, ℕ, List, ◌∷◌, true, Option, Some, None, refl, sym, ap, subst, arith}
 use Rattle.std.specs.Prelude.{option_map}
-use Rattle.kube_types.specs.declared.key.Key.{Key}
-use Rattle.kube_types.specs.declared.objects.Claim.{Claim as ClaimData}
-use Rattle.kube_types.specs.declared.objects.Volume.{Volume as VolumeData}
-use Rattle.kube_types.specs.declared.objects.Object.{Object}
-use Rattle.kube_types.specs.declared.objects.Object.TheVariants.{Volume, Claim}
-use Rattle.kube_types.specs.declared.uid.Uid.{Uid}
-use Rattle.kube_types.specs.Keys.{key_of, kind_index, put_row, row_at}
-use Rattle.kube_types.proofs.KeyOrder.{row_at-put_row, row_at-put_row_other}
+use Rattle.kube_objects.specs.declared.key.Key.{Key}
+use Rattle.kube_objects.specs.declared.objects.Claim.{Claim as ClaimData}
+use Rattle.kube_objects.specs.declared.objects.Volume.{Volume as VolumeData}
+use Rattle.kube_objects.specs.declared.objects.Object.{Object}
+use Rattle.kube_objects.specs.declared.objects.Object.TheVariants.{Volume, Claim}
+use Rattle.kube_parts.specs.declared.uid.Uid.{Uid}
+use Rattle.kube_objects.specs.Keys.{key_of, kind_index, put_row, row_at}
+use Rattle.kube_objects.proofs.KeyOrder.{row_at-put_row, row_at-put_row_other}
 use Rattle.call_types.specs.declared.entry.Entry.{Entry}
 use Rattle.call_types.specs.declared.reply.Reply.{Reply}
 use Rattle.call_types.specs.declared.request.Request.{Request}
@@ -77,7 +77,8 @@ module _ (setup : Setup) (seat : ℕ) (key : Key) where
 
   then_pays : (h : List Entry) (machine : Machine) (call : Request) → ((n : Machine) → moved machine (answer setup h call) ≡ Some n → MachinePays (with_own setup seat h call) n)
       → (next : Under) → under_after (at key machine call) (answer setup h call) ≡ Some next → WillPay setup seat seats.Binder (with_own setup seat h call) next
-  then_pays h machine call on next e = let g = goes_on key machine call (answer setup h call) next e in subst (WillPay setup seat seats.Binder (with_own setup seat h call)) (sym g.is) (on g.then_ g.moves next.call g.asks)
+  then_pays h machine call on next e = let g = goes_on key machine call (answer setup h call) next e in
+      subst (WillPay setup seat seats.Binder (with_own setup seat h call)) (sym g.is) (on g.then_ g.moves next.call g.asks)
 
   -- a write that lowers what is left to do, and what comes of it
   pub write_pays : (h : List Entry) (machine : Machine) (call : Request) → is_for_store call ≡ true → Lowers setup (world setup h) seats.Binder call 1
@@ -85,7 +86,8 @@ module _ (setup : Setup) (seat : ℕ) (key : Key) where
   write_pays h machine call stored lowers on = EachPays (lowering_pays setup (world setup h) seats.Binder call stored lowers) (then_pays h machine call on)
 
   -- a read
-  pub read_pays : (h : List Entry) (machine : Machine) (wanted : Key) → ((n : Machine) → moved machine (answer setup h (Get wanted)) ≡ Some n → MachinePays (with_own setup seat h (Get wanted)) n) → PaysFrom h machine (Get wanted)
+  pub read_pays : (h : List Entry) (machine : Machine) (wanted : Key)
+      → ((n : Machine) → moved machine (answer setup h (Get wanted)) ≡ Some n → MachinePays (with_own setup seat h (Get wanted)) n) → PaysFrom h machine (Get wanted)
   read_pays h machine wanted on = EachPays (λ lasts. absurd (get_never setup (world setup h) seats.Binder wanted lasts)) (then_pays h machine (Get wanted) on)
 
 -- ---- what stands
@@ -100,23 +102,35 @@ rows_in setup h = (world setup h).store.rows
 pub volume_stands : (setup : Setup) (h : List Entry) (v : VolumeData) → row_at (volume_key v.meta.name) (rows_in setup h) ≡ Some (Volume v) → StandsVolume (world setup h) v
 volume_stands setup h v there = record { order = rows_stand_in_order setup h; there = there; stays = none_has_left setup h (volume_key v.meta.name) (Volume v) there }
 
-pub claim_stands : (setup : Setup) (h : List Entry) (c : ClaimData) (uid : Uid) → row_at (claim_key c.meta.namespace c.meta.name) (rows_in setup h) ≡ Some (Claim c) → c.meta.uid ≡ Some uid → StandsClaim (world setup h) c
-claim_stands setup h c uid there has = record { order = rows_stand_in_order setup h; there = there; stays = none_has_left setup h (claim_key c.meta.namespace c.meta.name) (Claim c) there; uid = uid; has = has }
+pub claim_stands : (setup : Setup) (h : List Entry) (c : ClaimData) (uid : Uid)
+    → row_at (claim_key c.meta.namespace c.meta.name) (rows_in setup h) ≡ Some (Claim c) → c.meta.uid ≡ Some uid → StandsClaim (world setup h) c
+claim_stands setup h c uid there has = record {
+  order = rows_stand_in_order setup h;
+  there = there;
+  stays = none_has_left setup h
+      (claim_key c.meta.namespace c.meta.name) (Claim c) there;
+  uid = uid;
+  has = has;
+}
 
 -- after the volume was written
-module _ (setup : Setup) (seat : ℕ) (h : List Entry) (call : Request) (v new : VolumeData) (s : StandsVolume (world setup h) v) (same : key_of (Volume new) ≡ key_of (Volume v)) (put : rows_in setup (with_own setup seat h call) ≡ put_row (Volume new) (rows_in setup h)) where
+module _ (setup : Setup) (seat : ℕ) (h : List Entry) (call : Request) (v new : VolumeData) (s : StandsVolume (world setup h) v)
+    (same : key_of (Volume new) ≡ key_of (Volume v)) (put : rows_in setup (with_own setup seat h call) ≡ put_row (Volume new) (rows_in setup h)) where
   pub new_volume : StandsVolume (world setup (with_own setup seat h call)) new
   new_volume =
       let key : volume_key new.meta.name ≡ key_of (Volume new) = ap (λ (k : Key). volume_key k.name) same ∙ sym (same ∙ key_is setup (world setup h) seats.Binder v s) in
-      volume_stands setup (with_own setup seat h call) new (ap (λ k. row_at k (rows_in setup (with_own setup seat h call))) key ∙ (ap (row_at (key_of (Volume new))) put ∙ row_at-put_row (Volume new) (rows_in setup h)))
+      volume_stands setup (with_own setup seat h call) new
+      (ap (λ k. row_at k (rows_in setup (with_own setup seat h call))) key ∙ (ap (row_at (key_of (Volume new))) put ∙ row_at-put_row (Volume new) (rows_in setup h)))
 
   pub same_claim : (c : ClaimData) → StandsClaim (world setup h) c → StandsClaim (world setup (with_own setup seat h call)) c
   same_claim c sc =
       claim_stands setup (with_own setup seat h call) c sc.uid
-      (ap (row_at (claim_key c.meta.namespace c.meta.name)) put ∙ (row_at-put_row_other (claim_key c.meta.namespace c.meta.name) (Volume new) (rows_in setup h) (other_kind new c.meta.namespace c.meta.name) ∙ sc.there)) sc.has
+      (ap (row_at (claim_key c.meta.namespace c.meta.name)) put
+      ∙ (row_at-put_row_other (claim_key c.meta.namespace c.meta.name) (Volume new) (rows_in setup h) (other_kind new c.meta.namespace c.meta.name) ∙ sc.there)) sc.has
 
 -- after the claim was written
-module _ (setup : Setup) (seat : ℕ) (h : List Entry) (call : Request) (c new : ClaimData) (sc : StandsClaim (world setup h) c) (put : rows_in setup (with_own setup seat h call) ≡ put_row (Claim new) (rows_in setup h)) where
+module _ (setup : Setup) (seat : ℕ) (h : List Entry) (call : Request) (c new : ClaimData) (sc : StandsClaim (world setup h) c)
+    (put : rows_in setup (with_own setup seat h call) ≡ put_row (Claim new) (rows_in setup h)) where
   pub new_claim : new.meta.uid ≡ c.meta.uid → StandsClaim (world setup (with_own setup seat h call)) new
   new_claim uid = claim_stands setup (with_own setup seat h call) new sc.uid (ap (row_at (key_of (Claim new))) put ∙ row_at-put_row (Claim new) (rows_in setup h)) (uid ∙ sc.has)
 

@@ -35,7 +35,8 @@ module _ (setup : Setup) (allow : ImportsAllow setup) (lets : Lets) (after : Lis
       let g = drains_grow lets setup after past left between middle rest more in
       let here : IsRunOf setup middle = older_run setup g.longer.added middle (subst (IsRunOf setup) g.longer.are run) in
       let spent = round_part lets middle rest ds h b between false round refl in
-      then_paid setup h middle past (round_paid setup allow ds may.stand.roles rests lets between h middle b rest false here round) (none_paid setup middle past (none_left between middle rest more spent))
+      then_paid setup h middle past (round_paid setup allow ds may.stand.roles rests lets between h middle b rest false here round)
+      (none_paid setup middle past (none_left between middle rest more spent))
 
 pub drains_pay : DrainsPay
 drains_pay setup lets ds after h past b left allow may rests run drains = pays_off setup h past run (drain_paid setup allow lets after past left run ds h b may rests drains)

@@ -1,18 +1,35 @@
 -- What is left to do does not look at versions, epochs or the count of device calls.
 use Rattle.std.proofs.Common.{◌≡◌, ◌∙◌, ℕ, ◌+◌, List, [], ◌∷◌, Option, Some, None, refl, sym, ap}
 use Rattle.std.specs.Prelude.{cond, option_map}
-use Rattle.kube_types.specs.declared.uid.Uid.{Uid}
-use Rattle.kube_types.specs.declared.objects.Ref.{Ref}
-use Rattle.kube_types.specs.declared.objects.Claim.{Claim as ClaimData}
-use Rattle.kube_types.specs.declared.objects.Object.{Object}
-use Rattle.kube_types.specs.declared.objects.Object.TheVariants.{Class, Node, Volume, Claim, Pod}
-use Rattle.kube_types.specs.Bindings.{is_completed, is_deleting, is_empty}
-use Rattle.kube_types.specs.Keys.{row_at}
+use Rattle.kube_parts.specs.declared.uid.Uid.{Uid}
+use Rattle.kube_objects.specs.declared.objects.Ref.{Ref}
+use Rattle.kube_objects.specs.declared.objects.Claim.{Claim as ClaimData}
+use Rattle.kube_objects.specs.declared.objects.Object.{Object}
+use Rattle.kube_objects.specs.declared.objects.Object.TheVariants.{Class, Node, Volume, Claim, Pod}
+use Rattle.kube_objects.specs.Bindings.{is_completed, is_deleting, is_empty}
+use Rattle.kube_objects.specs.Keys.{row_at}
 use Rattle.binder_model.specs.Devices.{Devices, has_data}
 use Rattle.binder_model.specs.ObjectKeys.{claim_key, volume_key}
 use Rattle.binder_model.specs.Provisioning.{data_name}
 use Rattle.binder_model.specs.World.{World}
-use Rattle.settle_measure.specs.Left.Measure.{binding_left, completed_left, has_class, has_offer, is_awaited, is_held_by, left_of, left_on, object_left, offers_claim, open_left, provision_left, seeking_left, seeks, total, unless}
+use Rattle.settle_measure.specs.Left.Measure.{
+  binding_left,
+  completed_left,
+  has_class,
+  has_offer,
+  is_awaited,
+  is_held_by,
+  left_of,
+  left_on,
+  object_left,
+  offers_claim,
+  open_left,
+  provision_left,
+  seeking_left,
+  seeks,
+  total,
+  unless,
+}
 use Rattle.settle_writes.specs.Writes.Lasting.{content_of}
 use Rattle.settle_alike.specs.Alike.Alike.{AreAlike, contents_of}
 use Rattle.settle_alike.proofs.Alike.Binding.{carries_plain}

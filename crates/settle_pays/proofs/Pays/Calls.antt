@@ -1,17 +1,17 @@
 -- A call that lasts writes, changes data or mounts, or fails as planned; so where its write lowers what is left to do it pays.
 use Rattle.std.proofs.Common.{◌≡◌, ◌∙◌, ℕ, ◌+◌, ◌≤◌, List, Bool, true, false, true≢false, Option, Some, None, inl, inr, refl, sym, ap, subst, arith}
 use Rattle.std.specs.Prelude.{nat_lt, ⊤, if◌then◌else◌}
-use Rattle.kube_types.specs.declared.key.Key.{Key}
-use Rattle.kube_types.specs.declared.names.Field.{Field}
-use Rattle.kube_types.specs.declared.names.Rule.{Rule}
-use Rattle.kube_types.specs.declared.uid.Uid.{Uid}
-use Rattle.kube_types.specs.declared.objects.Object.{Object}
-use Rattle.kube_types.specs.declared.objects.Pod.{Pod as PodData}
-use Rattle.kube_types.specs.Bindings.{is_deleting}
-use Rattle.kube_types.specs.Keys.{key_of, meta_of, row_at}
-use Rattle.kube_types.proofs.KeyOrder.{row_at_key}
-use Rattle.kube_types.specs.declared.names.Field.TheVariants as fields
-use Rattle.kube_types.specs.declared.parts.Kind.{Kind}
+use Rattle.kube_objects.specs.declared.key.Key.{Key}
+use Rattle.kube_parts.specs.declared.names.Field.{Field}
+use Rattle.kube_parts.specs.declared.names.Rule.{Rule}
+use Rattle.kube_parts.specs.declared.uid.Uid.{Uid}
+use Rattle.kube_objects.specs.declared.objects.Object.{Object}
+use Rattle.kube_objects.specs.declared.objects.Pod.{Pod as PodData}
+use Rattle.kube_objects.specs.Bindings.{is_deleting}
+use Rattle.kube_objects.specs.Keys.{key_of, meta_of, row_at}
+use Rattle.kube_objects.proofs.KeyOrder.{row_at_key}
+use Rattle.kube_parts.specs.declared.names.Field.TheVariants as fields
+use Rattle.kube_parts.specs.declared.parts.Kind.{Kind}
 use Rattle.plain_data.specs.Pairs.{Pair}
 use Rattle.call_types.specs.declared.edit.Edit.{Edit}
 use Rattle.call_types.specs.declared.request.Request.{Request}
@@ -23,8 +23,55 @@ use Rattle.call_types.specs.declared.reply.Refusal.TheVariants as refusals
 use Rattle.call_types.specs.declared.reply.Reply.{Reply}
 use Rattle.call_types.specs.declared.reply.Reply.TheVariants as replies
 use Rattle.call_types.specs.declared.setup.Setup.{Setup}
-use Rattle.binder_model.specs.Answers.{Outcome, Removes, Says, Stores, after, bind, create, delete, delete_of, edit, edit_to, finish, get, is_for_store, is_user, list, outcome, pod_with, refuse, refuse_field, refuse_rule, refuse_stale, reply_of, update, update_status, write_outcome, write_of, written_if_fits}
-use Rattle.binder_model.specs.Devices.{DeviceAnswer, Devices, after_call, data_named, device_answer, epoch_if_stale, erase, first_fit, is_planned, provision, provision_new, take_node, unless_planned, unless_stale, with_mounts, Data, MountAt}
+use Rattle.binder_model.specs.Answers.{
+  Outcome,
+  Removes,
+  Says,
+  Stores,
+  after,
+  bind,
+  create,
+  delete,
+  delete_of,
+  edit,
+  edit_to,
+  finish,
+  get,
+  is_for_store,
+  is_user,
+  list,
+  outcome,
+  pod_with,
+  refuse,
+  refuse_field,
+  refuse_rule,
+  refuse_stale,
+  reply_of,
+  update,
+  update_status,
+  write_outcome,
+  write_of,
+  written_if_fits,
+}
+use Rattle.binder_model.specs.Devices.{
+  DeviceAnswer,
+  Devices,
+  after_call,
+  data_named,
+  device_answer,
+  epoch_if_stale,
+  erase,
+  first_fit,
+  is_planned,
+  provision,
+  provision_new,
+  take_node,
+  unless_planned,
+  unless_stale,
+  with_mounts,
+  Data,
+  MountAt,
+}
 use Rattle.binder_model.specs.Store.{State, leaves, leaves_at_once}
 use Rattle.binder_model.specs.Edits.{edited_object}
 use Rattle.binder_model.specs.Watching.{oldest, told_events}
@@ -182,7 +229,8 @@ module _ (w : World) where
   store_left setup x n le = omega (arith, le)
 
 -- the requests that reach the store
-pub stored_effect : (setup : Setup) (w : World) (kind : SeatKind) (request : Request) → is_for_store request ≡ true → (x : Outcome) × ((effect setup w kind request ≡ OnStore x) × IsCalm w.store.rows x)
+pub stored_effect : (setup : Setup) (w : World) (kind : SeatKind) (request : Request) → is_for_store request ≡ true → (x : Outcome)
+    × ((effect setup w kind request ≡ OnStore x) × IsCalm w.store.rows x)
 unfolding effect on_devices device_answer
 stored_effect setup w kind (requests.Create o) is = (_, (refl, outcome_calm w.store kind (requests.Create o) w.moment _))
 stored_effect setup w kind (requests.Update o given) is = (_, (refl, outcome_calm w.store kind (requests.Update o given) w.moment _))
@@ -210,7 +258,8 @@ lowering_pays setup w kind request is lowers lasts = by (stored_effect setup w k
     by (x, (same, calm)) =
         let writes = lasting_writes w x calm (subst (λ y. LastsBetween w (world_after w y) (reply_to y)) same lasts) in
         let less = lowers writes.object (ap written_by same ∙ writes.written) in
-        subst (λ y. work_left setup (world_after w y) + worth kind request ≤ work_left setup w) (sym same) (store_left w setup x (worth kind request) (subst (λ y. left_of (world_after w y) + worth kind request ≤ left_of w) same less))
+        subst (λ y. work_left setup (world_after w y) + worth kind request ≤ work_left setup w) (sym same)
+        (store_left w setup x (worth kind request) (subst (λ y. left_of (world_after w y) + worth kind request ≤ left_of w) same less))
 
 -- ---- the reads of an actor, and the calls of an agent's start, never last
 
@@ -248,7 +297,8 @@ pub take_never : (setup : Setup) (w : World) (kind : SeatKind) (node : List ℕ)
 unfolding effect on_devices device_answer take_node world_after reply_to
 take_never setup w kind node lasts = by (is_user kind) lasts
   where
-    by : (user : Bool) → LastsBetween w (world_after w (if user then refused_rule else OnDevices (take_node w.devices node))) (reply_to (if user then refused_rule else OnDevices (take_node w.devices node))) → ⊥
+    by : (user : Bool) → LastsBetween w (world_after w (if user then refused_rule else OnDevices (take_node w.devices node)))
+        (reply_to (if user then refused_rule else OnDevices (take_node w.devices node))) → ⊥
     by true l = says_nothing w _ tt l
     by false (inl written) = written
     by false (inr (inl moved)) = no_devices_moved w moved
@@ -326,7 +376,9 @@ module _ (setup : Setup) (w : World) (kind : SeatKind) where
       by true gone = omega arith
       by false true = omega arith
       by false false = omega arith
-  calls_rise (requests.Provision name provisioner bytes labels) = device_rises (requests.Provision name provisioner bytes labels) _ (planned_rises setup w.devices _ (provision_rises setup w.devices name provisioner bytes labels (data_named name w.devices.stored)))
+  calls_rise (requests.Provision name provisioner bytes labels) =
+      device_rises (requests.Provision name provisioner bytes labels) _
+      (planned_rises setup w.devices _ (provision_rises setup w.devices name provisioner bytes labels (data_named name w.devices.stored)))
   calls_rise (requests.Erase id) = device_rises (requests.Erase id) _ (planned_rises setup w.devices (erase w.devices id) by)
     where
       by : w.devices.calls ≤ (erase w.devices id).devices.calls
@@ -342,5 +394,6 @@ module _ (setup : Setup) (w : World) (kind : SeatKind) where
 pub alike_is_left : AlikeIsLeft
 alike_is_left setup w kind request alike =
     let same = left_alike w (world_after w (effect setup w kind request)) alike in
-    let faults : faults_left setup (world_after w (effect setup w kind request)).devices ≤ faults_left setup w.devices = calls_stay setup w.devices (world_after w (effect setup w kind request)).devices (calls_rise setup w kind request) in
+    let faults : faults_left setup (world_after w (effect setup w kind request)).devices ≤ faults_left setup w.devices =
+    calls_stay setup w.devices (world_after w (effect setup w kind request)).devices (calls_rise setup w kind request) in
     omega (arith, same, faults)

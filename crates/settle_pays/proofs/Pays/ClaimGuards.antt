@@ -2,16 +2,16 @@
 use Rattle.std.proofs.Common.{◌≡◌, ◌∙◌, ℕ, List, [], ◌∷◌, Bool, true, false, true≢false, Option, Some, None, refl, sym, ap, subst}
 use Rattle.std.specs.Prelude.{◌&&◌, ◌≢◌, is_some, if◌then◌else◌}
 use Rattle.std.specs.List.{list_any}
-use Rattle.kube_types.specs.declared.key.Key.{Key}
-use Rattle.kube_types.specs.declared.names.Due.{Due}
-use Rattle.kube_types.specs.declared.names.Due.TheVariants as dues
-use Rattle.kube_types.specs.declared.parts.Kind.TheVariants as kinds
-use Rattle.kube_types.specs.declared.objects.Claim.{Claim as ClaimData}
-use Rattle.kube_types.specs.declared.objects.Object.{Object}
-use Rattle.kube_types.specs.declared.objects.Object.TheVariants.{Class, Node, Volume, Claim, Pod}
-use Rattle.kube_types.specs.Bindings.{has_name, is_deleting, is_protected_claim, pvc_protection, uses}
-use Rattle.kube_types.specs.Keys.{key_of, row_at}
-use Rattle.kube_types.proofs.KeyOrder.{row_at_key}
+use Rattle.kube_objects.specs.declared.key.Key.{Key}
+use Rattle.kube_parts.specs.declared.names.Due.{Due}
+use Rattle.kube_parts.specs.declared.names.Due.TheVariants as dues
+use Rattle.kube_parts.specs.declared.parts.Kind.TheVariants as kinds
+use Rattle.kube_objects.specs.declared.objects.Claim.{Claim as ClaimData}
+use Rattle.kube_objects.specs.declared.objects.Object.{Object}
+use Rattle.kube_objects.specs.declared.objects.Object.TheVariants.{Class, Node, Volume, Claim, Pod}
+use Rattle.kube_objects.specs.Bindings.{has_name, is_deleting, is_protected_claim, pvc_protection, uses}
+use Rattle.kube_objects.specs.Keys.{key_of, row_at}
+use Rattle.kube_objects.proofs.KeyOrder.{row_at_key}
 use Rattle.call_types.specs.declared.entry.Entry.{Entry}
 use Rattle.call_types.specs.declared.reply.Reply.{Reply}
 use Rattle.call_types.specs.declared.reply.Reply.TheVariants as replies
@@ -75,11 +75,13 @@ not_listing : (step : ClaimGuardStep) → is_listing step ≡ false → step ≢
 not_listing step e is = true≢false (sym (ap is_listing is) ∙ e)
 
 -- after the list the finalizer is dropped, if at all
-drops_next : (key : Key) (c : ClaimData) (call : Request) (reply : Reply) (next : Under) → under_after (at_step key c steps.ListsPods call) reply ≡ Some next → next ≡ at_step key c steps.Drops (claim_write_over c (unguarded_claim c))
+drops_next : (key : Key) (c : ClaimData) (call : Request) (reply : Reply) (next : Under)
+    → under_after (at_step key c steps.ListsPods call) reply ≡ Some next → next ≡ at_step key c steps.Drops (claim_write_over c (unguarded_claim c))
 unfolding claim_guard_call claim_moved
 drops_next key c call (replies.Listed items version) next e = by (list_any (uses c) items) e
   where
-    by : (b : Bool) → with_call key (tasks.ClaimProtect (record { claim = c; step = if b then steps.Done else steps.Drops })) (claim_guard_call_at (if b then steps.Done else steps.Drops) c) ≡ Some next
+    by : (b : Bool) → with_call key (tasks.ClaimProtect (record { claim = c; step = if b then steps.Done else steps.Drops }))
+        (claim_guard_call_at (if b then steps.Done else steps.Drops) c) ≡ Some next
         → next ≡ at_step key c steps.Drops (claim_write_over c (unguarded_claim c))
     by true is = none_some is
     by false is = sym (one _ next is)
@@ -88,7 +90,8 @@ drops_next key c call _ next e = none_some e
 
 -- ---- a decision
 
-module _ (setup : Setup) (seat : ℕ) (role : Role) (kind : role.kind ≡ seats.ClaimProtect) (s : ActorState) (h : List Entry) (u : Under) (run : IsRunOf setup h) (p : IsDecisionPoint setup seat role h s h) (gives : GivesCall s.role s.memory (all_objects s.caches) u) where
+module _ (setup : Setup) (seat : ℕ) (role : Role) (kind : role.kind ≡ seats.ClaimProtect) (s : ActorState) (h : List Entry) (u : Under)
+    (run : IsRunOf setup h) (p : IsDecisionPoint setup seat role h s h) (gives : GivesCall s.role s.memory (all_objects s.caches) u) where
   s_kind : s.role.kind ≡ seats.ClaimProtect
   s_kind = ap (λ (r : Role). r.kind) p.role_is ∙ kind
 
@@ -112,17 +115,20 @@ module _ (setup : Setup) (seat : ℕ) (role : Role) (kind : role.kind ≡ seats.
     on_store = stored setup h u.key (Claim c) run.imports there
 
     stands : leaves (Claim c) ≡ false → StandsClaim w c
-    stands stays = let known = has_uid c.meta.uid (rows_known setup h run.imports u.key (Claim c) there) in record { order = rows_stand_in_order setup h; there = on_store.there; stays = stays; uid = known.uid; has = known.is }
+    stands stays = let known = has_uid c.meta.uid (rows_known setup h run.imports u.key (Claim c) there) in
+        record { order = rows_stand_in_order setup h; there = on_store.there; stays = stays; uid = known.uid; has = known.is }
 
     -- the pods of the store are those that the caches show
     unused : list_any (uses c) (all_objects s.caches) ≡ false → list_any (uses c) w.store.rows ≡ false
     unused none = none_among (uses c) w.store.rows (all_objects s.caches)
-        (λ o i e. found_stands (key_of o) o (all_objects s.caches) (p.sees (key_of o) (follows_it (key_of o) (ap (λ k. follows seats.ClaimProtect k) (uses_pod c o e))) ∙ member_stands o w.store.rows (rows_stand_in_order setup h) i)) none
+        (λ o i e. found_stands (key_of o) o (all_objects s.caches)
+        (p.sees (key_of o) (follows_it (key_of o) (ap (λ k. follows seats.ClaimProtect k) (uses_pod c o e))) ∙ member_stands o w.store.rows (rows_stand_in_order setup h) i)) none
 
     begun : (action : Option Due) → claim_guard_due (all_objects s.caches) c ≡ action → firsts.Begins u.task ≡ claim_guard_first (claim_guard_for c action)
     begun action e = decided ∙ (ap (λ x. claim_guard_first (claim_guard_begins (all_objects s.caches) x)) row ∙ ap (λ x. claim_guard_first (claim_guard_for c x)) e)
 
-    will : (step : ClaimGuardStep) (call : Request) → firsts.Begins u.task ≡ firsts.Begins (tasks.ClaimProtect (record { claim = c; step = step })) → task_call (tasks.ClaimProtect (record { claim = c; step = step })) ≡ Some call
+    will : (step : ClaimGuardStep) (call : Request) → firsts.Begins u.task ≡ firsts.Begins (tasks.ClaimProtect (record { claim = c; step = step }))
+        → task_call (tasks.ClaimProtect (record { claim = c; step = step })) ≡ Some call
         → WillPay setup seat seats.ClaimProtect h (at_step u.key c step call) → WillPay setup seat seats.ClaimProtect h u
     will step call begins asks pays =
         let task : u.task ≡ tasks.ClaimProtect (record { claim = c; step = step }) = ap (task_in u.task) begins in
@@ -155,7 +161,8 @@ module _ (setup : Setup) (seat : ℕ) (role : Role) (kind : role.kind ≡ seats.
     same_world = list_stays setup w seats.ClaimProtect c.meta.namespace
 
     -- the finalizer is dropped after the list
-    dropping : is_deleting c.meta ≡ true → is_protected_claim c ≡ true → list_any (uses c) (all_objects s.caches) ≡ false → WillPay setup seat seats.ClaimProtect h_listed (at_step u.key c steps.Drops (claim_write_over c (unguarded_claim c)))
+    dropping : is_deleting c.meta ≡ true → is_protected_claim c ≡ true → list_any (uses c) (all_objects s.caches) ≡ false
+        → WillPay setup seat seats.ClaimProtect h_listed (at_step u.key c steps.Drops (claim_write_over c (unguarded_claim c)))
     dropping deleting guarded_ free =
         let due : claim_guard_due w.store.rows c ≡ Some dues.Unguard = rw (deleting, guarded_, unused free) refl in
         EachPays (subst (λ x. Pays setup x seats.ClaimProtect (claim_write_over c (unguarded_claim c))) (sym same_world)
@@ -167,12 +174,15 @@ module _ (setup : Setup) (seat : ℕ) (role : Role) (kind : role.kind ≡ seats.
     of_guarding (Adds staying lacking e) =
         let due : claim_guard_due w.store.rows c ≡ Some dues.Guard = rw (staying, lacking) refl in
         will steps.Adds (claim_write_over c (guarded_claim c)) (begun _ e) refl
-        (EachPays (lowering_pays setup w seats.ClaimProtect (claim_write_over c (guarded_claim c)) refl (claim_guard_pays setup w seats.ClaimProtect c (stands (stays_new staying)) due)) (λ next is. none_some (sym (ends u.key c steps.Adds (claim_write_over c (guarded_claim c)) _ (not_listing steps.Adds refl)) ∙ is)))
+        (EachPays (lowering_pays setup w seats.ClaimProtect (claim_write_over c (guarded_claim c)) refl
+        (claim_guard_pays setup w seats.ClaimProtect c (stands (stays_new staying)) due))
+        (λ next is. none_some (sym (ends u.key c steps.Adds (claim_write_over c (guarded_claim c)) _ (not_listing steps.Adds refl)) ∙ is)))
     of_guarding (Drops deleting guarded_ free e) =
         let known : is_some c.meta.uid ≡ true = rows_known setup h run.imports u.key (Claim c) there in
         will steps.ListsPods listing (begun _ e) (rw known refl)
         (EachPays (λ lasts. absurd (list_never setup w seats.ClaimProtect kinds.Pod (Some c.meta.namespace) lasts))
-        (λ next is. subst (WillPay setup seat seats.ClaimProtect h_listed) (sym (drops_next u.key c listing (reply_to (effect setup w seats.ClaimProtect listing)) next is)) (dropping deleting guarded_ free)))
+        (λ next is. subst (WillPay setup seat seats.ClaimProtect h_listed)
+        (sym (drops_next u.key c listing (reply_to (effect setup w seats.ClaimProtect listing)) next is)) (dropping deleting guarded_ free)))
     of_guarding (Rests e) = not_dropped (begun _ e)
 
   by_row : (row : Option Object) → row_at u.key (all_objects s.caches) ≡ row → WillPay setup seat seats.ClaimProtect h u

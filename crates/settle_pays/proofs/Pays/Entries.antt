@@ -1,7 +1,7 @@
 -- Entries that pay lower what is left to do.
 use Rattle.std.proofs.Common.{◌≡◌, ◌∙◌, ◌⊎◌, ◌+◌, ◌≤◌, List, [], ◌∷◌, ◌++◌, append_assoc, inl, inr, refl, sym, ap, subst, arith}
 use Rattle.std.proofs.lemmas.List.{append_cancel_right}
-use Rattle.kube_types.specs.Keys.{AreRows}
+use Rattle.kube_objects.specs.Keys.{AreRows}
 use Rattle.call_types.specs.declared.entry.Entry.{Entry}
 use Rattle.call_types.specs.declared.request.Request.{Request}
 use Rattle.call_types.specs.declared.request.SeatKind.{SeatKind}
@@ -20,7 +20,8 @@ use Rattle.settle_pays.proofs.Pays.Calls.{alike_is_left}
 
 pub all_more : (setup : Setup) (newer middle earlier : List Entry) → AllPay setup newer (middle ++ earlier) → AllPay setup middle earlier → AllPay setup (newer ++ middle) earlier
 all_more setup [] middle earlier new old = old
-all_more setup (e ∷ newer) middle earlier new old = (subst (λ es. Pays setup (world setup es) e.kind e.request) (sym (append_assoc newer middle earlier)) new.0, all_more setup newer middle earlier new.1 old)
+all_more setup (e ∷ newer) middle earlier new old =
+    (subst (λ es. Pays setup (world setup es) e.kind e.request) (sym (append_assoc newer middle earlier)) new.0, all_more setup newer middle earlier new.1 old)
 
 pub none_paid : (setup : Setup) (h past : List Entry) → past ≡ h → HavePaid setup h past
 none_paid setup h past same = record { newer = []; are = same; each = tt }
@@ -55,13 +56,15 @@ all_stay setup (e ∷ newer) earlier each =
     omega (arith, here, before)
 
 -- those before and behind an entry
-pays_at : (setup : Setup) (newer : List Entry) (e : Entry) (old earlier : List Entry) → AllPay setup (newer ++ (e ∷ old)) earlier → (work_left setup (world setup (newer ++ (e ∷ old ++ earlier))) ≤ work_left setup (world setup (e ∷ old ++ earlier)))
+pays_at : (setup : Setup) (newer : List Entry) (e : Entry) (old earlier : List Entry) → AllPay setup (newer ++ (e ∷ old)) earlier
+    → (work_left setup (world setup (newer ++ (e ∷ old ++ earlier))) ≤ work_left setup (world setup (e ∷ old ++ earlier)))
     × (Pays setup (world setup (old ++ earlier)) e.kind e.request × (work_left setup (world setup (old ++ earlier)) ≤ work_left setup (world setup earlier)))
 pays_at setup [] e old earlier each = (omega arith, (each.0, all_stay setup old earlier each.1))
 pays_at setup (x ∷ newer) e old earlier each =
     let more = pays_at setup newer e old earlier each.1 in
     let same : (newer ++ (e ∷ old)) ++ earlier ≡ newer ++ (e ∷ old ++ earlier) = append_assoc newer (e ∷ old) earlier in
-    let here = one_stays setup (world setup (newer ++ (e ∷ old ++ earlier))) x.kind x.request (rows_stand_in_order setup (newer ++ (e ∷ old ++ earlier))) (subst (λ es. Pays setup (world setup es) x.kind x.request) same each.0) in
+    let here = one_stays setup (world setup (newer ++ (e ∷ old ++ earlier))) x.kind x.request
+    (rows_stand_in_order setup (newer ++ (e ∷ old ++ earlier))) (subst (λ es. Pays setup (world setup es) x.kind x.request) same each.0) in
     let before = more.0 in
     (omega (arith, here, before), more.1)
 

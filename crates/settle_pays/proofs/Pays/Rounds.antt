@@ -12,7 +12,8 @@ use Rattle.settle_pays.proofs.Pays.Entries.{none_paid, then_paid}
 use Rattle.settle_pays.proofs.Pays.Slots.{older_run, slots_pay}
 
 module _ (setup : Setup) (lets : Lets) (past : List Entry) (left : ℕ) (run : IsRunOf setup past) where
-  rounds_pay : (ds : List Drainer) (h : List Entry) (b : ℕ) (after : List Drainer) (whole : Bool) → IsRound lets past left ds h b after whole → ((place : ℕ) (d : Drainer) → slice_get ds place ≡ Some d → IsPayer setup d) → HavePaid setup h past
+  rounds_pay : (ds : List Drainer) (h : List Entry) (b : ℕ) (after : List Drainer) (whole : Bool) → IsRound lets past left ds h b after whole
+      → ((place : ℕ) (d : Drainer) → slice_get ds place ≡ Some d → IsPayer setup d) → HavePaid setup h past
   rounds_pay _ h b _ _ (Ends entries rest) payers = none_paid setup h past entries
   rounds_pay _ h b _ _ (Turns {ds = ds} {after = after} {whole = whole} d ran middle rest idle seat runs more) payers =
       let p = payers 0 d refl in

@@ -1,7 +1,7 @@
 -- An actor whose decisions pay, run with nothing under way, pays with each of its calls.
 use Rattle.std.proofs.Common.{◌≡◌, ◌∙◌, ℕ, ◌-◌, List, [], ◌∷◌, ◌++◌, ◌<◌, length, Bool, true, false, Option, Some, None, inl, inr, refl, sym, ap, subst, arith}
 use Rattle.std.specs.Prelude.{is_some}
-use Rattle.kube_types.specs.declared.parts.Kind.{Kind}
+use Rattle.kube_parts.specs.declared.parts.Kind.{Kind}
 use Rattle.call_types.specs.declared.entry.Entry.{Entry}
 use Rattle.call_types.specs.declared.reply.Reply.{Reply}
 use Rattle.call_types.specs.declared.request.Request.{Request}
@@ -81,8 +81,10 @@ module _ (setup : Setup) (w : World) where
 
 module _ (setup : Setup) (lets : Lets) (seat : ℕ) (role : Role) (built : IsBuiltKind role.kind) (decides : DecisionsPay setup seat role) where
   -- what the next call of an actor is
-  calls_so : (s given : ActorState) (request : Request) (h : List Entry) → s.role ≡ role → IsRunOf setup h → IsReady seat s h → IsTurn s given (Call request) → KnowsBehind setup seat s.role s.pass h → (s.memory.stale ≡ false → PaysUnder setup seat role.kind h s.under) → CallsSo setup seat role.kind h given request
-  calls_so s given request h is run ready turn knows pays = by s.memory.stale s.under (start_call s.role s.memory) (unlisted s) (passing s) refl refl refl refl turn (pays (calls_fresh s given request turn))
+  calls_so : (s given : ActorState) (request : Request) (h : List Entry) → s.role ≡ role → IsRunOf setup h → IsReady seat s h
+      → IsTurn s given (Call request) → KnowsBehind setup seat s.role s.pass h → (s.memory.stale ≡ false → PaysUnder setup seat role.kind h s.under) → CallsSo setup seat role.kind h given request
+  calls_so s given request h is run ready turn knows pays =
+      by s.memory.stale s.under (start_call s.role s.memory) (unlisted s) (passing s) refl refl refl refl turn (pays (calls_fresh s given request turn))
     where
       asked : (x : Request) → Call request ≡ Call x → request ≡ x
       asked x e = one request x (ap call_in e)
@@ -91,15 +93,19 @@ module _ (setup : Setup) (lets : Lets) (seat : ℕ) (role : Role) (built : IsBui
       reads_so k none e = Reads none (λ kind. subst (NeverLasts setup (world setup h) kind) (sym (asked (read_of_kind s.caches k) e)) (read_never setup (world setup h) s.caches k kind))
 
       point : passing s ≡ None → IsDecisionPoint setup seat role h s h
-      point over = let before = runs_are_histories setup h run.run in record { role_is = is; history = before; alike = record { rows = refl; stored = refl; mounts = refl }; ready = ready; sees = sees setup seat s h before ready.stands.told knows over }
+      point over = let before = runs_are_histories setup h run.run in
+          record { role_is = is; history = before; alike = record { rows = refl; stored = refl; mounts = refl }; ready = ready; sees = sees setup seat s h before ready.stands.told knows over }
 
-      keys : (w : Work) (under : Option Under) → s.under ≡ None → passing s ≡ None → Decides s.role s.memory (all_objects s.caches) w under s.work → AfterKeys s given (Call request) w under → CallsSo setup seat role.kind h given request
+      keys : (w : Work) (under : Option Under) → s.under ≡ None → passing s ≡ None → Decides s.role s.memory (all_objects s.caches) w under s.work
+          → AfterKeys s given (Call request) w under → CallsSo setup seat role.kind h given request
       keys w (Some u) none over d b =
-          OfUnder u (ap (λ (x : ActorState). x.under) b.state) (ap (λ (x : ActorState). x.given) b.state) (asked u.call b.call) (decides s h u run (point over) (decides_gives s.role s.memory (all_objects s.caches) w (Some u) u s.work d refl))
+          OfUnder u (ap (λ (x : ActorState). x.under) b.state) (ap (λ (x : ActorState). x.given) b.state) (asked u.call b.call)
+          (decides s h u run (point over) (decides_gives s.role s.memory (all_objects s.caches) w (Some u) u s.work d refl))
       keys w None none over d (inl b) = reads_so b.kind (ap (λ (x : ActorState). x.under) b.state ∙ none) b.call
       keys w None none over d (inr b) = none_some (sym (ap call_in b.idle))
 
-      by : (stale : Bool) (under : Option Under) (start : Option Request) (l p : Option Kind) → s.memory.stale ≡ stale → s.under ≡ under → start_call s.role s.memory ≡ start → passing s ≡ p → TurnBy s given (Call request) stale under start l p → PaysUnder setup seat role.kind h s.under
+      by : (stale : Bool) (under : Option Under) (start : Option Request) (l p : Option Kind) → s.memory.stale ≡ stale → s.under ≡ under
+          → start_call s.role s.memory ≡ start → passing s ≡ p → TurnBy s given (Call request) stale under start l p → PaysUnder setup seat role.kind h s.under
           → CallsSo setup seat role.kind h given request
       by true under start l p es eu est ep t pay = none_some (sym (ap call_in t.idle))
       by false (Some u) start l p es eu est ep t pay = under_so (subst (PaysUnder setup seat role.kind h) eu pay)
@@ -107,13 +113,15 @@ module _ (setup : Setup) (lets : Lets) (seat : ℕ) (role : Role) (built : IsBui
           under_so : PaysUnder setup seat role.kind h (Some u) → CallsSo setup seat role.kind h given request
           under_so (PaysSo v will) = OfUnder u (ap (λ (x : ActorState). x.under) t.state ∙ eu) (ap (λ (x : ActorState). x.given) t.state) (asked u.call t.call) will
       by false None (Some r) l p es eu est ep t pay =
-          Reads (ap (λ (x : ActorState). x.under) t.state ∙ eu) (λ kind. subst (NeverLasts setup (world setup h) kind) (sym (asked r t.call)) (start_never setup (world setup h) s.role.kind s.role.node s.memory r est kind))
+          Reads (ap (λ (x : ActorState). x.under) t.state ∙ eu)
+          (λ kind. subst (NeverLasts setup (world setup h) kind) (sym (asked r t.call)) (start_never setup (world setup h) s.role.kind s.role.node s.memory r est kind))
       by false None None (Some k) p es eu est ep t pay = reads_so k (ap (λ (x : ActorState). x.under) t.state ∙ eu) t.call
       by false None None None (Some k) es eu est ep t pay = reads_so k (ap (λ (x : ActorState). x.under) t.state ∙ eu) t.call
       by false None None None None es eu est ep t pay = keys t.work t.under eu ep t.decides t.then_
 
   -- the call pays, and what is then under way will
-  module _ (given next : ActorState) (request : Request) (reply : Reply) (h : List Entry) (of_kind : given.role.kind ≡ role.kind) (said : reply ≡ reply_to (effect setup (world setup h) given.role.kind request)) where
+  module _ (given next : ActorState) (request : Request) (reply : Reply) (h : List Entry) (of_kind : given.role.kind ≡ role.kind)
+      (said : reply ≡ reply_to (effect setup (world setup h) given.role.kind request)) where
     abbrev entry : Entry
     entry = told_entry seat given request reply
 
@@ -136,10 +144,12 @@ module _ (setup : Setup) (lets : Lets) (seat : ℕ) (role : Role) (built : IsBui
         by : (x : Option Under) → under_after u reply ≡ x → PaysUnder setup seat role.kind (entry ∷ h) x
         by None e = NothingUnder
         by (Some n) e = PaysSo n (subst (λ x. WillPay setup seat role.kind (x ∷ h) n) same_entry (on n (ap (under_after u) (sym answered) ∙ e)))
-    told_pays (Reads none never) absorbs = subst (PaysUnder setup seat role.kind (entry ∷ h)) (sym (ap (λ (x : ActorState). x.under) absorbs ∙ none_told given request reply next.caches given.given given.under none)) NothingUnder
+    told_pays (Reads none never) absorbs = subst (PaysUnder setup seat role.kind (entry ∷ h)) (sym
+        (ap (λ (x : ActorState). x.under) absorbs ∙ none_told given request reply next.caches given.given given.under none)) NothingUnder
 
   -- a call that was lost leaves nothing under way
-  lost_pays : (given next : ActorState) (request : Request) (h : List Entry) → CallsSo setup seat role.kind h given request → next ≡ absorbed given next.caches request Lost → PaysUnder setup seat role.kind h next.under
+  lost_pays : (given next : ActorState) (request : Request) (h : List Entry) → CallsSo setup seat role.kind h given request
+      → next ≡ absorbed given next.caches request Lost → PaysUnder setup seat role.kind h next.under
   lost_pays given next request h so absorbs = subst (PaysUnder setup seat role.kind h) (sym (ap (λ (x : ActorState). x.under) absorbs ∙ by so)) NothingUnder
     where
       by : CallsSo setup seat role.kind h given request → (lost_given given given.given).under ≡ None
@@ -150,7 +160,8 @@ module _ (setup : Setup) (lets : Lets) (seat : ℕ) (role : Role) (built : IsBui
     run_before : (s : ActorState) (h : List Entry) (b : ℕ) → Runs lets seat after past left idle s h b → IsRunOf setup h
     run_before s h b runs = let g = run_grows lets seat after past left idle s h b runs in older_run setup g.longer.added h (subst (IsRunOf setup) g.longer.are run)
 
-    runs_pay : (s : ActorState) (h : List Entry) (b : ℕ) → Runs lets seat after past left idle s h b → s.role ≡ role → KnowsBehind setup seat s.role s.pass h → (s.memory.stale ≡ false → PaysUnder setup seat role.kind h s.under) → HavePaid setup h past
+    runs_pay : (s : ActorState) (h : List Entry) (b : ℕ) → Runs lets seat after past left idle s h b → s.role ≡ role
+        → KnowsBehind setup seat s.role s.pass h → (s.memory.stale ≡ false → PaysUnder setup seat role.kind h s.under) → HavePaid setup h past
     runs_pay s h b (IsSpent none state entries rest busy) is knows pays = none_paid setup h past entries
     runs_pay s h b (IsIdle some ready turn entries rest calm) is knows pays = none_paid setup h past entries
     runs_pay s h b (Asks given next request reply some ready turn passes absorbs more) is knows pays =
@@ -160,19 +171,23 @@ module _ (setup : Setup) (lets : Lets) (seat : ℕ) (role : Role) (built : IsBui
         let of_kind : given.role.kind ≡ role.kind = ap (λ (r : Role). r.kind) (turn_role s given (Call request) turn ∙ is) in
         let role_next : next.role ≡ role = still_role s given next (Call request) request (Told reply) turn absorbs ∙ is in
         then_paid setup h (told_entry seat given request reply ∷ h) past (one_paid setup (told_entry seat given request reply) h (call_pays given next request reply h of_kind before.1 so))
-        (runs_pay next (told_entry seat given request reply ∷ h) (b - 1) more role_next (told_knows setup seat s given request reply h (subst (λ (r : Role). IsBuiltKind r.kind) (sym is) built) ready turn before knows next absorbs)
+        (runs_pay next (told_entry seat given request reply ∷ h) (b - 1) more role_next
+        (told_knows setup seat s given request reply h (subst (λ (r : Role). IsBuiltKind r.kind) (sym is) built) ready turn before knows next absorbs)
         (λ fresh. told_pays given next request reply h of_kind before.1 so absorbs))
     runs_pay s h b (IsHeld given next request some ready turn held absorbs more) is knows pays =
         let so = calls_so s given request h is (run_before next h (b - 1) more) ready turn knows pays in
         let role_next : next.role ≡ role = still_role s given next (Call request) request Lost turn absorbs ∙ is in
-        runs_pay next h (b - 1) more role_next (lost_knows setup seat given next request h (turned_knows setup seat s given (Call request) h turn knows) absorbs) (λ fresh. lost_pays given next request h so absorbs)
+        runs_pay next h (b - 1) more role_next (lost_knows setup seat given next request h
+        (turned_knows setup seat s given (Call request) h turn knows) absorbs) (λ fresh. lost_pays given next request h so absorbs)
 
 -- from where nothing is under way
 pub pays_from :
-    (setup : Setup) (lets : Lets) (seat : ℕ) (old after : ActorState) (h past : List Entry) (b left : ℕ) (idle : Bool) → IsBuiltKind old.role.kind → IsRunOf setup past → Runs lets seat after past left idle (begun old) h b
+    (setup : Setup) (lets : Lets) (seat : ℕ) (old after : ActorState) (h past : List Entry) (b left : ℕ) (idle : Bool) → IsBuiltKind old.role.kind
+    → IsRunOf setup past → Runs lets seat after past left idle (begun old) h b
     → (old.memory.stale ≡ false → old.under ≡ None) → DecisionsPay setup seat old.role → HavePaid setup h past
 pays_from setup lets seat old after h past b left idle built run runs rests decides =
-    runs_pay setup lets seat old.role built decides after past left idle run (begun old) h b runs refl (begun_behind setup seat old h) (λ fresh. subst (PaysUnder setup seat old.role.kind h) (sym (rests fresh)) NothingUnder)
+    runs_pay setup lets seat old.role built decides after past left idle run (begun old) h b runs refl (begun_behind setup seat old h)
+    (λ fresh. subst (PaysUnder setup seat old.role.kind h) (sym (rests fresh)) NothingUnder)
 
 pub slots_pay : SlotsPay
 slots_pay setup lets seat old after h past b left idle built run runs rests decides = pays_from setup lets seat (woken old) after h past b left idle built run runs rests decides

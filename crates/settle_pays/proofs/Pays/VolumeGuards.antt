@@ -1,15 +1,15 @@
 -- Volume protection pays.
 use Rattle.std.proofs.Common.{◌≡◌, ◌∙◌, ℕ, List, Bool, true, false, true≢false, Option, Some, None, refl, sym, ap, subst}
 use Rattle.std.specs.Prelude.{◌&&◌}
-use Rattle.kube_types.specs.declared.key.Key.{Key}
-use Rattle.kube_types.specs.declared.names.Due.{Due}
-use Rattle.kube_types.specs.declared.names.Due.TheVariants as dues
-use Rattle.kube_types.specs.declared.objects.Volume.{Volume as VolumeData}
-use Rattle.kube_types.specs.declared.objects.Object.{Object}
-use Rattle.kube_types.specs.declared.objects.Object.TheVariants.{Class, Node, Volume, Claim, Pod}
-use Rattle.kube_types.specs.Bindings.{is_bound, is_deleting, is_protected_volume}
-use Rattle.kube_types.specs.Keys.{key_of, row_at}
-use Rattle.kube_types.proofs.KeyOrder.{row_at_key}
+use Rattle.kube_objects.specs.declared.key.Key.{Key}
+use Rattle.kube_parts.specs.declared.names.Due.{Due}
+use Rattle.kube_parts.specs.declared.names.Due.TheVariants as dues
+use Rattle.kube_objects.specs.declared.objects.Volume.{Volume as VolumeData}
+use Rattle.kube_objects.specs.declared.objects.Object.{Object}
+use Rattle.kube_objects.specs.declared.objects.Object.TheVariants.{Class, Node, Volume, Claim, Pod}
+use Rattle.kube_objects.specs.Bindings.{is_bound, is_deleting, is_protected_volume}
+use Rattle.kube_objects.specs.Keys.{key_of, row_at}
+use Rattle.kube_objects.proofs.KeyOrder.{row_at_key}
 use Rattle.call_types.specs.declared.entry.Entry.{Entry}
 use Rattle.call_types.specs.declared.reply.Reply.{Reply}
 use Rattle.call_types.specs.declared.reply.Reply.TheVariants as replies
@@ -64,7 +64,8 @@ guarding false false needed = Adds refl refl refl
 
 -- ---- the machine has one call
 
-ends : (key : Key) (v : VolumeData) (step : VolumeGuardStep) (call : Request) (reply : Reply) → under_after (record { key = key; task = tasks.VolumeProtect (record { volume = v; step = step }); call = call }) reply ≡ None
+ends : (key : Key) (v : VolumeData) (step : VolumeGuardStep) (call : Request) (reply : Reply)
+    → under_after (record { key = key; task = tasks.VolumeProtect (record { volume = v; step = step }); call = call }) reply ≡ None
 unfolding volume_guard_call volume_moved
 ends key v steps.Adds call (replies.Refused refusal) = refl
 ends key v steps.Adds call _ = refl
@@ -79,7 +80,8 @@ abbrev pub is_drop : First → Bool
 is_drop firsts.Drops = true
 is_drop first = false
 
-module _ (setup : Setup) (seat : ℕ) (role : Role) (kind : role.kind ≡ seats.VolumeProtect) (s : ActorState) (h : List Entry) (u : Under) (run : IsRunOf setup h) (p : IsDecisionPoint setup seat role h s h) (gives : GivesCall s.role s.memory (all_objects s.caches) u) where
+module _ (setup : Setup) (seat : ℕ) (role : Role) (kind : role.kind ≡ seats.VolumeProtect) (s : ActorState) (h : List Entry) (u : Under)
+    (run : IsRunOf setup h) (p : IsDecisionPoint setup seat role h s h) (gives : GivesCall s.role s.memory (all_objects s.caches) u) where
   s_kind : s.role.kind ≡ seats.VolumeProtect
   s_kind = ap (λ (r : Role). r.kind) p.role_is ∙ kind
 
@@ -109,7 +111,8 @@ module _ (setup : Setup) (seat : ℕ) (role : Role) (kind : role.kind ≡ seats.
     begun : (action : Option Due) → volume_guard_due v ≡ action → firsts.Begins u.task ≡ volume_guard_first (volume_guard_for v action)
     begun action e = decided ∙ (ap (λ x. volume_guard_first (volume_guard_begins x)) row ∙ ap (λ x. volume_guard_first (volume_guard_for v x)) e)
 
-    will : (step : VolumeGuardStep) (call : Request) → firsts.Begins u.task ≡ firsts.Begins (tasks.VolumeProtect (record { volume = v; step = step })) → task_call (tasks.VolumeProtect (record { volume = v; step = step })) ≡ Some call
+    will : (step : VolumeGuardStep) (call : Request)
+        → firsts.Begins u.task ≡ firsts.Begins (tasks.VolumeProtect (record { volume = v; step = step })) → task_call (tasks.VolumeProtect (record { volume = v; step = step })) ≡ Some call
         → WillPay setup seat seats.VolumeProtect h (record { key = u.key; task = tasks.VolumeProtect (record { volume = v; step = step }); call = call }) → WillPay setup seat seats.VolumeProtect h u
     will step call begins asks pays =
         let task : u.task ≡ tasks.VolumeProtect (record { volume = v; step = step }) = ap (task_in u.task) begins in
@@ -131,10 +134,13 @@ module _ (setup : Setup) (seat : ℕ) (role : Role) (kind : role.kind ≡ seats.
     unfolding volume_guard_call
     of_guarding (Adds staying lacking e) =
         will steps.Adds (volume_write_over v (guarded_volume v)) (begun _ e) refl
-        (EachPays (lowering_pays setup (world setup h) seats.VolumeProtect (volume_write_over v (guarded_volume v)) refl (volume_guard_pays setup (world setup h) seats.VolumeProtect v (stands (stays_new staying)) e)) (λ next is. none_some (sym (ends u.key v steps.Adds (volume_write_over v (guarded_volume v)) _) ∙ is)))
+        (EachPays (lowering_pays setup (world setup h) seats.VolumeProtect (volume_write_over v (guarded_volume v)) refl
+        (volume_guard_pays setup (world setup h) seats.VolumeProtect v (stands (stays_new staying)) e))
+        (λ next is. none_some (sym (ends u.key v steps.Adds (volume_write_over v (guarded_volume v)) _) ∙ is)))
     of_guarding (Drops deleting guarded_ free e) =
         will steps.Drops (volume_write_over v (unguarded_volume v)) (begun _ e) refl
-        (EachPays (lowering_pays setup (world setup h) seats.VolumeProtect (volume_write_over v (unguarded_volume v)) refl (volume_unguard_pays setup (world setup h) seats.VolumeProtect v (stands (stays_guarded guarded_)) e))
+        (EachPays (lowering_pays setup (world setup h) seats.VolumeProtect (volume_write_over v (unguarded_volume v)) refl
+        (volume_unguard_pays setup (world setup h) seats.VolumeProtect v (stands (stays_guarded guarded_)) e))
         (λ next is. none_some (sym (ends u.key v steps.Drops (volume_write_over v (unguarded_volume v)) _) ∙ is)))
     of_guarding (Rests e) = not_dropped (begun _ e)
 

@@ -4,12 +4,12 @@ use Rattle.std.specs.Prelude.{◌&&◌, ◌||◌, cond, filter, map, not}
 use Rattle.std.specs.List.{cons_option, filter_map, list_any}
 use Rattle.std.specs.Ordering.{is_gt}
 use Rattle.std.proofs.lemmas.Bool.{and_parts, or_parts}
-use Rattle.kube_types.specs.declared.objects.Claim.{Claim as ClaimData}
-use Rattle.kube_types.specs.declared.objects.Pod.{Pod as PodData}
-use Rattle.kube_types.specs.declared.objects.Object.{Object}
-use Rattle.kube_types.specs.declared.objects.Object.TheVariants.{Claim}
-use Rattle.kube_types.specs.Bindings.{class_of_claim, is_completed, is_deleting, is_empty}
-use Rattle.kube_types.specs.Keys.{key_of, row_at}
+use Rattle.kube_objects.specs.declared.objects.Claim.{Claim as ClaimData}
+use Rattle.kube_objects.specs.declared.objects.Pod.{Pod as PodData}
+use Rattle.kube_objects.specs.declared.objects.Object.{Object}
+use Rattle.kube_objects.specs.declared.objects.Object.TheVariants.{Claim}
+use Rattle.kube_objects.specs.Bindings.{class_of_claim, is_completed, is_deleting, is_empty}
+use Rattle.kube_objects.specs.Keys.{key_of, row_at}
 use Rattle.binder_model.specs.Choice.{IsProvisioned, Share, TakesVolume, by_size, claim_cmp, claim_named, claims_of, has_carrier, insert_claim, is_missing, is_other, is_served_elsewhere, lacks_claim}
 use Rattle.binder_model.specs.Matching.{is_delayed}
 use Rattle.binder_model.specs.ObjectKeys.{class_key}
@@ -45,13 +45,16 @@ record IsHere (rows : List Object) (c : ClaimData) : Type 0 where
   staying : is_deleting c.meta ≡ false
   here : is_served_elsewhere rows c ≡ false
 
-each_here : (rows : List Object) (namespace : List ℕ) (names : List (List ℕ)) → list_any (λ name. is_missing (claim_named rows namespace name)) names ≡ false → list_any (is_served_elsewhere rows) (filter_map (claim_named rows namespace) names) ≡ false
+each_here : (rows : List Object) (namespace : List ℕ) (names : List (List ℕ))
+    → list_any (λ name. is_missing (claim_named rows namespace name)) names ≡ false → list_any (is_served_elsewhere rows) (filter_map (claim_named rows namespace) names) ≡ false
     → Each (IsHere rows) (filter_map (claim_named rows namespace) names)
 each_here rows namespace [] whole here = tt
 each_here rows namespace (name ∷ names) whole here = by (claim_named rows namespace name) whole here (each_here rows namespace names)
   where
-    by : (o : Option ClaimData) → (is_missing o || list_any (λ x. is_missing (claim_named rows namespace x)) names) ≡ false → list_any (is_served_elsewhere rows) (cons_option o (filter_map (claim_named rows namespace) names)) ≡ false
-        → (list_any (λ x. is_missing (claim_named rows namespace x)) names ≡ false → list_any (is_served_elsewhere rows) (filter_map (claim_named rows namespace) names) ≡ false → Each (IsHere rows) (filter_map (claim_named rows namespace) names))
+    by : (o : Option ClaimData) → (is_missing o || list_any (λ x. is_missing (claim_named rows namespace x)) names) ≡ false
+        → list_any (is_served_elsewhere rows) (cons_option o (filter_map (claim_named rows namespace) names)) ≡ false
+        → (list_any (λ x. is_missing (claim_named rows namespace x)) names ≡ false
+        → list_any (is_served_elsewhere rows) (filter_map (claim_named rows namespace) names) ≡ false → Each (IsHere rows) (filter_map (claim_named rows namespace) names))
         → Each (IsHere rows) (cons_option o (filter_map (claim_named rows namespace) names))
     by None w h rest = absurd (true≢false w)
     by (Some c) w h rest =
@@ -62,13 +65,15 @@ each_here rows namespace (name ∷ names) whole here = by (claim_named rows name
 seeks_of : (rows : List Object) (c : ClaimData) → is_other rows c ≡ true → IsHere rows c → is_seeking c ≡ true
 seeks_of rows c other here = by (is_completed c) (is_deleting c.meta) (is_empty c.volume_name) (and_parts (not (is_completed c)) (not (has_carrier rows c)) other).0 here.staying here.here
   where
-    by : (done deleting empty : Bool) → not done ≡ true → deleting ≡ false → (not done && (not empty || not (is_delayed (row_at (class_key (class_of_claim c)) rows)))) ≡ false → (not done && not deleting && empty) ≡ true
+    by : (done deleting empty : Bool) → not done ≡ true → deleting ≡ false
+        → (not done && (not empty || not (is_delayed (row_at (class_key (class_of_claim c)) rows)))) ≡ false → (not done && not deleting && empty) ≡ true
     by true deleting empty o s h = absurd (true≢false (sym o))
     by false true empty o s h = absurd (true≢false s)
     by false false true o s h = refl
     by false false false o s h = absurd (true≢false h)
 
-pub others_seek : (rows : List Object) (p : PodData) → lacks_claim rows p ≡ false → list_any (is_served_elsewhere rows) (claims_of rows p) ≡ false → Each (λ c. is_seeking c ≡ true) (others_in rows (claims_of rows p))
+pub others_seek : (rows : List Object) (p : PodData) → lacks_claim rows p ≡ false → list_any (is_served_elsewhere rows) (claims_of rows p) ≡ false
+    → Each (λ c. is_seeking c ≡ true) (others_in rows (claims_of rows p))
 others_seek rows p whole here =
     each_by_size (λ c. is_seeking c ≡ true) (filter (is_other rows) (claims_of rows p))
     (each_chosen (IsHere rows) (λ c. is_seeking c ≡ true) rows (seeks_of rows) (claims_of rows p) (each_here rows p.meta.namespace p.claims whole here))

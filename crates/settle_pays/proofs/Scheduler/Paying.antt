@@ -3,18 +3,18 @@ use Rattle.std.proofs.Common.{◌≡◌, ◌≢◌, ◌∙◌, ℕ, ◌+◌, Lis
 use Rattle.std.specs.Prelude.{◌==◌, ◌&&◌, is_some, map, nat_lt, not, slice_get}
 use Rattle.std.proofs.lemmas.Bool.{or_parts}
 use Rattle.std.proofs.lemmas.Bool.Decides.{Decides-eqb}
-use Rattle.kube_types.specs.declared.key.Key.{Key}
-use Rattle.kube_types.specs.declared.parts.Kind.TheVariants as kinds
-use Rattle.kube_types.specs.declared.objects.Claim.{Claim as ClaimData}
-use Rattle.kube_types.specs.declared.objects.Node.{Node as NodeData}
-use Rattle.kube_types.specs.declared.objects.Pod.{Pod as PodData}
-use Rattle.kube_types.specs.declared.objects.Volume.{Volume as VolumeData}
-use Rattle.kube_types.specs.declared.objects.Object.{Object}
-use Rattle.kube_types.specs.declared.objects.Object.TheVariants.{Claim, Node, Pod, Volume}
-use Rattle.kube_types.specs.Bindings.{has_name, is_deleting, is_empty, is_scheduled, pv_protection}
-use Rattle.kube_types.specs.Keys.{AreRows, key_of, kind_index, put_row, row_at, rows_of}
-use Rattle.kube_types.proofs.KeyOrder.{row_at-put_row_other}
-use Rattle.kube_types.proofs.RowPlaces.{row_at_place}
+use Rattle.kube_objects.specs.declared.key.Key.{Key}
+use Rattle.kube_parts.specs.declared.parts.Kind.TheVariants as kinds
+use Rattle.kube_objects.specs.declared.objects.Claim.{Claim as ClaimData}
+use Rattle.kube_objects.specs.declared.objects.Node.{Node as NodeData}
+use Rattle.kube_objects.specs.declared.objects.Pod.{Pod as PodData}
+use Rattle.kube_objects.specs.declared.objects.Volume.{Volume as VolumeData}
+use Rattle.kube_objects.specs.declared.objects.Object.{Object}
+use Rattle.kube_objects.specs.declared.objects.Object.TheVariants.{Claim, Node, Pod, Volume}
+use Rattle.kube_objects.specs.Bindings.{has_name, is_deleting, is_empty, is_scheduled, pv_protection}
+use Rattle.kube_objects.specs.Keys.{AreRows, key_of, kind_index, put_row, row_at, rows_of}
+use Rattle.kube_objects.proofs.KeyOrder.{row_at-put_row_other}
+use Rattle.kube_objects.proofs.RowPlaces.{row_at_place}
 use Rattle.call_types.specs.declared.entry.Entry.{Entry}
 use Rattle.call_types.specs.declared.reply.Reply.{Reply}
 use Rattle.call_types.specs.declared.request.Request.{Request}
@@ -29,7 +29,7 @@ use Rattle.binder_model.specs.Matching.{eligible, fits, is_admitted_on, is_exclu
 use Rattle.binder_model.specs.ObjectKeys.{node_key, volume_key}
 use Rattle.binder_model.specs.Store.{has_no_names, leaves, updated_object, with_meta, with_status_of}
 use Rattle.binder_model.specs.World.{Effect, World, log_after, world, world_after}
-use Rattle.kube_types.specs.VolumeIndex.{as_volume}
+use Rattle.volume_index.specs.VolumeIndex.{as_volume}
 use Rattle.volume_match.specs.Volumes.{volume_at}
 use Rattle.model_laws.proofs.Histories.{rows_stand_in_order}
 use Rattle.model_laws.proofs.Lists.{none_some, one}
@@ -91,7 +91,8 @@ module _ (rows : List Object) (n : NodeData) where
 
 module _ (rows : List Object) (order : AreRows rows) (n : NodeData) where
   -- these are the writes of the choice
-  pub refs_are : (cs : List ClaimData) (shares : List Share) (taken : List ℕ) (are : AreShares rows n taken cs shares) → Each (Stands rows) cs → present (map (bind_write rows) (binds_of rows cs shares)) ≡ refs_in rows n cs shares taken are
+  pub refs_are : (cs : List ClaimData) (shares : List Share) (taken : List ℕ) (are : AreShares rows n taken cs shares) → Each (Stands rows) cs
+      → present (map (bind_write rows) (binds_of rows cs shares)) ≡ refs_in rows n cs shares taken are
   refs_are [] [] taken are stand = refl
   refs_are [] (TakesVolume p ∷ shares) taken are stand = absurd are
   refs_are [] (IsProvisioned ∷ shares) taken are stand = absurd are
@@ -103,7 +104,8 @@ module _ (rows : List Object) (order : AreRows rows) (n : NodeData) where
       let pair : pair_of c (volume_at rows p) ≡ (key_of (Claim c), key_of (Volume v)) ∷ [] = ap (λ o. pair_of c (as_volume o)) are.0.candidate.there in
       let write : bind_write rows (key_of (Claim c), key_of (Volume v)) ≡ Some (write_reference v c) =
       ap (λ x. reference_write x (as_volume (row_at (key_of (Volume v)) rows))) (ap claim_in stand.0) ∙ ap (λ x. reference_write (Some c) x) (ap as_volume there) in
-      ap (λ ps. present (map (bind_write rows) (ps ++ binds_of rows cs shares))) pair ∙ (ap (λ o. present (o ∷ map (bind_write rows) (binds_of rows cs shares))) write ∙ ap (λ ws. write_reference v c ∷ ws) (refs_are cs shares (p ∷ taken) are.1 stand.1))
+      ap (λ ps. present (map (bind_write rows) (ps ++ binds_of rows cs shares))) pair
+      ∙ (ap (λ o. present (o ∷ map (bind_write rows) (binds_of rows cs shares))) write ∙ ap (λ ws. write_reference v c ∷ ws) (refs_are cs shares (p ∷ taken) are.1 stand.1))
 
 module _ (setup : Setup) (seat : ℕ) (key : Key) (writes : List Request) where
   -- the machine before this write
@@ -122,7 +124,8 @@ module _ (setup : Setup) (seat : ℕ) (key : Key) (writes : List Request) where
   unfolding schedule_moved schedule_call
   next_of place call reply next e = by (is_refused reply) (is_written reply && nat_lt place (length writes)) e
     where
-      found : (o : Option Request) → slice_get writes (place + 1) ≡ o → with_call key (tasks.Schedule (record { writes = writes; step = steps.Writes (place + 1) })) (only_write o) ≡ Some next → IsNext place next
+      found : (o : Option Request) → slice_get writes (place + 1) ≡ o
+          → with_call key (tasks.Schedule (record { writes = writes; step = steps.Writes (place + 1) })) (only_write o) ≡ Some next → IsNext place next
       found None at e = none_some e
       found (Some r) at e = write_is (is_write r) e
         where
@@ -132,7 +135,9 @@ module _ (setup : Setup) (seat : ℕ) (key : Key) (writes : List Request) where
               record { there = at ∙ ap (λ (u : Under). Some u.call) same; is = sym same ∙ ap (λ (u : Under). at_call (place + 1) u.call) same }
           write_is false e = none_some e
 
-      by : (a b : Bool) → with_call key (tasks.Schedule (record { writes = writes; step = if a then steps.Parked else if b then steps.Writes (place + 1) else steps.Done })) (schedule_call_at writes (if a then steps.Parked else if b then steps.Writes (place + 1) else steps.Done)) ≡ Some next → IsNext place next
+      by : (a b : Bool) → with_call key (tasks.Schedule
+          (record { writes = writes; step = if a then steps.Parked else if b then steps.Writes (place + 1) else steps.Done }))
+          (schedule_call_at writes (if a then steps.Parked else if b then steps.Writes (place + 1) else steps.Done)) ≡ Some next → IsNext place next
       by true b e = none_some e
       by false true e = found (slice_get writes (place + 1)) refl e
       by false false e = none_some e
@@ -149,7 +154,8 @@ module _ (setup : Setup) (seat : ℕ) (key : Key) (writes : List Request) where
     stays_there w c s staying = ap (λ b. b && has_no_names c.meta.finalizers) staying
 
     -- claims that get the node one after the other
-    places_pay : (c : ClaimData) (cs : List ClaimData) (place : ℕ) (h : List Entry) → AreFrom writes place (map (placing name) (c ∷ cs)) → Each (Stands (world setup h).store.rows) (c ∷ cs) → Each IsOpen (c ∷ cs) → AreApart (c ∷ cs)
+    places_pay : (c : ClaimData) (cs : List ClaimData) (place : ℕ) (h : List Entry) → AreFrom writes place (map (placing name) (c ∷ cs))
+        → Each (Stands (world setup h).store.rows) (c ∷ cs) → Each IsOpen (c ∷ cs) → AreApart (c ∷ cs)
         → Pays setup seat seats.Scheduler h (at_call place (placing name c))
     places_pay c [] place h are stand open_ apart =
         EachPays (node_stays setup (world setup h) seats.Scheduler c name (stands_claim h c stand.0 open_.0))
@@ -160,7 +166,8 @@ module _ (setup : Setup) (seat : ℕ) (key : Key) (writes : List Request) where
         let later = later_from writes place (placing name c) (map (placing name) (d ∷ ds)) are in
         let call = one next.call (placing name d) (sym n.there ∙ at_from writes (place + 1) (map (placing name) (d ∷ ds)) later) in
         subst (λ u. Pays setup seat seats.Scheduler (next_entry h (placing name c)) u) (sym (n.is ∙ ap (at_call (place + 1)) call))
-        (places_pay d ds (place + 1) (next_entry h (placing name c)) later (still_stand (world setup h).store.rows (world setup (next_entry h (placing name c))).store.rows c (d ∷ ds) kept apart.0 stand.1) open_.1 apart.1))
+        (places_pay d ds (place + 1) (next_entry h (placing name c)) later
+        (still_stand (world setup h).store.rows (world setup (next_entry h (placing name c))).store.rows c (d ∷ ds) kept apart.0 stand.1) open_.1 apart.1))
       where
         on_store : IsStored (world setup h) (Claim c)
         on_store = stored setup h (key_of (Claim c)) (Claim c) pass stand.0
@@ -168,20 +175,24 @@ module _ (setup : Setup) (seat : ℕ) (key : Key) (writes : List Request) where
         kept : (k : Key) → key_of (Claim c) ≢ k → row_at k (world setup (next_entry h (placing name c))).store.rows ≡ row_at k (world setup h).store.rows
         kept = others_stay setup (world setup h) name c on_store seats.Scheduler refl (stays_there (world setup h) c on_store (seeking_parts c open_.0.seeks).staying)
 
-    module _ (rows : List Object) (order : AreRows rows) (n : NodeData) (nodes : List ClaimData) (nodes_stand : Each (Stands rows) nodes) (nodes_open : Each IsOpen nodes) (nodes_apart : AreApart nodes) where
+    module _ (rows : List Object) (order : AreRows rows) (n : NodeData) (nodes : List ClaimData) (nodes_stand : Each (Stands rows) nodes)
+        (nodes_open : Each IsOpen nodes) (nodes_apart : AreApart nodes) where
       -- the world after some of the writes: its claims are those of the choice, as are the volumes that were not taken yet
       pub record IsBehind (h : List Entry) (taken : List ℕ) (cs : List ClaimData) : Type 0 where
         pub claims : (c : ClaimData) → row_at (key_of (Claim c)) (world setup h).store.rows ≡ row_at (key_of (Claim c)) rows
-        pub volumes : (place : ℕ) (v : VolumeData) → slice_get (rows_of kinds.PersistentVolume rows) place ≡ Some (Volume v) → is_excluded taken place ≡ false → row_at (key_of (Volume v)) (world setup h).store.rows ≡ Some (Volume v)
+        pub volumes : (place : ℕ) (v : VolumeData) → slice_get (rows_of kinds.PersistentVolume rows) place ≡ Some (Volume v)
+            → is_excluded taken place ≡ false → row_at (key_of (Volume v)) (world setup h).store.rows ≡ Some (Volume v)
         pub uncarried : Each (λ c. has_carrier (world setup h).store.rows c ≡ false) cs
 
-      all_uncarried : (old new : List Object) (c : ClaimData) (cs : List ClaimData) → ((d : ClaimData) → key_of (Claim c) ≢ key_of (Claim d) → has_carrier old d ≡ false → has_carrier new d ≡ false) → Each (Differ c) cs → Each (λ d. has_carrier old d ≡ false) cs
+      all_uncarried : (old new : List Object) (c : ClaimData) (cs : List ClaimData)
+          → ((d : ClaimData) → key_of (Claim c) ≢ key_of (Claim d) → has_carrier old d ≡ false → has_carrier new d ≡ false) → Each (Differ c) cs → Each (λ d. has_carrier old d ≡ false) cs
           → Each (λ d. has_carrier new d ≡ false) cs
       all_uncarried old new c [] kept apart none = tt
       all_uncarried old new c (d ∷ ds) kept apart none = (kept d apart.0 none.0, all_uncarried old new c ds kept apart.1 none.1)
 
       -- then the nodes are written
-      ends : (place : ℕ) (h : List Entry) → ((c : ClaimData) → row_at (key_of (Claim c)) (world setup h).store.rows ≡ row_at (key_of (Claim c)) rows) → AreFrom writes place (map (placing name) nodes) → (call : Request) → slice_get writes place ≡ Some call
+      ends : (place : ℕ) (h : List Entry) → ((c : ClaimData) → row_at (key_of (Claim c)) (world setup h).store.rows ≡ row_at (key_of (Claim c)) rows)
+          → AreFrom writes place (map (placing name) nodes) → (call : Request) → slice_get writes place ≡ Some call
           → Pays setup seat seats.Scheduler h (at_call place call)
       ends place h claims are call at = by nodes nodes_stand nodes_open nodes_apart are
         where
@@ -196,8 +207,10 @@ module _ (setup : Setup) (seat : ℕ) (key : Key) (writes : List Request) where
               subst (λ r. Pays setup seat seats.Scheduler h (at_call place r)) (sym same) (places_pay c cs place h from (stand_here (c ∷ cs) stand) open_ apart)
 
       -- one volume is taken
-      module _ (c : ClaimData) (v : VolumeData) (place_of : ℕ) (taken_before : List ℕ) (at : slice_get (rows_of kinds.PersistentVolume rows) place_of ≡ Some (Volume v)) (fit : eligible v c (Some n) ≡ true) (h : List Entry)
-          (there : row_at (key_of (Volume v)) (world setup h).store.rows ≡ Some (Volume v)) (claim_there : Stands (world setup h).store.rows c) (open_ : IsOpen c) (none : has_carrier (world setup h).store.rows c ≡ false) where
+      module _ (c : ClaimData) (v : VolumeData) (place_of : ℕ) (taken_before : List ℕ)
+          (at : slice_get (rows_of kinds.PersistentVolume rows) place_of ≡ Some (Volume v)) (fit : eligible v c (Some n) ≡ true) (h : List Entry)
+          (there : row_at (key_of (Volume v)) (world setup h).store.rows ≡ Some (Volume v)) (claim_there : Stands (world setup h).store.rows c)
+          (open_ : IsOpen c) (none : has_carrier (world setup h).store.rows c ≡ false) where
         on_store : IsStored (world setup h) (Volume v)
         on_store = stored setup h (key_of (Volume v)) (Volume v) pass there
 
@@ -227,12 +240,15 @@ module _ (setup : Setup) (seat : ℕ) (key : Key) (writes : List Request) where
         behind cs apart b = record { claims = claims; volumes = volumes; uncarried = all_uncarried (world setup h).store.rows (world setup next).store.rows c cs uncarried apart b.uncarried.1 }
           where
             claims : (d : ClaimData) → row_at (key_of (Claim d)) (world setup next).store.rows ≡ row_at (key_of (Claim d)) rows
-            claims d = ap (row_at (key_of (Claim d))) rows_next ∙ (row_at-put_row_other (key_of (Claim d)) (Volume took.new) (world setup h).store.rows (λ e. let k = ap (λ (j : Key). kind_index j.kind) e in omega (arith, k)) ∙ b.claims d)
+            claims d = ap (row_at (key_of (Claim d))) rows_next
+                ∙ (row_at-put_row_other (key_of (Claim d)) (Volume took.new) (world setup h).store.rows (λ e. let k = ap (λ (j : Key). kind_index j.kind) e in omega (arith, k)) ∙ b.claims d)
 
-            volumes : (place : ℕ) (u : VolumeData) → slice_get (rows_of kinds.PersistentVolume rows) place ≡ Some (Volume u) → is_excluded (place_of ∷ taken_before) place ≡ false → row_at (key_of (Volume u)) (world setup next).store.rows ≡ Some (Volume u)
+            volumes : (place : ℕ) (u : VolumeData) → slice_get (rows_of kinds.PersistentVolume rows) place ≡ Some (Volume u)
+                → is_excluded (place_of ∷ taken_before) place ≡ false → row_at (key_of (Volume u)) (world setup next).store.rows ≡ Some (Volume u)
             volumes place u there_ out =
                 let parts = or_parts (place_of == place) (is_excluded taken_before place) out in
-                let differs : key_of (Volume took.new) ≢ key_of (Volume u) = λ e. true≢false (sym ((Decides-eqb place_of place).1 (one_place rows order place_of place (Volume v) (Volume u) at there_ (sym took.key ∙ e))) ∙ parts.0) in
+                let differs : key_of (Volume took.new) ≢ key_of (Volume u) =
+                λ e. true≢false (sym ((Decides-eqb place_of place).1 (one_place rows order place_of place (Volume v) (Volume u) at there_ (sym took.key ∙ e))) ∙ parts.0) in
                 ap (row_at (key_of (Volume u))) rows_next ∙ (row_at-put_row_other (key_of (Volume u)) (Volume took.new) (world setup h).store.rows differs ∙ b.volumes place u there_ parts.1)
 
             uncarried : (d : ClaimData) → key_of (Claim c) ≢ key_of (Claim d) → has_carrier (world setup h).store.rows d ≡ false → has_carrier (world setup next).store.rows d ≡ false
@@ -240,8 +256,10 @@ module _ (setup : Setup) (seat : ℕ) (key : Key) (writes : List Request) where
                 let in_order : AreRows (put_row (Volume took.new) (world setup h).store.rows) = subst AreRows rows_next (rows_stand_in_order setup next) in
                 ap (λ rs. has_carrier rs d) rows_next ∙ still_uncarried (world setup h).store.rows took.new c d in_order took.refers differs free
 
-      takes_pay : (cs : List ClaimData) (shares : List Share) (taken : List ℕ) (are : AreShares rows n taken cs shares) (place : ℕ) (h : List Entry) → IsBehind h taken cs → Each (Stands rows) cs → Each IsOpen cs → AreApart cs
-          → AreFrom writes place (refs_in rows n cs shares taken are ++ map (placing name) nodes) → (call : Request) → slice_get writes place ≡ Some call → Pays setup seat seats.Scheduler h (at_call place call)
+      takes_pay : (cs : List ClaimData) (shares : List Share) (taken : List ℕ) (are : AreShares rows n taken cs shares) (place : ℕ) (h : List Entry)
+          → IsBehind h taken cs → Each (Stands rows) cs → Each IsOpen cs → AreApart cs
+          → AreFrom writes place (refs_in rows n cs shares taken are ++ map (placing name) nodes) → (call : Request)
+          → slice_get writes place ≡ Some call → Pays setup seat seats.Scheduler h (at_call place call)
       takes_pay [] [] taken are place h b stand open_ apart from call at = ends place h b.claims from call at
       takes_pay [] (TakesVolume p ∷ shares) taken are place h b stand open_ apart from call at = absurd are
       takes_pay [] (IsProvisioned ∷ shares) taken are place h b stand open_ apart from call at = absurd are
@@ -261,7 +279,8 @@ module _ (setup : Setup) (seat : ℕ) (key : Key) (writes : List Request) where
           (EachPays (lowers c v p taken spot fit h there claim_there open_.0 b.uncarried.0)
           (λ next e. let m = next_of place (write_reference v c) _ next e in
           subst (λ u. Pays setup seat seats.Scheduler (next_entry h (write_reference v c)) u) (sym m.is)
-          (takes_pay cs shares (p ∷ taken) are.1 (place + 1) (next_entry h (write_reference v c)) after_it stand.1 open_.1 apart.1 (later_from writes place (write_reference v c) rest from) next.call m.there)))
+          (takes_pay cs shares (p ∷ taken) are.1 (place + 1) (next_entry h (write_reference v c)) after_it stand.1 open_.1 apart.1
+          (later_from writes place (write_reference v c) rest from) next.call m.there)))
 
 pub all_open : (rows : List Object) (cs : List ClaimData) → Each (λ c. is_seeking c ≡ true) cs → Each (IsSought rows) cs → Each IsOpen cs
 all_open rows [] seeks sought = tt
@@ -286,7 +305,8 @@ from_begun setup seat key P op call (w ∷ writes) begins asks holds =
     let first = write_of_is (Some w) call (ap (λ (x : ScheduleOp). schedule_call_at x.writes x.step) (sym same) ∙ asks) in
     subst (λ (x : ScheduleOp). P (record { key = key; task = tasks.Schedule x; call = call })) (sym same) (holds first.is)
 
-module _ (setup : Setup) (past : List Entry) (seat : ℕ) (p : PodData) (pass : ImportsPass setup.imports) (there : row_at (key_of (Pod p)) (world setup past).store.rows ≡ Some (Pod p)) (unscheduled : is_scheduled p ≡ false) (last : Option (List ℕ)) (op : ScheduleOp) (call : Request)
+module _ (setup : Setup) (past : List Entry) (seat : ℕ) (p : PodData) (pass : ImportsPass setup.imports)
+    (there : row_at (key_of (Pod p)) (world setup past).store.rows ≡ Some (Pod p)) (unscheduled : is_scheduled p ≡ false) (last : Option (List ℕ)) (op : ScheduleOp) (call : Request)
     (asks : schedule_call op ≡ Some call) where
   abbrev rows : List Object
   rows = (world setup past).store.rows
@@ -311,7 +331,8 @@ module _ (setup : Setup) (past : List Entry) (seat : ℕ) (p : PodData) (pass : 
       (λ at. subst (λ r. Pays setup seat seats.Scheduler past (at_call setup seat (key_of (Pod p)) (bind ∷ []) 0 r)) (one bind call at)
       (EachPays lowers (λ next e. let m = next_of setup seat (key_of (Pod p)) (bind ∷ []) 0 bind _ next e in none_some m.there)))
 
-  prepares : (name : List ℕ) (binds : List (Key × Key)) (provisions : List Key) → IsChoice rows p last (Prepare name binds provisions) → Some op ≡ begun_with (writes_for rows p (Prepare name binds provisions)) → Pays setup seat seats.Scheduler past (at_pod op)
+  prepares : (name : List ℕ) (binds : List (Key × Key)) (provisions : List Key) → IsChoice rows p last (Prepare name binds provisions)
+      → Some op ≡ begun_with (writes_for rows p (Prepare name binds provisions)) → Pays setup seat seats.Scheduler past (at_pod op)
   prepares name binds provisions f begins =
       let search = search_of rows p last name binds provisions f in
       let n = search.prepared.node in
@@ -332,8 +353,14 @@ module _ (setup : Setup) (past : List Entry) (seat : ℕ) (p : PodData) (pass : 
       let writes_are : writes_for rows p (Prepare name binds provisions) ≡ writes =
       written rows order p known last name binds provisions ∙ (present_both (map (bind_write rows) binds) (map (node_write rows name) provisions) ∙ (λ i. taken_are i ++ placed_are i)) in
       from_begun setup seat (key_of (Pod p)) (Pays setup seat seats.Scheduler past) op call writes (begins ∙ ap begun_with writes_are) asks
-      (λ at. takes_pay setup seat (key_of (Pod p)) writes pass name rows order n nodes (each_placed (Stands rows) others shares stand) (each_placed IsOpen others shares open_) (placed_apart others shares apart) others shares (set_aside rows) are 0 past
-      (record { claims = λ c. refl; volumes = λ place v spot out. row_at_place kinds.PersistentVolume place (Volume v) rows order spot; uncarried = all_free rows others sought }) stand open_ apart (all_from writes) call at)
+      (λ at. takes_pay setup seat (key_of (Pod p)) writes pass name rows order n nodes (each_placed (Stands rows) others shares stand)
+      (each_placed IsOpen others shares open_) (placed_apart others shares apart) others shares (set_aside rows) are 0 past
+      (record {
+        claims = λ c. refl;
+        volumes = λ place v spot out. row_at_place kinds.PersistentVolume place (Volume v) rows order spot;
+        uncarried =
+            all_free rows others sought;
+      }) stand open_ apart (all_from writes) call at)
 
   begins_by : (choice : Choice) → IsChoice rows p last choice → Some op ≡ begun_with (writes_for rows p choice) → Pays setup seat seats.Scheduler past (at_pod op)
   begins_by (Assign name) f begins = assigns name f begins
@@ -344,6 +371,7 @@ module _ (setup : Setup) (past : List Entry) (seat : ℕ) (p : PodData) (pass : 
 pub schedulers_pay : SchedulersPay
 schedulers_pay setup past seat p refused op call pass there begins asks = by (is_scheduled p) refl begins
   where
-    by : (b : Bool) → is_scheduled p ≡ b → BeginsIf b (world setup past).store.rows refused p (Some op) → Pays setup seat seats.Scheduler past (record { key = key_of (Pod p); task = tasks.Schedule op; call = call })
+    by : (b : Bool) → is_scheduled p ≡ b → BeginsIf b (world setup past).store.rows refused p (Some op)
+        → Pays setup seat seats.Scheduler past (record { key = key_of (Pod p); task = tasks.Schedule op; call = call })
     by true e b = none_some (sym b)
     by false e b = begins_by setup past seat p pass there e (last_refused (world setup past).store.rows p refused) op call asks b.choice b.chosen b.begins

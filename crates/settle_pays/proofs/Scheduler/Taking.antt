@@ -4,15 +4,15 @@ use Rattle.std.specs.Prelude.{◌==◌, ◌&&◌, bytes_eq, is_none, not}
 use Rattle.std.proofs.lemmas.Bool.{and_parts, and_right}
 use Rattle.std.proofs.lemmas.Bool.Decides.{nat_tests}
 use Rattle.std.proofs.lemmas.Slice.Eq.{bytes_eq-Decides}
-use Rattle.kube_types.specs.declared.parts.Kind.TheVariants as kinds
-use Rattle.kube_types.specs.declared.objects.Claim.{Claim as ClaimData}
-use Rattle.kube_types.specs.declared.objects.Volume.{Volume as VolumeData}
-use Rattle.kube_types.specs.declared.objects.Object.{Object}
-use Rattle.kube_types.specs.declared.objects.Object.TheVariants.{Claim, Volume}
-use Rattle.kube_types.specs.Bindings.{bound_by_controller, carries, is_deleting, names_claim, refers_carrying, uid_carries}
-use Rattle.kube_types.specs.Keys.{AreRows, key_of, meta_of, put_row, row_at}
-use Rattle.kube_types.proofs.KeyOrder.{row_at-put_row, row_at-put_row_other}
-use Rattle.kube_types.proofs.SameKeys.{key_tells}
+use Rattle.kube_parts.specs.declared.parts.Kind.TheVariants as kinds
+use Rattle.kube_objects.specs.declared.objects.Claim.{Claim as ClaimData}
+use Rattle.kube_objects.specs.declared.objects.Volume.{Volume as VolumeData}
+use Rattle.kube_objects.specs.declared.objects.Object.{Object}
+use Rattle.kube_objects.specs.declared.objects.Object.TheVariants.{Claim, Volume}
+use Rattle.kube_objects.specs.Bindings.{bound_by_controller, carries, is_deleting, names_claim, refers_carrying, uid_carries}
+use Rattle.kube_objects.specs.Keys.{AreRows, key_of, meta_of, put_row, row_at}
+use Rattle.kube_objects.proofs.KeyOrder.{row_at-put_row, row_at-put_row_other}
+use Rattle.kube_objects.proofs.SameKeys.{key_tells}
 use Rattle.call_types.specs.declared.reply.Change.TheVariants.{Modified}
 use Rattle.call_types.specs.declared.request.Request.TheVariants.{Update}
 use Rattle.call_types.specs.declared.request.SeatKind.TheVariants as seats
@@ -35,7 +35,8 @@ same_version : (n : ℕ) → is_other_version (Some n) n ≡ false
 same_version n = let e : (n == n) ≡ true = grind (arith, nat_tests) in ap not e
 
 -- an update whose fields fit is made
-update_comes : (setup : Setup) (w : World) (old new : Object) → row_at (key_of new) w.store.rows ≡ Some old → update_fault old new ≡ None → effect setup w seats.Scheduler (Update new (Some (meta_of old).version)) ≡ OnStore (write_outcome (updated_object old new (w.store.version + 1)))
+update_comes : (setup : Setup) (w : World) (old new : Object) → row_at (key_of new) w.store.rows ≡ Some old → update_fault old new ≡ None
+    → effect setup w seats.Scheduler (Update new (Some (meta_of old).version)) ≡ OnStore (write_outcome (updated_object old new (w.store.version + 1)))
 unfolding effect on_devices device_answer outcome update refuse refuse_rule refuse_field guard_on
 update_comes setup w old new there fits = rw (there, same_version (meta_of old).version, fits) refl
 
@@ -51,7 +52,8 @@ module _ (setup : Setup) (w : World) (v : VolumeData) (c : ClaimData) (s : IsSto
   new_for b = record v { claim_ref = Some (ref_to c); meta = annotated_meta_if b bound_by_controller v.meta }
 
   fits : (b : Bool) → update_fault (Volume v) (Volume (new_for b)) ≡ None
-  fits true = volume_fits v (annotated_meta_if true bound_by_controller v.meta) (Some (ref_to c)) s.valid refl refl (refers_well c valid) (volume_facts v s.valid).once (and_right (is_deleting v.meta) _ (adds_none v.meta.finalizers))
+  fits true = volume_fits v (annotated_meta_if true bound_by_controller v.meta) (Some (ref_to c)) s.valid refl refl (refers_well c valid)
+      (volume_facts v s.valid).once (and_right (is_deleting v.meta) _ (adds_none v.meta.finalizers))
   fits false = volume_fits v v.meta (Some (ref_to c)) s.valid refl refl (refers_well c valid) (volume_facts v s.valid).once (and_right (is_deleting v.meta) _ (adds_none v.meta.finalizers))
 
   stays : (b : Bool) → leaves (updated_object (Volume v) (Volume (new_for b)) (w.store.version + 1)) ≡ false
@@ -59,17 +61,32 @@ module _ (setup : Setup) (w : World) (v : VolumeData) (c : ClaimData) (s : IsSto
   stays true = ap (λ x. x && has_no_names v.meta.finalizers) staying
   stays false = ap (λ x. x && has_no_names v.meta.finalizers) staying
 
-  comes : (b : Bool) → effect setup w seats.Scheduler (Update (Volume (new_for b)) (Some v.meta.version)) ≡ OnStore (Stores Modified (updated_object (Volume v) (Volume (new_for b)) (w.store.version + 1)))
-  comes true = update_comes setup w (Volume v) (Volume (new_for true)) s.there (fits true) ∙ ap (λ x. OnStore (write_of (updated_object (Volume v) (Volume (new_for true)) (w.store.version + 1)) x)) (stays true)
-  comes false = update_comes setup w (Volume v) (Volume (new_for false)) s.there (fits false) ∙ ap (λ x. OnStore (write_of (updated_object (Volume v) (Volume (new_for false)) (w.store.version + 1)) x)) (stays false)
+  comes : (b : Bool) → effect setup w seats.Scheduler (Update (Volume (new_for b)) (Some v.meta.version)) ≡ OnStore
+      (Stores Modified (updated_object (Volume v) (Volume (new_for b)) (w.store.version + 1)))
+  comes true = update_comes setup w (Volume v) (Volume (new_for true)) s.there (fits true)
+      ∙ ap (λ x. OnStore (write_of (updated_object (Volume v) (Volume (new_for true)) (w.store.version + 1)) x)) (stays true)
+  comes false = update_comes setup w (Volume v) (Volume (new_for false)) s.there (fits false)
+      ∙ ap (λ x. OnStore (write_of (updated_object (Volume v) (Volume (new_for false)) (w.store.version + 1)) x)) (stays false)
 
   pub is_taken : IsTaken setup w v c
   unfolding taken_for updated_object with_meta with_status_of
   is_taken = by (is_none v.claim_ref) refl
     where
       by : (b : Bool) → is_none v.claim_ref ≡ b → IsTaken setup w v c
-      by true e = record { new = _; is = subst (λ b. effect setup w seats.Scheduler (Update (Volume (new_for b)) (Some v.meta.version)) ≡ OnStore (Stores Modified (updated_object (Volume v) (Volume (new_for true)) (w.store.version + 1)))) (sym e) (comes true); refers = refl; key = refl }
-      by false e = record { new = _; is = subst (λ b. effect setup w seats.Scheduler (Update (Volume (new_for b)) (Some v.meta.version)) ≡ OnStore (Stores Modified (updated_object (Volume v) (Volume (new_for false)) (w.store.version + 1)))) (sym e) (comes false); refers = refl; key = refl }
+      by true e = record {
+        new = _;
+        is = subst (λ b. effect setup w seats.Scheduler (Update (Volume (new_for b)) (Some v.meta.version)) ≡ OnStore
+            (Stores Modified (updated_object (Volume v) (Volume (new_for true)) (w.store.version + 1)))) (sym e) (comes true);
+        refers = refl;
+        key = refl;
+      }
+      by false e = record {
+        new = _;
+        is = subst (λ b. effect setup w seats.Scheduler (Update (Volume (new_for b)) (Some v.meta.version)) ≡ OnStore
+            (Stores Modified (updated_object (Volume v) (Volume (new_for false)) (w.store.version + 1)))) (sym e) (comes false);
+        refers = refl;
+        key = refl;
+      }
 
 -- a volume that refers to one claim carries no other
 carries_no_other : (v : VolumeData) (c d : ClaimData) → v.claim_ref ≡ Some (ref_to c) → key_of (Claim c) ≢ key_of (Claim d) → carries v d ≡ false
@@ -84,7 +101,8 @@ carries_no_other v c d refers differs = by (names_claim (ref_to c) d) refl
     by false e = ap (λ r. refers_carrying r d) refers ∙ ap (λ b. b && uid_carries c.meta.uid d) e
 
 -- so a claim that no volume carries is carried by none once a volume is taken for another
-pub still_uncarried : (rows : List Object) (v : VolumeData) (c d : ClaimData) → AreRows (put_row (Volume v) rows) → v.claim_ref ≡ Some (ref_to c) → key_of (Claim c) ≢ key_of (Claim d) → has_carrier rows d ≡ false → has_carrier (put_row (Volume v) rows) d ≡ false
+pub still_uncarried : (rows : List Object) (v : VolumeData) (c d : ClaimData) → AreRows (put_row (Volume v) rows) → v.claim_ref ≡ Some (ref_to c)
+    → key_of (Claim c) ≢ key_of (Claim d) → has_carrier rows d ≡ false → has_carrier (put_row (Volume v) rows) d ≡ false
 still_uncarried rows v c d order refers differs none = by (has_carrier (put_row (Volume v) rows) d) refl
   where
     by : (b : Bool) → has_carrier (put_row (Volume v) rows) d ≡ b → has_carrier (put_row (Volume v) rows) d ≡ false

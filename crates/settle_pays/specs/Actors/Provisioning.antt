@@ -17,5 +17,6 @@ use Rattle.settle_pays.specs.Pays.Pays.{WillPay}
 -- what the provisioner and reclaimer begins for a claim, where it sees the store as it is, will pay. For a volume this is not said
 abbrev pub ProvisioningPays : Type 0
 ProvisioningPays =
-    (setup : Setup) (seat : ℕ) (role : Role) → role.kind ≡ seats.Ops → (s : ActorState) (h : List Entry) (u : Under) (op : ProvisionOp) → IsDecisionPoint setup seat role h s h → GivesCall s.role s.memory (all_objects s.caches) u → u.task ≡ tasks.Provision op
+    (setup : Setup) (seat : ℕ) (role : Role) → role.kind ≡ seats.Ops → (s : ActorState) (h : List Entry) (u : Under) (op : ProvisionOp)
+    → IsDecisionPoint setup seat role h s h → GivesCall s.role s.memory (all_objects s.caches) u → u.task ≡ tasks.Provision op
     → WillPay setup seat role.kind h u

@@ -1,9 +1,9 @@
 -- The reclaimer pays, and with what it begins for claims the whole role of provisioner and reclaimer.
 -- A choice of this project.
 use Rattle.std.specs.Prelude.{ℕ, ◌≡◌, ◌<◌, ◌^◌, List, Some}
-use Rattle.kube_types.specs.declared.uid.Uid.{Uid}
-use Rattle.kube_types.specs.declared.objects.Object.{Object}
-use Rattle.kube_types.specs.Keys.{meta_of}
+use Rattle.kube_parts.specs.declared.uid.Uid.{Uid}
+use Rattle.kube_objects.specs.declared.objects.Object.{Object}
+use Rattle.kube_objects.specs.Keys.{meta_of}
 use Rattle.call_types.specs.declared.entry.Entry.{Entry}
 use Rattle.call_types.specs.declared.request.SeatKind.TheVariants as seats
 use Rattle.call_types.specs.declared.setup.Setup.{Setup}
@@ -27,7 +27,8 @@ UidsFit setup = (o : Object) (uid : Uid) → SomeOf (λ x. x ≡ o) setup.import
 -- what the provisioner and reclaimer begins for a volume in a run, where it sees the store as it is, will pay
 abbrev pub ReclaimingPays : Type 0
 ReclaimingPays =
-    (setup : Setup) (seat : ℕ) (role : Role) → role.kind ≡ seats.Ops → UidsFit setup → (s : ActorState) (h : List Entry) (u : Under) (op : EraseOp) → IsRunOf setup h → IsDecisionPoint setup seat role h s h → GivesCall s.role s.memory (all_objects s.caches) u
+    (setup : Setup) (seat : ℕ) (role : Role) → role.kind ≡ seats.Ops → UidsFit setup → (s : ActorState) (h : List Entry) (u : Under) (op : EraseOp)
+    → IsRunOf setup h → IsDecisionPoint setup seat role h s h → GivesCall s.role s.memory (all_objects s.caches) u
     → u.task ≡ tasks.Erase op → WillPay setup seat role.kind h u
 
 -- so whatever it begins will

@@ -30,17 +30,20 @@ ActorsPay = (setup : Setup) (seat : ℕ) (role : Role) → IsBuiltKind role.kind
 -- a round of the actors of a drain, with nothing under way, pays off, be it whole or not
 abbrev pub RoundsOfActorsPay : Type 0
 RoundsOfActorsPay =
-    (setup : Setup) (lets : Lets) (ds after : List Drainer) (h past : List Entry) (b left : ℕ) (whole : Bool) → ImportsAllow setup → AreRoles (roles_of ds) → AreAtRest ds → IsRunOf setup past → IsRound lets past left ds h b after whole
+    (setup : Setup) (lets : Lets) (ds after : List Drainer) (h past : List Entry) (b left : ℕ) (whole : Bool) → ImportsAllow setup
+    → AreRoles (roles_of ds) → AreAtRest ds → IsRunOf setup past → IsRound lets past left ds h b after whole
     → PaysOff setup h past
 
 -- so does a drain from end to end, which leaves nothing under way between its rounds
 abbrev pub DrainsPay : Type 0
 DrainsPay =
-    (setup : Setup) (lets : Lets) (ds after : List Drainer) (h past : List Entry) (b left : ℕ) → ImportsAllow setup → MayDrain setup h ds → AreAtRest ds → IsRunOf setup past → Drains lets setup after past left ds h b
+    (setup : Setup) (lets : Lets) (ds after : List Drainer) (h past : List Entry) (b left : ℕ) → ImportsAllow setup → MayDrain setup h ds
+    → AreAtRest ds → IsRunOf setup past → Drains lets setup after past left ds h b
     → PaysOff setup h past
 
 -- so does a drain of new actors, of which no seat has an entry
 abbrev pub NewDrainsPay : Type 0
 NewDrainsPay =
-    (setup : Setup) (lets : Lets) (first : ℕ) (nodes : List (List ℕ)) (ds after : List Drainer) (h past : List Entry) (b left : ℕ) → ImportsAllow setup → IsRunOf setup h → AreNew first nodes ds → HaveNoEntries (seats_of ds) h → IsRunOf setup past
+    (setup : Setup) (lets : Lets) (first : ℕ) (nodes : List (List ℕ)) (ds after : List Drainer) (h past : List Entry) (b left : ℕ)
+    → ImportsAllow setup → IsRunOf setup h → AreNew first nodes ds → HaveNoEntries (seats_of ds) h → IsRunOf setup past
     → Drains lets setup after past left ds h b → PaysOff setup h past

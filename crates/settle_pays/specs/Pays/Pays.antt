@@ -2,7 +2,7 @@
 -- The node of a claim, which the scheduler writes and the provisioner takes back, is worth nothing: tries are counted for it.
 -- A choice of this project.
 use Rattle.std.specs.Prelude.{ℕ, ◌≡◌, ◌≤◌, ◌+◌, Bool, false, List, [], ◌∷◌, ◌++◌, Some, None, slice_get, ⊤}
-use Rattle.kube_types.specs.declared.objects.Object.TheVariants.{Claim}
+use Rattle.kube_objects.specs.declared.objects.Object.TheVariants.{Claim}
 use Rattle.call_types.specs.declared.entry.Entry.{Entry}
 use Rattle.call_types.specs.declared.request.Request.{Request}
 use Rattle.call_types.specs.declared.request.Request.TheVariants.{Update}
@@ -42,11 +42,13 @@ Pays setup w kind request = Lasts setup w kind request → work_left setup (worl
 -- what is under way pays with each call that it makes, as long as nobody else calls
 pub data WillPay (setup : Setup) (seat : ℕ) (kind : SeatKind) : List Entry → Under → Type 0 where
   EachPays : {h : List Entry} {u : Under} → Pays setup (world setup h) kind u.call
-      → ((next : Under) → under_after u (reply_to (effect setup (world setup h) kind u.call)) ≡ Some next → WillPay setup seat kind (own_entry setup seat kind h u.call ∷ h) next) → WillPay setup seat kind h u
+      → ((next : Under) → under_after u (reply_to (effect setup (world setup h) kind u.call)) ≡ Some next
+      → WillPay setup seat kind (own_entry setup seat kind h u.call ∷ h) next) → WillPay setup seat kind h u
 
 -- whatever the actor decides in a run, where it sees the store as it is, will pay
 abbrev pub DecisionsPay : Setup → ℕ → Role → Type 0
-DecisionsPay setup seat role = (s : ActorState) (h : List Entry) (u : Under) → IsRunOf setup h → IsDecisionPoint setup seat role h s h → GivesCall s.role s.memory (all_objects s.caches) u → WillPay setup seat role.kind h u
+DecisionsPay setup seat role = (s : ActorState) (h : List Entry) (u : Under) → IsRunOf setup h → IsDecisionPoint setup seat role h s h
+    → GivesCall s.role s.memory (all_objects s.caches) u → WillPay setup seat role.kind h u
 
 -- ---- entries
 
@@ -75,7 +77,8 @@ pub record HasFallen (setup : Setup) (earlier past : List Entry) : Type 0 where
 
 -- worlds that are alike have the same left to do
 abbrev pub AlikeIsLeft : Type 0
-AlikeIsLeft = (setup : Setup) (w : World) (kind : SeatKind) (request : Request) → AreAlike w (world_after w (effect setup w kind request)) → work_left setup (world_after w (effect setup w kind request)) ≤ work_left setup w
+AlikeIsLeft = (setup : Setup) (w : World) (kind : SeatKind) (request : Request) → AreAlike w (world_after w (effect setup w kind request))
+    → work_left setup (world_after w (effect setup w kind request)) ≤ work_left setup w
 
 -- entries that pay lower what is left to do
 abbrev pub PaidIsLess : Type 0
@@ -84,7 +87,8 @@ PaidIsLess = (setup : Setup) (earlier past : List Entry) → IsHistory setup pas
 -- an actor whose decisions pay, run with nothing under way, pays with each of its calls; an agent that is silent makes none
 abbrev pub SlotsPay : Type 0
 SlotsPay =
-    (setup : Setup) (lets : Lets) (seat : ℕ) (old after : ActorState) (h past : List Entry) (b left : ℕ) (idle : Bool) → IsBuiltKind old.role.kind → IsRunOf setup past → Runs lets seat after past left idle (woken old) h b
+    (setup : Setup) (lets : Lets) (seat : ℕ) (old after : ActorState) (h past : List Entry) (b left : ℕ) (idle : Bool) → IsBuiltKind old.role.kind
+    → IsRunOf setup past → Runs lets seat after past left idle (woken old) h b
     → (old.memory.stale ≡ false → old.under ≡ None) → DecisionsPay setup seat old.role → HavePaid setup h past
 
 -- an actor that may be run so

@@ -1,11 +1,11 @@
 -- An agent acts on a pod that is to go: it unmounts it, reads the mounts, and finishes it.
 use Rattle.std.proofs.Common.{◌≡◌, ◌∙◌, ℕ, List, ◌∷◌, true, Some, inl, inr, refl, sym, ap, subst}
-use Rattle.kube_types.specs.declared.key.Key.{Key}
-use Rattle.kube_types.specs.declared.names.Due.TheVariants as dues
-use Rattle.kube_types.specs.declared.objects.Object.TheVariants.{Pod}
-use Rattle.kube_types.specs.Bindings.{is_deleting}
-use Rattle.kube_types.specs.Keys.{key_of, row_at}
-use Rattle.kube_types.proofs.KeyOrder.{row_at_key}
+use Rattle.kube_objects.specs.declared.key.Key.{Key}
+use Rattle.kube_parts.specs.declared.names.Due.TheVariants as dues
+use Rattle.kube_objects.specs.declared.objects.Object.TheVariants.{Pod}
+use Rattle.kube_objects.specs.Bindings.{is_deleting}
+use Rattle.kube_objects.specs.Keys.{key_of, row_at}
+use Rattle.kube_objects.proofs.KeyOrder.{row_at_key}
 use Rattle.call_types.specs.declared.entry.Entry.{Entry}
 use Rattle.call_types.specs.declared.reply.Reply.TheVariants.{Mounted}
 use Rattle.call_types.specs.declared.request.Request.{Request}
@@ -84,7 +84,8 @@ module _ (setup : Setup) (seat : ℕ) (node : List ℕ) (start : List Entry) (ke
 
   said_read : reply_to (effect setup (world setup h_unmounted) seats.Agent read) ≡ Mounted (rows_on node gone)
   unfolding reply_to with_mounts
-  said_read = ap reply_to (mounts_is setup (world setup h_unmounted) seats.Agent node d.epoch d.uid refl current_unmounted) ∙ ap (λ (w : World). Mounted (rows_on node w.devices.mounts)) world_unmounted
+  said_read = ap reply_to (mounts_is setup (world setup h_unmounted) seats.Agent node d.epoch d.uid refl current_unmounted)
+      ∙ ap (λ (w : World). Mounted (rows_on node w.devices.mounts)) world_unmounted
 
   after_unmount : under_after (under_at steps.Unmounts unmount) (reply_to (effect setup (world setup h) seats.Agent unmount)) ≡ Some (under_at steps.ReadsMounts read)
   unfolding agent_call agent_moved
@@ -96,13 +97,16 @@ module _ (setup : Setup) (seat : ℕ) (node : List ℕ) (start : List Entry) (ke
 
   -- the pod stands there still
   there_read : row_at (key_of (Pod d.pod)) (world setup h_read).store.rows ≡ Some (Pod d.pod)
-  there_read = ap (λ (w : World). row_at (key_of (Pod d.pod)) w.store.rows) (world_read ∙ world_unmounted) ∙ (ap (λ k. row_at k (world setup h).store.rows) (row_at_key key (Pod d.pod) (world setup h).store.rows d.there) ∙ d.there)
+  there_read = ap (λ (w : World). row_at (key_of (Pod d.pod)) w.store.rows) (world_read ∙ world_unmounted)
+      ∙ (ap (λ k. row_at k (world setup h).store.rows) (row_at_key key (Pod d.pod) (world setup h).store.rows d.there) ∙ d.there)
 
   current_read : d.epoch ≡ epoch_of d.pod.node (world setup h_read).devices.epochs
   current_read = current_unmounted ∙ (λ i. epoch_of ((sym d.placed) i) ((sym world_read) i).devices.epochs)
 
   finishes : Lasts setup (world setup h_read) seats.Agent finish
-  finishes = subst (λ n. Lasts setup (world setup h_read) seats.Agent (requests.FinishPod (pod_key d.pod.meta.namespace d.pod.meta.name) d.uid n d.epoch)) d.placed (finish_lasts setup (world setup h_read) seats.Agent d.pod d.uid d.epoch refl there_read d.known going current_read)
+  finishes = subst (λ n. Lasts setup (world setup h_read) seats.Agent
+      (requests.FinishPod (pod_key d.pod.meta.namespace d.pod.meta.name) d.uid n d.epoch)) d.placed
+      (finish_lasts setup (world setup h_read) seats.Agent d.pod d.uid d.epoch refl there_read d.known going current_read)
 
   will : LastsOrAlike (world setup h) (effect setup (world setup h) seats.Agent unmount) → WouldLast setup seat seats.Agent start h (under_at steps.Unmounts unmount)
   will (inl lasts) = AtOnce alike lasts

@@ -51,7 +51,8 @@ pub record IsFirstAwake (setup : Setup) (start : List Entry) (node : List ℕ) (
   pub awake : IsAwake setup start node drainer
   pub before : (i : ℕ) (other : Drainer) → i < place → slice_get ds i ≡ Some other → other.actor.role ≡ agent_of node → TakesNoMore node other.seat other.actor start
 
-pub first_awake : (setup : Setup) (start : List Entry) (node : List ℕ) (ds : List Drainer) (place : ℕ) (d : Drainer) → slice_get ds place ≡ Some d → d.actor.role ≡ agent_of node → IsAwake setup start node d → IsFirstAwake setup start node ds
+pub first_awake : (setup : Setup) (start : List Entry) (node : List ℕ) (ds : List Drainer) (place : ℕ) (d : Drainer) → slice_get ds place ≡ Some d
+    → d.actor.role ≡ agent_of node → IsAwake setup start node d → IsFirstAwake setup start node ds
 first_awake setup start node [] place d there role awake = none_some there
 first_awake setup start node (x ∷ xs) zero d there role awake = record { place = 0; drainer = d; there = there; role = role; awake = awake; before = λ i other lt at is. absurd (omega (arith, lt)) }
 first_awake setup start node (x ∷ xs) (suc place) d there role awake = by (role_known node x.actor.role) (may_take setup start node x) (first_awake setup start node xs place d there role awake)
@@ -63,7 +64,8 @@ first_awake setup start node (x ∷ xs) (suc place) d there role awake = by (rol
         before zero other lt at is = let same : x ≡ other = one x other at in subst (λ (y : Drainer). TakesNoMore node y.seat y.actor start) same (none (ap (λ (y : Drainer). y.actor.role) same ∙ is))
         before (suc i) other lt at is = f.before i other (omega (arith, lt)) at is
 
-    by : (x.actor.role ≡ agent_of node) ⊎ (x.actor.role ≢ agent_of node) → IsAwake setup start node x ⊎ TakesNoMore node x.seat x.actor start → IsFirstAwake setup start node xs → IsFirstAwake setup start node (x ∷ xs)
+    by : (x.actor.role ≡ agent_of node) ⊎ (x.actor.role ≢ agent_of node) → IsAwake setup start node x ⊎ TakesNoMore node x.seat x.actor start
+        → IsFirstAwake setup start node xs → IsFirstAwake setup start node (x ∷ xs)
     by (inl is) (inl wakes) f = record { place = 0; drainer = x; there = refl; role = is; awake = wakes; before = λ i other lt at own_role. absurd (omega (arith, lt)) }
     by (inl is) (inr none) f = shift (λ own_role. none) f
     by (inr other) wakes f = shift (λ own_role. absurd (other own_role)) f

@@ -3,11 +3,11 @@ use Rattle.std.proofs.Common.{◌≡◌, ◌∙◌, ℕ, List, true, false, true
 use Rattle.std.specs.Prelude.{◌==◌, bytes_eq}
 use Rattle.std.proofs.lemmas.Bool.Decides.{Decides-eqb}
 use Rattle.std.proofs.lemmas.Slice.Eq.{bytes_eq-Decides}
-use Rattle.kube_types.specs.declared.uid.Uid.{Uid}
-use Rattle.kube_types.specs.declared.objects.Pod.{Pod as PodData}
-use Rattle.kube_types.specs.declared.objects.Object.TheVariants.{Pod}
-use Rattle.kube_types.specs.Bindings.{is_deleting}
-use Rattle.kube_types.specs.Keys.{key_of, row_at}
+use Rattle.kube_parts.specs.declared.uid.Uid.{Uid}
+use Rattle.kube_objects.specs.declared.objects.Pod.{Pod as PodData}
+use Rattle.kube_objects.specs.declared.objects.Object.TheVariants.{Pod}
+use Rattle.kube_objects.specs.Bindings.{is_deleting}
+use Rattle.kube_objects.specs.Keys.{key_of, row_at}
 use Rattle.call_types.specs.declared.request.Request.TheVariants as requests
 use Rattle.call_types.specs.declared.request.SeatKind.{SeatKind}
 use Rattle.call_types.specs.declared.setup.Setup.{Setup}
@@ -19,7 +19,8 @@ use Rattle.settle_progress.proofs.Epochs.Calls.{fresh, mount_is}
 use Rattle.settle_progress.proofs.Epochs.Mounts.{mounted_after}
 
 -- a pod that is not mounted is mounted
-pub mount_lasts : (setup : Setup) (w : World) (kind : SeatKind) (node : List ℕ) (epoch : ℕ) (pod : Uid) (claims : List Uid) → is_user kind ≡ false → epoch ≡ epoch_of node w.devices.epochs → is_mounted_on node pod w.devices.mounts ≡ false
+pub mount_lasts : (setup : Setup) (w : World) (kind : SeatKind) (node : List ℕ) (epoch : ℕ) (pod : Uid) (claims : List Uid) → is_user kind ≡ false
+    → epoch ≡ epoch_of node w.devices.epochs → is_mounted_on node pod w.devices.mounts ≡ false
     → Lasts setup w kind (requests.Mount node epoch pod claims)
 unfolding world_after with_mounts reply_to
 mount_lasts setup w kind node epoch pod claims controller current none =
@@ -27,7 +28,8 @@ mount_lasts setup w kind node epoch pod claims controller current none =
     (inr (inl (inr (λ same. true≢false (sym (mounted_after node pod claims w.devices.mounts none) ∙ (ap (is_mounted_on node pod) same ∙ none))))))
 
 -- a pod that is to go leaves
-module _ (setup : Setup) (w : World) (kind : SeatKind) (p : PodData) (uid : Uid) (epoch : ℕ) (controller : is_user kind ≡ false) (there : row_at (key_of (Pod p)) w.store.rows ≡ Some (Pod p)) (known : p.meta.uid ≡ Some uid) (going : is_deleting p.meta ≡ true) where
+module _ (setup : Setup) (w : World) (kind : SeatKind) (p : PodData) (uid : Uid) (epoch : ℕ) (controller : is_user kind ≡ false)
+    (there : row_at (key_of (Pod p)) w.store.rows ≡ Some (Pod p)) (known : p.meta.uid ≡ Some uid) (going : is_deleting p.meta ≡ true) where
   found : pod_with uid (row_at (key_of (Pod p)) w.store.rows) ≡ Some p
   unfolding pod_with
   found = let itself : (uid.0 == uid.0) ≡ true = (Decides-eqb uid.0 uid.0).1 refl in rw there (rw known (rw itself refl))

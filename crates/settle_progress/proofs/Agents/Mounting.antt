@@ -4,18 +4,18 @@ use Rattle.std.specs.Prelude.{◌&&◌, ◌||◌, bytes_eq, map, not, slice_get,
 use Rattle.std.specs.List.{list_all}
 use Rattle.std.proofs.lemmas.Bool.{and_parts, or_parts}
 use Rattle.std.proofs.lemmas.Slice.Eq.{bytes_eq-Decides}
-use Rattle.kube_types.specs.declared.key.Key.{Key}
-use Rattle.kube_types.specs.declared.names.Due.TheVariants as dues
-use Rattle.kube_types.specs.declared.uid.Uid.{Uid}
-use Rattle.kube_types.specs.declared.objects.Claim.{Claim as ClaimData}
-use Rattle.kube_types.specs.declared.objects.Pod.{Pod as PodData}
-use Rattle.kube_types.specs.declared.objects.Ref.{Ref}
-use Rattle.kube_types.specs.declared.objects.Volume.{Volume as VolumeData}
-use Rattle.kube_types.specs.declared.objects.Object.{Object}
-use Rattle.kube_types.specs.declared.objects.Object.TheVariants.{Class, Node, Volume, Claim, Pod}
-use Rattle.kube_types.specs.Bindings.{carries, has_name, is_completed, is_deleting, is_protected_claim, names_claim, refers_carrying, uid_carries}
-use Rattle.kube_types.specs.Keys.{row_at}
-use Rattle.kube_types.proofs.KeyOrder.{row_at_key}
+use Rattle.kube_objects.specs.declared.key.Key.{Key}
+use Rattle.kube_parts.specs.declared.names.Due.TheVariants as dues
+use Rattle.kube_parts.specs.declared.uid.Uid.{Uid}
+use Rattle.kube_objects.specs.declared.objects.Claim.{Claim as ClaimData}
+use Rattle.kube_objects.specs.declared.objects.Pod.{Pod as PodData}
+use Rattle.kube_objects.specs.declared.objects.Ref.{Ref}
+use Rattle.kube_objects.specs.declared.objects.Volume.{Volume as VolumeData}
+use Rattle.kube_objects.specs.declared.objects.Object.{Object}
+use Rattle.kube_objects.specs.declared.objects.Object.TheVariants.{Class, Node, Volume, Claim, Pod}
+use Rattle.kube_objects.specs.Bindings.{carries, has_name, is_completed, is_deleting, is_protected_claim, names_claim, refers_carrying, uid_carries}
+use Rattle.kube_objects.specs.Keys.{row_at}
+use Rattle.kube_objects.proofs.KeyOrder.{row_at_key}
 use Rattle.call_types.specs.declared.entry.Entry.{Entry}
 use Rattle.call_types.specs.declared.reply.Reply.TheVariants.{Found}
 use Rattle.call_types.specs.declared.request.Request.{Request}
@@ -133,7 +133,8 @@ abbrev AreCounted : List Object → List ℕ → List ReadyClaim → Type 0
 AreCounted rows namespace [] = ⊤
 AreCounted rows namespace (r ∷ ready) = ((x : IsReadyClaim rows namespace r.claim) × (x.claim.volume_name ≡ r.volume)) × AreCounted rows namespace ready
 
-counted_more : (rows : List Object) (namespace : List ℕ) (ready : List ReadyClaim) (r : ReadyClaim) → AreCounted rows namespace ready → (x : IsReadyClaim rows namespace r.claim) → x.claim.volume_name ≡ r.volume → AreCounted rows namespace (ready ++ r ∷ [])
+counted_more : (rows : List Object) (namespace : List ℕ) (ready : List ReadyClaim) (r : ReadyClaim) → AreCounted rows namespace ready
+    → (x : IsReadyClaim rows namespace r.claim) → x.claim.volume_name ≡ r.volume → AreCounted rows namespace (ready ++ r ∷ [])
 counted_more rows namespace [] r all x of = ((x, of), tt)
 counted_more rows namespace (y ∷ ready) r all x of = (all.0, counted_more rows namespace ready r all.1 x of)
 
@@ -168,7 +169,8 @@ unread (r ∷ ready) name names once = by (bytes_eq r.claim name) refl (unread r
     by false e rest = rest
 
 -- nor was its volume
-unshared : (rows : List Object) (namespace name : List ℕ) (x : IsReadyClaim rows namespace name) (ready : List ReadyClaim) → AreCounted rows namespace ready → is_claim_read name ready ≡ false → is_volume_read x.claim.volume_name ready ≡ false
+unshared : (rows : List Object) (namespace name : List ℕ) (x : IsReadyClaim rows namespace name) (ready : List ReadyClaim)
+    → AreCounted rows namespace ready → is_claim_read name ready ≡ false → is_volume_read x.claim.volume_name ready ≡ false
 unshared rows namespace name x [] all none = refl
 unshared rows namespace name x (r ∷ ready) all none = by (bytes_eq r.volume x.claim.volume_name) refl (unshared rows namespace name x ready all.1 parts.1)
   where
@@ -193,7 +195,8 @@ step_is p ready names split once = ap (next_step ready) (ap (λ ns. slice_get ns
     by [] e = refl
     by (name ∷ more) e = rw (unread ready name more e) refl
 
-module _ (setup : Setup) (seat : ℕ) (node : List ℕ) (start : List Entry) (key : Key) (pass : ImportsPass setup.imports) (h : List Entry) (alike : AreAlike (world setup start) (world setup h)) (first : First)
+module _ (setup : Setup) (seat : ℕ) (node : List ℕ) (start : List Entry) (key : Key) (pass : ImportsPass setup.imports) (h : List Entry)
+    (alike : AreAlike (world setup start) (world setup h)) (first : First)
     (d : IsDecided setup node key h dues.Mount first) where
   due : IsMountDue (world setup h) d.pod
   due = mount_due (world setup h) d.pod d.due
@@ -223,7 +226,8 @@ module _ (setup : Setup) (seat : ℕ) (node : List ℕ) (start : List Entry) (ke
   abbrev volume_under : List ReadyClaim → List ℕ → ClaimData → Under
   volume_under ready name c = record { key = key; task = tasks.Agent (op_at ready (steps.ReadsVolume name c)); call = requests.Get (volume_key c.volume_name) }
 
-  claim_read : (ready : List ReadyClaim) (name : List ℕ) (names : List (List ℕ)) (c : ClaimData) → is_agent_ready c ≡ true → is_volume_read c.volume_name ready ≡ false → under_after (under_at ready (name ∷ names)) (Found (Claim c)) ≡ Some (volume_under ready name c)
+  claim_read : (ready : List ReadyClaim) (name : List ℕ) (names : List (List ℕ)) (c : ClaimData) → is_agent_ready c ≡ true
+      → is_volume_read c.volume_name ready ≡ false → under_after (under_at ready (name ∷ names)) (Found (Claim c)) ≡ Some (volume_under ready name c)
   unfolding agent_call agent_moved
   claim_read ready name names c is none = rw (is, none) refl
 
@@ -232,18 +236,25 @@ module _ (setup : Setup) (seat : ℕ) (node : List ℕ) (start : List Entry) (ke
       → under_after (volume_under ready name c) (Found (Volume v)) ≡ Some (under_at (ready ++ record { claim = name; uid = uid; volume = c.volume_name } ∷ []) names)
   unfolding agent_moved
   volume_read ready name names c v uid carried known step =
-      rw (carried, known) (ap (λ st. with_call key (tasks.Agent (op_at (ready ++ record { claim = name; uid = uid; volume = c.volume_name } ∷ []) st)) (agent_call (op_at (ready ++ record { claim = name; uid = uid; volume = c.volume_name } ∷ []) st))) step
-      ∙ ap (with_call key (tasks.Agent (op_at (ready ++ record { claim = name; uid = uid; volume = c.volume_name } ∷ []) (step_at names)))) (asks (ready ++ record { claim = name; uid = uid; volume = c.volume_name } ∷ []) names))
+      rw (carried, known) (ap (λ st. with_call key
+      (tasks.Agent (op_at (ready ++ record { claim = name; uid = uid; volume = c.volume_name } ∷ []) st))
+      (agent_call (op_at (ready ++ record { claim = name; uid = uid; volume = c.volume_name } ∷ []) st))) step
+      ∙ ap (with_call key (tasks.Agent (op_at (ready ++ record { claim = name; uid = uid; volume = c.volume_name } ∷ []) (step_at names))))
+      (asks (ready ++ record { claim = name; uid = uid; volume = c.volume_name } ∷ []) names))
 
-  will : (names : List (List ℕ)) (ready : List ReadyClaim) (now : List Entry) → world setup now ≡ world setup h → d.pod.claims ≡ names_in ready ++ names → AreCounted (world setup h).store.rows d.pod.meta.namespace ready
-      → list_all (λ name. is_ready (world setup h).store.rows (claim_named (world setup h).store.rows d.pod.meta.namespace name)) names ≡ true → WouldLast setup seat seats.Agent start now (under_at ready names)
+  will : (names : List (List ℕ)) (ready : List ReadyClaim) (now : List Entry) → world setup now ≡ world setup h
+      → d.pod.claims ≡ names_in ready ++ names → AreCounted (world setup h).store.rows d.pod.meta.namespace ready
+      → list_all (λ name. is_ready (world setup h).store.rows (claim_named (world setup h).store.rows d.pod.meta.namespace name)) names ≡ true
+      → WouldLast setup seat seats.Agent start now (under_at ready names)
   will [] ready now same split counted readies =
       AtOnce (subst (AreAlike (world setup start)) (sym same) alike)
-      (subst (λ w. Lasts setup w seats.Agent (requests.Mount node d.epoch d.uid (uids_of ready))) (sym same) (mount_lasts setup (world setup h) seats.Agent node d.epoch d.uid (uids_of ready) refl d.current unmounted))
+      (subst (λ w. Lasts setup w seats.Agent (requests.Mount node d.epoch d.uid (uids_of ready))) (sym same)
+      (mount_lasts setup (world setup h) seats.Agent node d.epoch d.uid (uids_of ready) refl d.current unmounted))
   will (name ∷ names) ready now same split counted readies =
       Later still (volume_under ready name x.claim) first_read
       (Later (subst (AreAlike (world setup start)) (sym same_claim) alike) (under_at (ready ++ counted_claim ∷ []) names) second_read
-      (will names (ready ++ counted_claim ∷ []) h_volume same_volume_read (split ∙ names_more ready counted_claim names) (counted_more (world setup h).store.rows d.pod.meta.namespace ready counted_claim counted x refl) parts.1))
+      (will names (ready ++ counted_claim ∷ []) h_volume same_volume_read (split ∙ names_more ready counted_claim names)
+      (counted_more (world setup h).store.rows d.pod.meta.namespace ready counted_claim counted x refl) parts.1))
     where
       still : AreAlike (world setup start) (world setup now)
       still = subst (AreAlike (world setup start)) (sym same) alike
@@ -285,13 +296,16 @@ module _ (setup : Setup) (seat : ℕ) (node : List ℕ) (start : List Entry) (ke
       same_volume_read : world setup h_volume ≡ world setup h
       same_volume_read = get_stays setup (world setup h_claim) seats.Agent (volume_key x.claim.volume_name) ∙ same_claim
 
-      said : (now_ : List Entry) → world setup now_ ≡ world setup h → (k : Key) (o : Object) → row_at k (world setup h).store.rows ≡ Some o → reply_to (effect setup (world setup now_) seats.Agent (requests.Get k)) ≡ Found o
+      said : (now_ : List Entry) → world setup now_ ≡ world setup h → (k : Key) (o : Object) → row_at k (world setup h).store.rows ≡ Some o
+          → reply_to (effect setup (world setup now_) seats.Agent (requests.Get k)) ≡ Found o
       said now_ s k o there = get_said setup (world setup now_) seats.Agent k ∙ ap got (ap (λ (w : World). row_at k w.store.rows) s ∙ there)
 
-      first_read : under_after (under_at ready (name ∷ names)) (reply_to (effect setup (world setup now) seats.Agent (requests.Get (claim_key d.pod.meta.namespace name)))) ≡ Some (volume_under ready name x.claim)
+      first_read : under_after (under_at ready (name ∷ names))
+          (reply_to (effect setup (world setup now) seats.Agent (requests.Get (claim_key d.pod.meta.namespace name)))) ≡ Some (volume_under ready name x.claim)
       first_read = ap (under_after (under_at ready (name ∷ names))) (said now same (claim_key d.pod.meta.namespace name) (Claim x.claim) x.there) ∙ claim_read ready name names x.claim x.ready none
 
-      second_read : under_after (volume_under ready name x.claim) (reply_to (effect setup (world setup h_claim) seats.Agent (requests.Get (volume_key x.claim.volume_name)))) ≡ Some (under_at (ready ++ counted_claim ∷ []) names)
+      second_read : under_after (volume_under ready name x.claim)
+          (reply_to (effect setup (world setup h_claim) seats.Agent (requests.Get (volume_key x.claim.volume_name)))) ≡ Some (under_at (ready ++ counted_claim ∷ []) names)
       second_read =
           ap (under_after (volume_under ready name x.claim)) (said h_claim same_claim (volume_key x.claim.volume_name) (Volume x.volume) x.volume_there)
           ∙ volume_read ready name names x.claim x.volume known.uid x.carried known.is step
@@ -315,7 +329,8 @@ pub mounts_act : MountsAct
 mounts_act setup seat role start key p pass is there scheduled due =
     subst (λ r. AgentWouldActOn setup seat r start key) (sym is)
     (agent_acts_each setup seat (agent_of p.node) start key
-    (λ s h point holding first d. lasts setup seat p.node start key pass h point.alike first (decided_so setup seat p.node start key p pass refl there scheduled s h point holding dues.Mount due first d)))
+    (λ s h point holding first d. lasts setup seat p.node start key pass h point.alike first
+    (decided_so setup seat p.node start key p pass refl there scheduled s h point holding dues.Mount due first d)))
 
 pub agents_act : AgentsAct
 agents_act setup seat role start key p action pass is there scheduled due = elim (mount_or_finish (world setup start) p action due) [

@@ -4,16 +4,16 @@ use Rattle.std.specs.Prelude.{◌&&◌, bytes_eq, not}
 use Rattle.std.specs.List.{list_all}
 use Rattle.std.proofs.lemmas.Slice.Eq.{bytes_eq-Decides}
 use Rattle.std.proofs.lemmas.Bool.Decides.{Decides-eqb}
-use Rattle.kube_types.specs.declared.key.Key.{Key}
-use Rattle.kube_types.specs.declared.uid.Uid.{Uid}
-use Rattle.kube_types.specs.declared.names.Due.{Due}
-use Rattle.kube_types.specs.declared.names.Due.TheVariants as dues
-use Rattle.kube_types.specs.declared.objects.Pod.{Pod as PodData}
-use Rattle.kube_types.specs.declared.objects.Object.{Object}
-use Rattle.kube_types.specs.declared.objects.Object.TheVariants.{Class, Node, Volume, Claim, Pod}
-use Rattle.kube_types.specs.Bindings.{is_deleting, is_scheduled}
-use Rattle.kube_types.specs.Keys.{row_at}
-use Rattle.kube_types.proofs.KeyOrder.{row_at_key}
+use Rattle.kube_objects.specs.declared.key.Key.{Key}
+use Rattle.kube_parts.specs.declared.uid.Uid.{Uid}
+use Rattle.kube_parts.specs.declared.names.Due.{Due}
+use Rattle.kube_parts.specs.declared.names.Due.TheVariants as dues
+use Rattle.kube_objects.specs.declared.objects.Pod.{Pod as PodData}
+use Rattle.kube_objects.specs.declared.objects.Object.{Object}
+use Rattle.kube_objects.specs.declared.objects.Object.TheVariants.{Class, Node, Volume, Claim, Pod}
+use Rattle.kube_objects.specs.Bindings.{is_deleting, is_scheduled}
+use Rattle.kube_objects.specs.Keys.{row_at}
+use Rattle.kube_objects.proofs.KeyOrder.{row_at_key}
 use Rattle.call_types.specs.declared.entry.Entry.{Entry}
 use Rattle.call_types.specs.declared.reply.MountRow.{MountRow}
 use Rattle.call_types.specs.declared.request.Request.{Request}
@@ -63,18 +63,21 @@ use Rattle.settle_progress.proofs.Epochs.Remembered.{mounts_are_remembered}
 -- the agent acts on a key where each decision on it begins a task that will make a call that lasts
 
 pub agent_acts_each : (setup : Setup) (seat : ℕ) (role : Role) (start : List Entry) (key : Key)
-    → ((s : ActorState) (h : List Entry) → IsDecisionPoint setup seat role start s h → IsHolding setup h role.node seat → (first : First) → IsDecision s.role s.memory (all_objects s.caches) key first → DecisionLasts setup seat role start key h first)
+    → ((s : ActorState) (h : List Entry) → IsDecisionPoint setup seat role start s h → IsHolding setup h role.node seat → (first : First)
+    → IsDecision s.role s.memory (all_objects s.caches) key first → DecisionLasts setup seat role start key h first)
     → AgentWouldActOn setup seat role start key
 agent_acts_each setup seat role start key each = record { lasts = lasts; acts = acts }
   where
-    lasts : (s : ActorState) (h : List Entry) (u : Under) → IsDecisionPoint setup seat role start s h → IsHolding setup h role.node seat → u.key ≡ key → GivesCall s.role s.memory (all_objects s.caches) u → WouldLast setup seat role.kind start h u
+    lasts : (s : ActorState) (h : List Entry) (u : Under) → IsDecisionPoint setup seat role start s h → IsHolding setup h role.node seat
+        → u.key ≡ key → GivesCall s.role s.memory (all_objects s.caches) u → WouldLast setup seat role.kind start h u
     lasts s h u p holding own_key gives =
         let b = each s h p holding (firsts.Begins u.task) (subst (λ k. IsDecision s.role s.memory (all_objects s.caches) k (firsts.Begins u.task)) own_key gives.decided) in
         let task : u.task ≡ b.task = ap (task_in u.task) b.is in
         let call : u.call ≡ b.call = one u.call b.call (sym gives.call ∙ (ap task_call task ∙ b.asks)) in
         subst (WouldLast setup seat role.kind start h) (λ i. record { key = (sym own_key) i; task = (sym task) i; call = (sym call) i }) b.will
 
-    acts : (s : ActorState) (h : List Entry) (first : First) → IsDecisionPoint setup seat role start s h → IsHolding setup h role.node seat → GivesNone s.role s.memory (all_objects s.caches) key first → ⊥
+    acts : (s : ActorState) (h : List Entry) (first : First) → IsDecisionPoint setup seat role start s h → IsHolding setup h role.node seat
+        → GivesNone s.role s.memory (all_objects s.caches) key first → ⊥
     acts s h first p holding none = let b = each s h p holding first none.decided in none_some (sym (none.none b.task b.is) ∙ b.asks)
 
 -- what is due for an agent
@@ -163,7 +166,8 @@ record IsDecidedBy (s : ActorState) (node : List ℕ) (q : PodData) (uid : Uid) 
   listed : s.memory.mounts ≡ Some rows
   is : first ≡ agent_first (agent_known node epoch rows q (Some uid))
 
-module _ (setup : Setup) (seat : ℕ) (node : List ℕ) (start : List Entry) (key : Key) (p : PodData) (pass : ImportsPass setup.imports) (named : p.node ≡ node) (there : row_at key (world setup start).store.rows ≡ Some (Pod p)) (scheduled : is_scheduled p ≡ true)
+module _ (setup : Setup) (seat : ℕ) (node : List ℕ) (start : List Entry) (key : Key) (p : PodData) (pass : ImportsPass setup.imports)
+    (named : p.node ≡ node) (there : row_at key (world setup start).store.rows ≡ Some (Pod p)) (scheduled : is_scheduled p ≡ true)
     (s : ActorState) (h : List Entry) (point : IsDecisionPoint setup seat (agent_of node) start s h) (holding : IsHolding setup h node seat) where
   at : IsPodAt (row_at key (world setup h).store.rows) p
   at = pod_alike (world setup start) (world setup h) key p point.alike there
@@ -180,14 +184,16 @@ module _ (setup : Setup) (seat : ℕ) (node : List ℕ) (start : List Entry) (ke
   due_here : (action : Due) → agent_due (world setup start) p ≡ Some action → agent_due (world setup h) at.pod ≡ Some action
   due_here action due =
       let was : IsDue setup (world setup start) (Pod p) (Some action) = subst (λ b. IsPodDue setup (world setup start) p b (Some action)) (sym scheduled) (sym due) in
-      let now : IsDue setup (world setup h) (Pod at.pod) (Some action) = alike_is_due setup (world setup start) (world setup h) (Pod p) (Pod at.pod) (Some action) point.alike (ap (λ x. Pod x) (sym at.same)) was in
+      let now : IsDue setup (world setup h) (Pod at.pod) (Some action) =
+      alike_is_due setup (world setup start) (world setup h) (Pod p) (Pod at.pod) (Some action) point.alike (ap (λ x. Pod x) (sym at.same)) was in
       let here : Some action ≡ agent_due (world setup h) at.pod = subst (λ b. IsPodDue setup (world setup h) at.pod b (Some action)) scheduled_there now in
       sym here
 
   -- the pod is seen as it stands
   seen : row_at key (all_objects s.caches) ≡ Some (Pod at.pod)
   seen =
-      point.sees key (ap (λ (r : Role). follows r.kind key.kind) point.role_is ∙ ap (λ (k : Key). follows seats.Agent k.kind) (sym (row_at_key key (Pod at.pod) (world setup h).store.rows at.is))) ∙ at.is
+      point.sees key (ap (λ (r : Role). follows r.kind key.kind) point.role_is
+      ∙ ap (λ (k : Key). follows seats.Agent k.kind) (sym (row_at_key key (Pod at.pod) (world setup h).store.rows at.is))) ∙ at.is
 
   -- what the agent remembers is what its seat was told
   remembers : s.memory ≡ memory_of (agent_of node) (own seat h)
@@ -202,7 +208,8 @@ module _ (setup : Setup) (seat : ℕ) (node : List ℕ) (start : List Entry) (ke
 
   -- how the key is decided
   decided : (first : First) → IsDecision s.role s.memory (all_objects s.caches) key first → IsDecidedBy s node at.pod known.uid first
-  decided first d = by s.memory.epoch s.memory.mounts refl refl (subst (λ x. IsAgentFirst node s.memory.epoch s.memory.mounts x first) seen (subst (λ r. IsDecision r s.memory (all_objects s.caches) key first) point.role_is d))
+  decided first d = by s.memory.epoch s.memory.mounts refl refl
+      (subst (λ x. IsAgentFirst node s.memory.epoch s.memory.mounts x first) seen (subst (λ r. IsDecision r s.memory (all_objects s.caches) key first) point.role_is d))
     where
       on_node : (is_scheduled at.pod && bytes_eq at.pod.node node) ≡ true
       on_node = let same : bytes_eq at.pod.node node ≡ true = (bytes_eq-Decides at.pod.node node).1 placed in rw (scheduled_there, same) refl
@@ -210,7 +217,8 @@ module _ (setup : Setup) (seat : ℕ) (node : List ℕ) (start : List Entry) (ke
       begins : (epoch : ℕ) (rows : List MountRow) → agent_begins node epoch rows (Some (Pod at.pod)) ≡ agent_known node epoch rows at.pod (Some known.uid)
       begins epoch rows = (λ i. if on_node i then agent_known node epoch rows at.pod at.pod.meta.uid else None) ∙ ap (agent_known node epoch rows at.pod) known.is
 
-      by : (epoch : Option ℕ) (rows : Option (List MountRow)) → s.memory.epoch ≡ epoch → s.memory.mounts ≡ rows → IsAgentFirst node epoch rows (Some (Pod at.pod)) first → IsDecidedBy s node at.pod known.uid first
+      by : (epoch : Option ℕ) (rows : Option (List MountRow)) → s.memory.epoch ≡ epoch → s.memory.mounts ≡ rows
+          → IsAgentFirst node epoch rows (Some (Pod at.pod)) first → IsDecidedBy s node at.pod known.uid first
       by None rows told listed x = absurd x
       by (Some epoch) None told listed x = absurd x
       by (Some epoch) (Some rows) told listed x = record { epoch = epoch; rows = rows; told = told; listed = listed; is = x ∙ ap agent_first (begins epoch rows) }
@@ -226,7 +234,8 @@ module _ (setup : Setup) (seat : ℕ) (node : List ℕ) (start : List Entry) (ke
       let agents : AreAgents (own seat h) = are_agents (own seat h) (subst (λ k. AreLicensed k (own seat h)) kind point.ready.stands.told.licensed) in
       staying_was_never_deleting setup h seat holding.run.imports holding.run.short point.history (histories_tell_by_reads setup h seat point.history agents) at.pod known.uid newest known.is staying
 
-  unremembered : (epoch : ℕ) (rows : List MountRow) → s.memory.epoch ≡ Some epoch → s.memory.mounts ≡ Some rows → is_deleting at.pod.meta ≡ false → is_pod_mounted (world setup h).devices at.pod ≡ false → has_row known.uid rows ≡ false
+  unremembered : (epoch : ℕ) (rows : List MountRow) → s.memory.epoch ≡ Some epoch → s.memory.mounts ≡ Some rows → is_deleting at.pod.meta ≡ false
+      → is_pod_mounted (world setup h).devices at.pod ≡ false → has_row known.uid rows ≡ false
   unremembered epoch rows told listed staying none = by (has_row known.uid rows) refl
     where
       kind : s.role.kind ≡ seats.Agent
@@ -251,7 +260,8 @@ module _ (setup : Setup) (seat : ℕ) (node : List ℕ) (start : List Entry) (ke
         | inr lost ↦ absurd (never_deleting staying (lost_deleting known.uid (own seat h) agents lost))
       ]
 
-  pub decided_so : (action : Due) → agent_due (world setup start) p ≡ Some action → (first : First) → IsDecision s.role s.memory (all_objects s.caches) key first → IsDecided setup node key h action first
+  pub decided_so : (action : Due) → agent_due (world setup start) p ≡ Some action → (first : First)
+      → IsDecision s.role s.memory (all_objects s.caches) key first → IsDecided setup node key h action first
   decided_so action due first d =
       let x = decided first d in
       record {

@@ -1,16 +1,16 @@
 -- No task of a controller calls a Mount: only agents mount pods.
 use Rattle.std.proofs.Common.{◌≡◌, ◌∙◌, ℕ, List, Bool, true, false, true≢false, Option, Some, None, refl, sym, ap, if◌then◌else◌}
 use Rattle.std.specs.Prelude.{◌&&◌, ◌||◌, is_some, not, option_map}
-use Rattle.kube_types.specs.declared.key.Key.{Key}
-use Rattle.kube_types.specs.declared.objects.Class.{Class as ClassData}
-use Rattle.kube_types.specs.declared.objects.Claim.{Claim as ClaimData}
-use Rattle.kube_types.specs.declared.objects.Object.{Object}
-use Rattle.kube_types.specs.declared.objects.Ref.{Ref}
-use Rattle.kube_types.specs.declared.objects.Volume.{Volume as VolumeData}
-use Rattle.kube_types.specs.declared.parts.VolumePhase.TheVariants as volumes
-use Rattle.kube_types.specs.declared.uid.Uid.{Uid}
-use Rattle.kube_types.specs.Bindings.{carries, is_bound, is_empty, is_ended, is_protected_volume}
-use Rattle.kube_types.specs.Keys.{row_at}
+use Rattle.kube_objects.specs.declared.key.Key.{Key}
+use Rattle.kube_objects.specs.declared.objects.Class.{Class as ClassData}
+use Rattle.kube_objects.specs.declared.objects.Claim.{Claim as ClaimData}
+use Rattle.kube_objects.specs.declared.objects.Object.{Object}
+use Rattle.kube_objects.specs.declared.objects.Ref.{Ref}
+use Rattle.kube_objects.specs.declared.objects.Volume.{Volume as VolumeData}
+use Rattle.kube_parts.specs.declared.parts.VolumePhase.TheVariants as volumes
+use Rattle.kube_parts.specs.declared.uid.Uid.{Uid}
+use Rattle.kube_objects.specs.Bindings.{carries, is_bound, is_empty, is_ended, is_protected_volume}
+use Rattle.kube_objects.specs.Keys.{row_at}
 use Rattle.call_types.specs.declared.entry.Entry.{Entry}
 use Rattle.call_types.specs.declared.reply.Reply.{Reply}
 use Rattle.call_types.specs.declared.request.Request.{Request}
@@ -202,7 +202,8 @@ of_task (tasks.Schedule op) request other calls = writes_no_mount request (calls
 
 -- ---- so a gate that holds Mounts alone lets each call of a controller pass
 
-pub controllers_pass : (setup : Setup) (lets : Lets) (seat : ℕ) (role : Role) (start : List Entry) (key : Key) → is_agent role.kind ≡ false → HoldsMountsAlone lets → CallsPass setup lets seat role start key
+pub controllers_pass : (setup : Setup) (lets : Lets) (seat : ℕ) (role : Role) (start : List Entry) (key : Key) → is_agent role.kind ≡ false
+    → HoldsMountsAlone lets → CallsPass setup lets seat role start key
 controllers_pass setup lets seat role start key other holds s h g u v point own gives leads alike =
     let begun = begun_by s.role.kind s.role.node s.memory (all_objects s.caches) u.key u.task (ap (λ (r : Role). is_agent r.kind) point.role_is ∙ other) gives.decided in
     let there = leads_keep setup seat role.kind (λ past t. is_agents t ≡ false) (λ past t next call is calls moved. stays_so t next _ is moved) h g u v leads begun gives.call in

@@ -3,18 +3,37 @@ use Rattle.std.proofs.Common.{ℕ, ◌≡◌, ◌∙◌, List, Bool, true, false
 use Rattle.std.specs.Prelude.{◌&&◌, ◌||◌, bytes_eq, is_none, is_some, not}
 use Rattle.std.specs.List.{list_any}
 use Rattle.plain_data.specs.Pairs.{value_at}
-use Rattle.kube_types.specs.declared.uid.Uid.{Uid}
-use Rattle.kube_types.specs.declared.names.Due.{Due}
-use Rattle.kube_types.specs.declared.names.Due.TheVariants as dues
-use Rattle.kube_types.specs.declared.objects.Class.{Class as ClassData}
-use Rattle.kube_types.specs.declared.objects.Claim.{Claim as ClaimData}
-use Rattle.kube_types.specs.declared.objects.Pod.{Pod as PodData}
-use Rattle.kube_types.specs.declared.objects.Ref.{Ref}
-use Rattle.kube_types.specs.declared.objects.Volume.{Volume as VolumeData}
-use Rattle.kube_types.specs.declared.objects.Object.{Object}
-use Rattle.kube_types.specs.declared.objects.Object.TheVariants.{Claim, Class, Node, Pod, Volume}
-use Rattle.kube_types.specs.Bindings.{carries, class_of_claim, is_available, is_bound, is_completed, is_delete, is_deleting, is_empty, is_ended, is_for, is_lost, is_protected_claim, is_protected_volume, is_scheduled, lacks_class, ref_uid, selected_node, uses}
-use Rattle.kube_types.specs.Keys.{row_at}
+use Rattle.kube_parts.specs.declared.uid.Uid.{Uid}
+use Rattle.kube_parts.specs.declared.names.Due.{Due}
+use Rattle.kube_parts.specs.declared.names.Due.TheVariants as dues
+use Rattle.kube_objects.specs.declared.objects.Class.{Class as ClassData}
+use Rattle.kube_objects.specs.declared.objects.Claim.{Claim as ClaimData}
+use Rattle.kube_objects.specs.declared.objects.Pod.{Pod as PodData}
+use Rattle.kube_objects.specs.declared.objects.Ref.{Ref}
+use Rattle.kube_objects.specs.declared.objects.Volume.{Volume as VolumeData}
+use Rattle.kube_objects.specs.declared.objects.Object.{Object}
+use Rattle.kube_objects.specs.declared.objects.Object.TheVariants.{Claim, Class, Node, Pod, Volume}
+use Rattle.kube_objects.specs.Bindings.{
+  carries,
+  class_of_claim,
+  is_available,
+  is_bound,
+  is_completed,
+  is_delete,
+  is_deleting,
+  is_empty,
+  is_ended,
+  is_for,
+  is_lost,
+  is_protected_claim,
+  is_protected_volume,
+  is_scheduled,
+  lacks_class,
+  ref_uid,
+  selected_node,
+  uses,
+}
+use Rattle.kube_objects.specs.Keys.{row_at}
 use Rattle.call_types.specs.declared.request.SeatKind.{SeatKind}
 use Rattle.call_types.specs.declared.request.SeatKind.TheVariants as seats
 use Rattle.call_types.specs.declared.setup.Setup.{Setup}
@@ -22,12 +41,39 @@ use Rattle.binder_model.specs.BindWrites.{next_write}
 use Rattle.binder_model.specs.Matching.{fits, has_match}
 use Rattle.binder_model.specs.Provisioning.{data_name, is_wanting, provisions}
 use Rattle.binder_model.specs.BinderDue.{claim_due, has_other_uid, is_default_row, is_reclaimed, claim_with, completed_due, lost_due, named_due, reference_due, referred_due, uid_due, volume_due}
-use Rattle.binder_model.specs.Due.{IsDue, IsPodDue, by_class_due, claim_guard_due, delayed_due, guard_due, is_served, on_node_due, or_due, provision_due, provision_if_new, reclaim_due, volume_guard_due}
+use Rattle.binder_model.specs.Due.{
+  IsDue,
+  IsPodDue,
+  by_class_due,
+  claim_guard_due,
+  delayed_due,
+  guard_due,
+  is_served,
+  on_node_due,
+  or_due,
+  provision_due,
+  provision_if_new,
+  reclaim_due,
+  volume_guard_due,
+}
 use Rattle.binder_model.specs.ObjectKeys.{claim_key, class_key, node_key, volume_key}
 use Rattle.binder_model.specs.World.{World}
 use Rattle.model_laws.proofs.Lists.{none_some, one}
 use Rattle.actor_rounds.specs.Drainers.{agent_of, of_kind}
-use Rattle.settle_progress.specs.Drains.Rounds.{DueFor, ForAgent, ForBinder, ForBinderOfClaims, ForClaimProtection, ForProvisioner, ForReclaimer, ForScheduler, ForVolumeProtection, doer_of, for_claim, for_volume}
+use Rattle.settle_progress.specs.Drains.Rounds.{
+  DueFor,
+  ForAgent,
+  ForBinder,
+  ForBinderOfClaims,
+  ForClaimProtection,
+  ForProvisioner,
+  ForReclaimer,
+  ForScheduler,
+  ForVolumeProtection,
+  doer_of,
+  for_claim,
+  for_volume,
+}
 
 -- what is due, if anything, is for an actor of this kind
 record IsFor (by : Due → SeatKind) (kind : SeatKind) (x : Option Due) : Type 0 where
@@ -79,7 +125,8 @@ lost_is c = either for_claim seats.Binder (is_lost c.phase) _ _ (nothing for_cla
 completed_is : (c : ClaimData) (o : Option Object) → IsFor for_claim seats.Binder (completed_due c o)
 unfolding completed_due
 completed_is c None = lost_is c
-completed_is c (Some (Volume v)) = either for_claim seats.Binder (has_other_uid v c) _ _ (lost_is c) (either for_claim seats.Binder ((is_none v.claim_ref || carries v c) && is_some (next_write v c)) _ _ (only for_claim seats.Binder dues.Bind refl) (nothing for_claim seats.Binder))
+completed_is c (Some (Volume v)) = either for_claim seats.Binder (has_other_uid v c) _ _ (lost_is c) (either for_claim seats.Binder
+    ((is_none v.claim_ref || carries v c) && is_some (next_write v c)) _ _ (only for_claim seats.Binder dues.Bind refl) (nothing for_claim seats.Binder))
 completed_is c (Some (Class x)) = lost_is c
 completed_is c (Some (Node x)) = lost_is c
 completed_is c (Some (Claim x)) = lost_is c
@@ -103,7 +150,8 @@ claims_are_binders rows c =
     either for_claim seats.Binder (is_completed c) _ _ (either for_claim seats.Binder (is_empty c.volume_name) _ _ (lost_is c) (completed_is c (row_at (volume_key c.volume_name) rows)))
     (either for_claim seats.Binder (is_deleting c.meta) _ _ (nothing for_claim seats.Binder)
     (either for_claim seats.Binder (is_empty c.volume_name) _ _
-    (either for_claim seats.Binder (has_match rows c) _ _ (only for_claim seats.Binder dues.Bind refl) (either for_claim seats.Binder (lacks_class c && list_any is_default_row rows) _ _ (only for_claim seats.Binder dues.AssignClass refl) (nothing for_claim seats.Binder)))
+    (either for_claim seats.Binder (has_match rows c) _ _ (only for_claim seats.Binder dues.Bind refl)
+    (either for_claim seats.Binder (lacks_class c && list_any is_default_row rows) _ _ (only for_claim seats.Binder dues.AssignClass refl) (nothing for_claim seats.Binder)))
     (named_is c (row_at (volume_key c.volume_name) rows))))
 
 -- the provisioner's
@@ -129,18 +177,21 @@ by_class setup w c None o = nothing for_claim seats.Ops
 by_class setup w c (Some uid) None = nothing for_claim seats.Ops
 by_class setup w c (Some uid) (Some (Class x)) =
     either for_claim seats.Ops (not (provisions x)) _ _ (nothing for_claim seats.Ops)
-    (either for_claim seats.Ops x.delayed _ _ (delayed_is setup w c uid x (value_at selected_node c.meta.annotations)) (either for_claim seats.Ops (is_served setup w.devices c uid x None) _ _ (if_new w.store.rows uid) (nothing for_claim seats.Ops)))
+    (either for_claim seats.Ops x.delayed _ _ (delayed_is setup w c uid x (value_at selected_node c.meta.annotations))
+    (either for_claim seats.Ops (is_served setup w.devices c uid x None) _ _ (if_new w.store.rows uid) (nothing for_claim seats.Ops)))
 by_class setup w c (Some uid) (Some (Node x)) = nothing for_claim seats.Ops
 by_class setup w c (Some uid) (Some (Volume x)) = nothing for_claim seats.Ops
 by_class setup w c (Some uid) (Some (Claim x)) = nothing for_claim seats.Ops
 by_class setup w c (Some uid) (Some (Pod x)) = nothing for_claim seats.Ops
 
 provisions_are_ops : (setup : Setup) (w : World) (c : ClaimData) → IsFor for_claim seats.Ops (provision_due setup w c)
-provisions_are_ops setup w c = either for_claim seats.Ops (is_wanting c && not (has_match w.store.rows c)) _ _ (by_class setup w c c.meta.uid (row_at (class_key (class_of_claim c)) w.store.rows)) (nothing for_claim seats.Ops)
+provisions_are_ops setup w c = either for_claim seats.Ops (is_wanting c && not (has_match w.store.rows c)) _ _ (by_class setup w c c.meta.uid
+    (row_at (class_key (class_of_claim c)) w.store.rows)) (nothing for_claim seats.Ops)
 
 -- the reclaimer's
 reclaims_are_ops : (v : VolumeData) → IsFor for_volume seats.Ops (reclaim_due v)
-reclaims_are_ops v = either for_volume seats.Ops (is_ended v.phase && is_delete v.policy && is_some (ref_uid v.claim_ref) && not (is_deleting v.meta)) _ _ (only for_volume seats.Ops dues.Reclaim refl) (nothing for_volume seats.Ops)
+reclaims_are_ops v = either for_volume seats.Ops (is_ended v.phase && is_delete v.policy && is_some (ref_uid v.claim_ref) && not
+    (is_deleting v.meta)) _ _ (only for_volume seats.Ops dues.Reclaim refl) (nothing for_volume seats.Ops)
 
 -- the first of what is due
 
@@ -148,7 +199,8 @@ module _ (setup : Setup) (w : World) (action : Due) where
   for_kind : (o : Object) (kind other : SeatKind) → kind ≡ other → DueFor setup w o (of_kind other) → DueFor setup w o (of_kind kind)
   for_kind o kind other same due = subst (λ k. DueFor setup w o (of_kind k)) (sym same) due
 
-  of_volume : (v : VolumeData) (binder reclaimer guard : Option Due) → volume_due w.store.rows v ≡ binder → reclaim_due v ≡ reclaimer → volume_guard_due v ≡ guard → Some action ≡ or_due binder (or_due reclaimer guard)
+  of_volume : (v : VolumeData) (binder reclaimer guard : Option Due) → volume_due w.store.rows v ≡ binder → reclaim_due v ≡ reclaimer
+      → volume_guard_due v ≡ guard → Some action ≡ or_due binder (or_due reclaimer guard)
       → DueFor setup w (Volume v) (of_kind (for_volume action))
   unfolding or_due
   of_volume v (Some a) reclaimer guard e f g is =
@@ -156,13 +208,16 @@ module _ (setup : Setup) (w : World) (action : Due) where
   of_volume v None (Some a) guard e f g is =
       for_kind (Volume v) (for_volume action) seats.Ops ((reclaims_are_ops v).is action (f ∙ sym is)) (ForReclaimer v action (f ∙ sym is))
   of_volume v None None guard e f g is =
-      for_kind (Volume v) (for_volume action) seats.VolumeProtect ((guarded for_volume seats.VolumeProtect (is_deleting v.meta) (is_protected_volume v) (is_bound v.phase) refl refl).is action (g ∙ sym is)) (ForVolumeProtection v action (g ∙ sym is))
+      for_kind (Volume v) (for_volume action) seats.VolumeProtect
+      ((guarded for_volume seats.VolumeProtect (is_deleting v.meta) (is_protected_volume v) (is_bound v.phase) refl refl).is action (g ∙ sym is)) (ForVolumeProtection v action (g ∙ sym is))
 
-  of_claim : (c : ClaimData) (guard binder provisioner : Option Due) → claim_guard_due w.store.rows c ≡ guard → claim_due w.store.rows c ≡ binder → provision_due setup w c ≡ provisioner → Some action ≡ or_due guard (or_due binder provisioner)
+  of_claim : (c : ClaimData) (guard binder provisioner : Option Due) → claim_guard_due w.store.rows c ≡ guard → claim_due w.store.rows c ≡ binder
+      → provision_due setup w c ≡ provisioner → Some action ≡ or_due guard (or_due binder provisioner)
       → DueFor setup w (Claim c) (of_kind (for_claim action))
   unfolding or_due
   of_claim c (Some a) binder provisioner e f g is =
-      for_kind (Claim c) (for_claim action) seats.ClaimProtect ((guarded for_claim seats.ClaimProtect (is_deleting c.meta) (is_protected_claim c) (list_any (uses c) w.store.rows) refl refl).is action (e ∙ sym is))
+      for_kind (Claim c) (for_claim action) seats.ClaimProtect
+      ((guarded for_claim seats.ClaimProtect (is_deleting c.meta) (is_protected_claim c) (list_any (uses c) w.store.rows) refl refl).is action (e ∙ sym is))
       (ForClaimProtection c action (e ∙ sym is))
   of_claim c None (Some a) provisioner e f g is =
       for_kind (Claim c) (for_claim action) seats.Binder ((claims_are_binders w.store.rows c).is action (f ∙ sym is)) (ForBinderOfClaims c action (f ∙ sym is))

@@ -1,9 +1,9 @@
 -- In a drain each whole round that begins with something due, for an actor that is no stale agent, has an entry that lasts.
 use Rattle.std.proofs.Common.{◌≡◌, ◌∙◌, ℕ, List, Bool, true, false, true≢false, refl, sym, ap, subst, arith, if◌then◌else◌}
-use Rattle.kube_types.specs.declared.names.Due.{Due}
-use Rattle.kube_types.specs.declared.names.Due.TheVariants as dues
-use Rattle.kube_types.specs.declared.objects.Object.TheVariants.{Claim, Class, Node, Pod, Volume}
-use Rattle.kube_types.specs.Bindings.{is_scheduled}
+use Rattle.kube_parts.specs.declared.names.Due.{Due}
+use Rattle.kube_parts.specs.declared.names.Due.TheVariants as dues
+use Rattle.kube_objects.specs.declared.objects.Object.TheVariants.{Claim, Class, Node, Pod, Volume}
+use Rattle.kube_objects.specs.Bindings.{is_scheduled}
 use Rattle.call_types.specs.declared.entry.Entry.{Entry}
 use Rattle.call_types.specs.declared.request.SeatKind.{SeatKind}
 use Rattle.call_types.specs.declared.request.SeatKind.TheVariants as seats
@@ -80,20 +80,23 @@ pub passed_rounds_last : PassedRoundsLast
 passed_rounds_last setup ds after h past b left may only run round x = unsettled_rounds_last setup all_pass ds after h past b left may only run round x (λ seat s y g u v p own gives leads alike. refl)
 
 -- no further round comes where no call is left
-spent_round : (lets : Lets) (setup : Setup) (after : List Drainer) (past : List Entry) (left : ℕ) (ds : List Drainer) (h : List Entry) (b : ℕ) → b ≡ 0 → (drained : Drains lets setup after past left ds h b) → EachRoundLasts lets setup after past left ds h b drained
+spent_round : (lets : Lets) (setup : Setup) (after : List Drainer) (past : List Entry) (left : ℕ) (ds : List Drainer) (h : List Entry) (b : ℕ)
+    → b ≡ 0 → (drained : Drains lets setup after past left ds h b) → EachRoundLasts lets setup after past left ds h b drained
 spent_round lets setup after past left ds h b none (NothingDue settled same entries rest) = tt
 spent_round lets setup after past left ds h b none (IsSpent first due empty same entries rest) = tt
 spent_round lets setup after past left ds h b none (Goes first due some between middle rest whole round more) = absurd (omega (arith, none, some))
 
 module _ (setup : Setup) (after : List Drainer) (past : List Entry) (left : ℕ) (run : IsRunOf setup past) where
-  each_lasts : (ds : List Drainer) (h : List Entry) (b : ℕ) → MayDrain setup h ds → OnlyOvertakenAreSilent setup ds h → (drained : Drains all_pass setup after past left ds h b) → EachRoundLasts all_pass setup after past left ds h b drained
+  each_lasts : (ds : List Drainer) (h : List Entry) (b : ℕ) → MayDrain setup h ds → OnlyOvertakenAreSilent setup ds h
+      → (drained : Drains all_pass setup after past left ds h b) → EachRoundLasts all_pass setup after past left ds h b drained
   each_lasts ds h b may only (NothingDue settled same entries rest) = tt
   each_lasts ds h b may only (IsSpent first due none same entries rest) = tt
   each_lasts ds h b may only (Goes first due some between middle rest true round more) =
       let g = drains_grow all_pass setup after past left between middle rest more in
       let here = run_of_older setup g.longer.added middle past g.longer.are run in (
         λ whole x. passed_rounds_last setup ds between h middle b rest may only here round x,
-        each_lasts between middle rest (rounds_leave_drainers setup all_pass ds between h middle b rest may here round).0 (rounds_silence_the_overtaken setup all_pass ds between h middle b rest true here may.seats round only) more,
+        each_lasts between middle rest (rounds_leave_drainers setup all_pass ds between h middle b rest may here round).0
+            (rounds_silence_the_overtaken setup all_pass ds between h middle b rest true here may.seats round only) more,
       )
   each_lasts ds h b may only (Goes first due some between middle rest false round more) =
       (λ whole x. absurd (true≢false (sym whole)), spent_round all_pass setup after past left between middle rest (round_part all_pass middle rest ds h b between false round refl) more)

@@ -36,7 +36,14 @@ module _ (setup : Setup) (ds : List Drainer) (past : List Entry) (stand : AreSta
       absurd (true≢false (sym silent ∙ (ap (λ m. m.stale) (stand.each place d there).told.memory ∙ ap (λ es. (memory_of d.actor.role es).stale) (none_at ds past none place d there))))
 
   serves : (node : List ℕ) → SomeOf (λ n. n ≡ node) stand.roles.nodes → HasCurrent setup ds past node
-  serves node some = record { place = at.place; drainer = at.drainer; there = at.there; role = at.role_is; current = λ epoch told. none_some (sym (ap (last_epoch node) (none_at ds past none at.place at.drainer at.there)) ∙ told) }
+  serves node some = record {
+    place = at.place;
+    drainer = at.drainer;
+    there = at.there;
+    role = at.role_is;
+    current = λ epoch told. none_some
+        (sym (ap (last_epoch node) (none_at ds past none at.place at.drainer at.there)) ∙ told);
+  }
     where
       p : IsPlaced stand.roles.nodes node
       p = placed stand.roles.nodes node some

@@ -1,16 +1,16 @@
 -- Where a gate holds Mounts alone, each call for what is due passes that is no Mount that it holds. So a whole round has an entry that lasts.
 use Rattle.std.proofs.Common.{◌≡◌, ◌∙◌, ℕ, List, [], ◌∷◌, Bool, true, false, true≢false, Option, Some, None, inl, inr, refl, sym, ap, subst, if◌then◌else◌}
-use Rattle.kube_types.specs.declared.key.Key.{Key}
-use Rattle.kube_types.specs.declared.uid.Uid.{Uid}
-use Rattle.kube_types.specs.declared.names.Due.{Due}
-use Rattle.kube_types.specs.declared.names.Due.TheVariants as dues
-use Rattle.kube_types.specs.declared.objects.Pod.{Pod as PodData}
-use Rattle.kube_types.specs.declared.objects.Claim.{Claim as ClaimData}
-use Rattle.kube_types.specs.declared.objects.Object.{Object}
-use Rattle.kube_types.specs.declared.objects.Object.TheVariants.{Class, Node, Volume, Claim, Pod}
-use Rattle.kube_types.specs.Bindings.{is_deleting, is_scheduled}
-use Rattle.kube_types.specs.Keys.{row_at}
-use Rattle.kube_types.proofs.KeyOrder.{row_at_key}
+use Rattle.kube_objects.specs.declared.key.Key.{Key}
+use Rattle.kube_parts.specs.declared.uid.Uid.{Uid}
+use Rattle.kube_parts.specs.declared.names.Due.{Due}
+use Rattle.kube_parts.specs.declared.names.Due.TheVariants as dues
+use Rattle.kube_objects.specs.declared.objects.Pod.{Pod as PodData}
+use Rattle.kube_objects.specs.declared.objects.Claim.{Claim as ClaimData}
+use Rattle.kube_objects.specs.declared.objects.Object.{Object}
+use Rattle.kube_objects.specs.declared.objects.Object.TheVariants.{Class, Node, Volume, Claim, Pod}
+use Rattle.kube_objects.specs.Bindings.{is_deleting, is_scheduled}
+use Rattle.kube_objects.specs.Keys.{row_at}
+use Rattle.kube_objects.proofs.KeyOrder.{row_at_key}
 use Rattle.call_types.specs.declared.entry.Entry.{Entry}
 use Rattle.call_types.specs.declared.request.Request.{Request}
 use Rattle.call_types.specs.declared.request.SeatKind.TheVariants as seats
@@ -45,7 +45,8 @@ use Rattle.settle_progress.proofs.Drains.Rounds.{unsettled_rounds_last}
 alike_back : (old new : World) → AreAlike old new → AreAlike new old
 alike_back old new a = record { rows = sym a.rows; stored = sym a.stored; mounts = sym a.mounts }
 
-uid_alike : (old new : World) (namespace name : List ℕ) (uid : Uid) → AreAlike old new → uid_in (claim_named old.store.rows namespace name) ≡ Some uid → uid_in (claim_named new.store.rows namespace name) ≡ Some uid
+uid_alike : (old new : World) (namespace name : List ℕ) (uid : Uid) → AreAlike old new
+    → uid_in (claim_named old.store.rows namespace name) ≡ Some uid → uid_in (claim_named new.store.rows namespace name) ≡ Some uid
 uid_alike old new namespace name uid alike e = by (row_at (claim_key namespace name) old.store.rows) refl e
   where
     by : (x : Option Object) → row_at (claim_key namespace name) old.store.rows ≡ x → uid_in (claim_in x) ≡ Some uid → uid_in (claim_named new.store.rows namespace name) ≡ Some uid
@@ -58,7 +59,8 @@ uid_alike old new namespace name uid alike e = by (row_at (claim_key namespace n
     by (Some (Volume o)) there is = none_some is
     by (Some (Pod o)) there is = none_some is
 
-uids_alike : (old new : World) (namespace : List ℕ) (names : List (List ℕ)) (uids : List Uid) → AreAlike old new → AreUidsOf old.store.rows namespace names uids → AreUidsOf new.store.rows namespace names uids
+uids_alike : (old new : World) (namespace : List ℕ) (names : List (List ℕ)) (uids : List Uid) → AreAlike old new
+    → AreUidsOf old.store.rows namespace names uids → AreUidsOf new.store.rows namespace names uids
 uids_alike old new namespace [] [] alike are = tt
 uids_alike old new namespace [] (uid ∷ uids) alike are = absurd are
 uids_alike old new namespace (name ∷ names) [] alike are = absurd are
@@ -66,7 +68,8 @@ uids_alike old new namespace (name ∷ names) (uid ∷ uids) alike are = (uid_al
 
 -- ---- the calls of an agent for a pod
 
-module _ (setup : Setup) (lets : Lets) (seat : ℕ) (start : List Entry) (key : Key) (p : PodData) (action : Due) (there : row_at key (world setup start).store.rows ≡ Some (Pod p)) (scheduled : is_scheduled p ≡ true)
+module _ (setup : Setup) (lets : Lets) (seat : ℕ) (start : List Entry) (key : Key) (p : PodData) (action : Due)
+    (there : row_at key (world setup start).store.rows ≡ Some (Pod p)) (scheduled : is_scheduled p ≡ true)
     (due : agent_due (world setup start) p ≡ Some action) (holds : HoldsMountsAlone lets) (passes : LetsMountPass setup lets start (Pod p)) where
   -- what stays is not finished
   mount_is_due : is_deleting p.meta ≡ false → agent_due (world setup start) p ≡ Some dues.Mount
@@ -79,12 +82,15 @@ module _ (setup : Setup) (lets : Lets) (seat : ℕ) (start : List Entry) (key : 
   mounts_pass staying = passes (subst (λ b. IsPodDue setup (world setup start) p b (Some dues.Mount)) (sym scheduled) (sym (mount_is_due staying)))
 
   -- a Mount of the pod as it stands where the agent decides
-  passed : (h g : List Entry) (at : IsPodAt (row_at key (world setup h).store.rows) p) → AreAlike (world setup start) (world setup h) → AreAlike (world setup start) (world setup g) → (call : Request) → IsMountOf setup seat p.node (world setup h) at.pod g call → lets g call ≡ true
+  passed : (h g : List Entry) (at : IsPodAt (row_at key (world setup h).store.rows) p) → AreAlike (world setup start) (world setup h)
+      → AreAlike (world setup start) (world setup g) → (call : Request) → IsMountOf setup seat p.node (world setup h) at.pod g call → lets g call ≡ true
   passed h g at alike same call m =
       let staying : is_deleting p.meta ≡ false = ap (λ (x : PodData). is_deleting x.meta) (sym at.same) ∙ m.staying in
       let known : p.meta.uid ≡ Some m.uid = ap (λ (x : PodData). x.meta.uid) (sym at.same) ∙ m.known in
-      let here : AreUidsOf (world setup start).store.rows at.pod.meta.namespace at.pod.claims m.claims = uids_alike (world setup h) (world setup start) at.pod.meta.namespace at.pod.claims m.claims (alike_back (world setup start) (world setup h) alike) m.are in
-      let are : AreUidsOf (world setup start).store.rows p.meta.namespace p.claims m.claims = subst (λ (x : PodData). AreUidsOf (world setup start).store.rows x.meta.namespace x.claims m.claims) at.same here in
+      let here : AreUidsOf (world setup start).store.rows at.pod.meta.namespace at.pod.claims m.claims =
+      uids_alike (world setup h) (world setup start) at.pod.meta.namespace at.pod.claims m.claims (alike_back (world setup start) (world setup h) alike) m.are in
+      let are : AreUidsOf (world setup start).store.rows p.meta.namespace p.claims m.claims =
+      subst (λ (x : PodData). AreUidsOf (world setup start).store.rows x.meta.namespace x.claims m.claims) at.same here in
       subst (λ r. lets g r ≡ true) (sym m.is) (mounts_pass staying g m.epoch m.uid m.claims m.history same known are)
 
   pub agents_pass : CallsPass setup lets seat (agent_of p.node) start key
@@ -95,7 +101,8 @@ module _ (setup : Setup) (lets : Lets) (seat : ℕ) (start : List Entry) (key : 
 
       seen : row_at key (all_objects s.caches) ≡ Some (Pod at.pod)
       seen =
-          point.sees key (ap (λ (r : Role). follows r.kind key.kind) point.role_is ∙ ap (λ (k : Key). follows seats.Agent k.kind) (sym (row_at_key key (Pod at.pod) (world setup h).store.rows at.is))) ∙ at.is
+          point.sees key (ap (λ (r : Role). follows r.kind key.kind) point.role_is
+          ∙ ap (λ (k : Key). follows seats.Agent k.kind) (sym (row_at_key key (Pod at.pod) (world setup h).store.rows at.is))) ∙ at.is
 
       decided : IsAgentFirst p.node s.memory.epoch s.memory.mounts (Some (Pod at.pod)) (firsts.Begins u.task)
       decided =
@@ -113,7 +120,8 @@ module _ (setup : Setup) (lets : Lets) (seat : ℕ) (start : List Entry) (key : 
 
 -- ---- so what is due is done
 
-calls_pass : (setup : Setup) (lets : Lets) (seat : ℕ) (start : List Entry) (key : Key) (o : Object) (action : Due) → row_at key (world setup start).store.rows ≡ Some o → IsDue setup (world setup start) o (Some action) → HoldsMountsAlone lets
+calls_pass : (setup : Setup) (lets : Lets) (seat : ℕ) (start : List Entry) (key : Key) (o : Object) (action : Due)
+    → row_at key (world setup start).store.rows ≡ Some o → IsDue setup (world setup start) o (Some action) → HoldsMountsAlone lets
     → LetsMountPass setup lets start o → CallsPass setup lets seat (doer_of o action) start key
 calls_pass setup lets seat start key (Volume v) action there due holds passes = controllers_pass setup lets seat (of_kind (for_volume action)) start key (volumes_not action) holds
 calls_pass setup lets seat start key (Claim c) action there due holds passes = controllers_pass setup lets seat (of_kind (for_claim action)) start key (claims_not action) holds

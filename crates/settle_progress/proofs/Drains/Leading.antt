@@ -30,7 +30,8 @@ follows_so u next reply e = by_task (task_moved u.task reply) refl e
     by_task (Some t) moved h = by_call t (task_call t) moved refl h
 
 module _ (setup : Setup) (seat : ℕ) (kind : SeatKind) (Is : List Entry → Task → Type 0)
-    (moves : (h : List Entry) (t next : Task) (call : Request) → Is h t → task_call t ≡ Some call → task_moved t (reply_to (effect setup (world setup h) kind call)) ≡ Some next → Is (own_entry setup seat kind h call ∷ h) next) where
+    (moves : (h : List Entry) (t next : Task) (call : Request) → Is h t → task_call t ≡ Some call
+    → task_moved t (reply_to (effect setup (world setup h) kind call)) ≡ Some next → Is (own_entry setup seat kind h call ∷ h) next) where
   pub leads_keep : (h g : List Entry) (u v : Under) → Leads setup seat kind h u g v → Is h u.task → task_call u.task ≡ Some u.call → Is g v.task × (task_call v.task ≡ Some v.call)
   leads_keep h _ u _ Here is calls = (is, calls)
   leads_keep h g u v (On next follows more) is calls =

@@ -30,9 +30,11 @@ module _ (lets : Lets) (seat : ℕ) (after : ActorState) (past : List Entry) (le
   run_whole s h b (IsHeld given next request some ready turn held absorbs more) = run_whole _ _ _ more
 
 module _ (lets : Lets) (past : List Entry) (left : ℕ) where
-  round_stands : (ds : List Drainer) (h : List Entry) (b : ℕ) (after : List Drainer) (whole : Bool) → IsRound lets past left ds h b after whole → whole ≡ true → Differ (seats_of ds) → (place : ℕ) (x : Drainer) → slice_get after place ≡ Some x → IsStanding x past
+  round_stands : (ds : List Drainer) (h : List Entry) (b : ℕ) (after : List Drainer) (whole : Bool) → IsRound lets past left ds h b after whole
+      → whole ≡ true → Differ (seats_of ds) → (place : ℕ) (x : Drainer) → slice_get after place ≡ Some x → IsStanding x past
   round_stands _ h b _ _ (Ends entries rest) is_whole differ place x there = none_some there
-  round_stands _ h b _ _ (Turns {ds = ds} {after = after} {whole = whole} d ran middle rest idle seat run more) is_whole differ zero x there = subst (λ y. IsStanding y past) (one ran x there) (subst (λ n. StandsWhole ran.actor (own n past)) (sym seat) at_end)
+  round_stands _ h b _ _ (Turns {ds = ds} {after = after} {whole = whole} d ran middle rest idle seat run more) is_whole differ zero x there =
+      subst (λ y. IsStanding y past) (one ran x there) (subst (λ n. StandsWhole ran.actor (own n past)) (sym seat) at_end)
     where
       idle_run : Runs lets d.seat ran.actor middle rest true (woken d.actor) h b
       idle_run = subst (λ i. Runs lets d.seat ran.actor middle rest i (woken d.actor) h b) (and_parts idle whole is_whole).0 run
@@ -41,7 +43,8 @@ module _ (lets : Lets) (past : List Entry) (left : ℕ) where
       grown = let g = round_grows lets past left ds middle rest after whole more in record { made = g.made; longer = g.longer }
 
       at_end : StandsWhole ran.actor (own d.seat past)
-      at_end = subst (StandsWhole ran.actor) (sym (grown_others (seats_of ds) middle past grown d.seat (not_again d.seat (seats_of ds) differ))) (run_whole lets d.seat ran.actor middle rest (woken d.actor) h b idle_run)
+      at_end = subst (StandsWhole ran.actor) (sym (grown_others (seats_of ds) middle past grown d.seat (not_again d.seat (seats_of ds) differ)))
+          (run_whole lets d.seat ran.actor middle rest (woken d.actor) h b idle_run)
   round_stands _ h b _ _ (Turns {ds = ds} {after = after} {whole = whole} d ran middle rest idle seat run more) is_whole differ (suc place) x there =
       round_stands ds middle rest after whole more (and_parts idle whole is_whole).1 (others_differ d.seat (seats_of ds) differ) place x there
 

@@ -1,14 +1,14 @@
 -- A Mount to which an agent comes for a pod is of that pod, with the UIDs of its claims as they stand, in order: it has read each of them.
 use Rattle.std.proofs.Common.{◌≡◌, ◌∙◌, ℕ, List, [], ◌∷◌, ◌++◌, Bool, true, false, true≢false, Option, Some, None, refl, sym, ap, subst, length, if◌then◌else◌}
 use Rattle.std.specs.Prelude.{◌&&◌, bytes_eq, not, map, slice_get}
-use Rattle.kube_types.specs.declared.key.Key.{Key}
-use Rattle.kube_types.specs.declared.uid.Uid.{Uid}
-use Rattle.kube_types.specs.declared.objects.Claim.{Claim as ClaimData}
-use Rattle.kube_types.specs.declared.objects.Pod.{Pod as PodData}
-use Rattle.kube_types.specs.declared.objects.Object.{Object}
-use Rattle.kube_types.specs.declared.objects.Object.TheVariants.{Class, Node, Volume, Claim, Pod}
-use Rattle.kube_types.specs.Bindings.{carries, is_deleting, is_scheduled}
-use Rattle.kube_types.specs.Keys.{row_at}
+use Rattle.kube_objects.specs.declared.key.Key.{Key}
+use Rattle.kube_parts.specs.declared.uid.Uid.{Uid}
+use Rattle.kube_objects.specs.declared.objects.Claim.{Claim as ClaimData}
+use Rattle.kube_objects.specs.declared.objects.Pod.{Pod as PodData}
+use Rattle.kube_objects.specs.declared.objects.Object.{Object}
+use Rattle.kube_objects.specs.declared.objects.Object.TheVariants.{Class, Node, Volume, Claim, Pod}
+use Rattle.kube_objects.specs.Bindings.{carries, is_deleting, is_scheduled}
+use Rattle.kube_objects.specs.Keys.{row_at}
 use Rattle.call_types.specs.declared.entry.Entry.{Entry}
 use Rattle.call_types.specs.declared.reply.MountRow.{MountRow}
 use Rattle.call_types.specs.declared.reply.Reply.{Reply}
@@ -26,7 +26,25 @@ use Rattle.node_agent.specs.declared.agent.AgentOp.{AgentOp}
 use Rattle.node_agent.specs.declared.step.AgentStep.{AgentStep}
 use Rattle.node_agent.specs.declared.step.AgentStep.TheVariants as steps
 use Rattle.node_agent.specs.declared.step.ReadyClaim.{ReadyClaim}
-use Rattle.node_agent.specs.Agents.{agent_after, agent_call, agent_call_at, agent_known, agent_moved, after_last, after_mounts, after_unmount, at_start, is_agent_ready, is_claim_read, is_volume_read, next_step, ready_by, ready_claim, step_for, uids_of}
+use Rattle.node_agent.specs.Agents.{
+  agent_after,
+  agent_call,
+  agent_call_at,
+  agent_known,
+  agent_moved,
+  after_last,
+  after_mounts,
+  after_unmount,
+  at_start,
+  is_agent_ready,
+  is_claim_read,
+  is_volume_read,
+  next_step,
+  ready_by,
+  ready_claim,
+  step_for,
+  uids_of,
+}
 use Rattle.worker_core.specs.declared.task.First.{First}
 use Rattle.worker_core.specs.declared.task.First.TheVariants as firsts
 use Rattle.worker_core.specs.declared.task.Task.{Task}
@@ -55,7 +73,8 @@ names_whole : (ready : List ReadyClaim) → names_in ready ++ [] ≡ names_in re
 names_whole [] = refl
 names_whole (r ∷ ready) = ap (λ names. r.claim ∷ names) (names_whole ready)
 
-uids_on : (rows : List Object) (namespace : List ℕ) (ready : List ReadyClaim) (r : ReadyClaim) → AreUidsOf rows namespace (names_in ready) (uids_of ready) → uid_in (claim_named rows namespace r.claim) ≡ Some r.uid
+uids_on : (rows : List Object) (namespace : List ℕ) (ready : List ReadyClaim) (r : ReadyClaim)
+    → AreUidsOf rows namespace (names_in ready) (uids_of ready) → uid_in (claim_named rows namespace r.claim) ≡ Some r.uid
     → AreUidsOf rows namespace (names_in (ready ++ r ∷ [])) (uids_of (ready ++ r ∷ []))
 uids_on rows namespace [] r are is = (is, tt)
 uids_on rows namespace (y ∷ ready) r are is = (are.0, uids_on rows namespace ready r are.1 is)
@@ -72,9 +91,11 @@ ends step = true
 module _ (setup : Setup) (seat : ℕ) (node : List ℕ) (w : World) (p : PodData) where
   -- the next claim is read, if there is one; its volume is read; or the agent does not mount
   pub data Comes (h : List Entry) (op : AgentOp) : Type 0 where
-    Reads : (rest : List (List ℕ)) → world setup h ≡ w → is_deleting p.meta ≡ false → p.claims ≡ names_in op.ready ++ rest → AreUidsOf w.store.rows p.meta.namespace (names_in op.ready) (uids_of op.ready)
+    Reads : (rest : List (List ℕ)) → world setup h ≡ w → is_deleting p.meta ≡ false → p.claims ≡ names_in op.ready ++ rest
+        → AreUidsOf w.store.rows p.meta.namespace (names_in op.ready) (uids_of op.ready)
         → op.step ≡ next_step op.ready (slice_get rest 0) → Comes h op
-    ReadsOf : (name : List ℕ) (rest : List (List ℕ)) (c : ClaimData) → world setup h ≡ w → is_deleting p.meta ≡ false → p.claims ≡ names_in op.ready ++ (name ∷ rest) → AreUidsOf w.store.rows p.meta.namespace (names_in op.ready) (uids_of op.ready)
+    ReadsOf : (name : List ℕ) (rest : List (List ℕ)) (c : ClaimData) → world setup h ≡ w → is_deleting p.meta ≡ false
+        → p.claims ≡ names_in op.ready ++ (name ∷ rest) → AreUidsOf w.store.rows p.meta.namespace (names_in op.ready) (uids_of op.ready)
         → row_at (claim_key p.meta.namespace name) w.store.rows ≡ Some (Claim c) → op.step ≡ steps.ReadsVolume name c → Comes h op
     Ends : ends op.step ≡ true → Comes h op
 
@@ -95,7 +116,8 @@ module _ (setup : Setup) (seat : ℕ) (node : List ℕ) (w : World) (p : PodData
   task_in (firsts.Begins t) = Some t
   task_in first = None
 
-  pub begun : (h : List Entry) (epoch : Option ℕ) (rows : Option (List MountRow)) (t : Task) → IsHistory setup h → world setup h ≡ w → IsAgentFirst node epoch rows (Some (Pod p)) (firsts.Begins t) → IsOnWay h t
+  pub begun : (h : List Entry) (epoch : Option ℕ) (rows : Option (List MountRow)) (t : Task) → IsHistory setup h → world setup h ≡ w
+      → IsAgentFirst node epoch rows (Some (Pod p)) (firsts.Begins t) → IsOnWay h t
   begun h None rows t history same first = absurd first
   begun h (Some epoch) None t history same first = absurd first
   begun h (Some epoch) (Some rows) t history same first = by_node (is_scheduled p && bytes_eq p.node node) first
@@ -104,10 +126,12 @@ module _ (setup : Setup) (seat : ℕ) (node : List ℕ) (w : World) (p : PodData
       begins op is e = subst (IsOnWay h) (one (tasks.Agent op) t (sym (ap task_in e))) is
 
       by_mount : (uid : Uid) (deleting mounted : Bool) → p.meta.uid ≡ Some uid → is_deleting p.meta ≡ deleting
-          → firsts.Begins t ≡ agent_first (if deleting then Some (at_start node epoch p uid steps.Unmounts) else if mounted then None else Some (at_start node epoch p uid (step_for p []))) → IsOnWay h t
+          → firsts.Begins t ≡ agent_first (if deleting then Some (at_start node epoch p uid steps.Unmounts) else if mounted then None else Some
+          (at_start node epoch p uid (step_for p []))) → IsOnWay h t
       by_mount uid true mounted known is e = begins (at_start node epoch p uid steps.Unmounts) (record { history = history; on = refl; pod = refl; known = known; comes = Ends refl }) e
       by_mount uid false true known is e = none_some (sym (ap task_in e))
-      by_mount uid false false known is e = begins (at_start node epoch p uid (step_for p [])) (record { history = history; on = refl; pod = refl; known = known; comes = Reads p.claims same is refl tt refl }) e
+      by_mount uid false false known is e = begins (at_start node epoch p uid (step_for p [])) (record
+          { history = history; on = refl; pod = refl; known = known; comes = Reads p.claims same is refl tt refl }) e
 
       by_uid : (uid : Option Uid) → p.meta.uid ≡ uid → firsts.Begins t ≡ agent_first (agent_known node epoch rows p uid) → IsOnWay h t
       by_uid None known e = none_some (sym (ap task_in e))
@@ -153,7 +177,8 @@ module _ (setup : Setup) (seat : ℕ) (node : List ℕ) (w : World) (p : PodData
   ended h op steps.MountsPod reply e = absurd (true≢false (sym e))
 
   -- the claim was read
-  claim_read : (h : List Entry) (op : AgentOp) (name : List ℕ) (rest : List (List ℕ)) (x : Option Object) → world setup h ≡ w → is_deleting p.meta ≡ false → p.claims ≡ names_in op.ready ++ (name ∷ rest) → AreUidsOf w.store.rows p.meta.namespace (names_in op.ready) (uids_of op.ready)
+  claim_read : (h : List Entry) (op : AgentOp) (name : List ℕ) (rest : List (List ℕ)) (x : Option Object) → world setup h ≡ w
+      → is_deleting p.meta ≡ false → p.claims ≡ names_in op.ready ++ (name ∷ rest) → AreUidsOf w.store.rows p.meta.namespace (names_in op.ready) (uids_of op.ready)
       → row_at (claim_key p.meta.namespace name) w.store.rows ≡ x → Comes h (agent_after op (steps.ReadsClaim name) None (got x))
   claim_read h op name rest (Some (Claim c)) same staying split are there = by (is_agent_ready c && not (is_volume_read c.volume_name op.ready))
     where
@@ -167,7 +192,8 @@ module _ (setup : Setup) (seat : ℕ) (node : List ℕ) (w : World) (p : PodData
   claim_read h op name rest (Some (Pod o)) same staying split are there = Ends refl
 
   -- and its volume
-  volume_read : (h : List Entry) (op : AgentOp) (name : List ℕ) (rest : List (List ℕ)) (c : ClaimData) (x : Option Object) → op.pod ≡ p → world setup h ≡ w → is_deleting p.meta ≡ false → p.claims ≡ names_in op.ready ++ (name ∷ rest)
+  volume_read : (h : List Entry) (op : AgentOp) (name : List ℕ) (rest : List (List ℕ)) (c : ClaimData) (x : Option Object) → op.pod ≡ p
+      → world setup h ≡ w → is_deleting p.meta ≡ false → p.claims ≡ names_in op.ready ++ (name ∷ rest)
       → AreUidsOf w.store.rows p.meta.namespace (names_in op.ready) (uids_of op.ready) → row_at (claim_key p.meta.namespace name) w.store.rows ≡ Some (Claim c)
       → Comes h (agent_after op (steps.ReadsVolume name c) (ready_by (steps.ReadsVolume name c) (got x)) (got x))
   volume_read h op name rest c (Some (Volume v)) pod same staying split are there = by (carries v c) c.meta.uid refl
@@ -175,7 +201,8 @@ module _ (setup : Setup) (seat : ℕ) (node : List ℕ) (w : World) (p : PodData
       counted : (r : ReadyClaim) → r.claim ≡ name → c.meta.uid ≡ Some r.uid → Comes h (record op { ready = op.ready ++ r ∷ []; step = step_for op.pod (op.ready ++ r ∷ []) })
       counted r named known =
           let whole : p.claims ≡ names_in (op.ready ++ r ∷ []) ++ rest = split ∙ (ap (λ n. names_in op.ready ++ (n ∷ rest)) (sym named) ∙ names_on op.ready r rest) in
-          let uid : uid_in (claim_named w.store.rows p.meta.namespace r.claim) ≡ Some r.uid = ap (λ n. uid_in (claim_named w.store.rows p.meta.namespace n)) named ∙ (ap (λ o. uid_in (claim_in o)) there ∙ known) in
+          let uid : uid_in (claim_named w.store.rows p.meta.namespace r.claim) ≡ Some r.uid =
+          ap (λ n. uid_in (claim_named w.store.rows p.meta.namespace n)) named ∙ (ap (λ o. uid_in (claim_in o)) there ∙ known) in
           Reads rest same staying whole (uids_on w.store.rows p.meta.namespace op.ready r are uid)
           (ap (λ (q : PodData). step_for q (op.ready ++ r ∷ [])) pod
           ∙ ap (next_step (op.ready ++ r ∷ [])) (ap (λ names. slice_get names (length (op.ready ++ r ∷ []))) whole ∙ name_after (op.ready ++ r ∷ []) rest))
@@ -197,7 +224,8 @@ module _ (setup : Setup) (seat : ℕ) (node : List ℕ) (w : World) (p : PodData
   got_so : (h : List Entry) (key : Key) → world setup h ≡ w → answer h (requests.Get key) ≡ got (row_at key w.store.rows)
   got_so h key same = get_said setup (world setup h) seats.Agent key ∙ ap (λ (x : World). got (row_at key x.store.rows)) same
 
-  claim_asked : (h : List Entry) (op : AgentOp) (name : List ℕ) (rest : List (List ℕ)) (call : Request) → op.pod ≡ p → world setup h ≡ w → is_deleting p.meta ≡ false → p.claims ≡ names_in op.ready ++ (name ∷ rest) → AreUidsOf w.store.rows p.meta.namespace (names_in op.ready) (uids_of op.ready)
+  claim_asked : (h : List Entry) (op : AgentOp) (name : List ℕ) (rest : List (List ℕ)) (call : Request) → op.pod ≡ p → world setup h ≡ w
+      → is_deleting p.meta ≡ false → p.claims ≡ names_in op.ready ++ (name ∷ rest) → AreUidsOf w.store.rows p.meta.namespace (names_in op.ready) (uids_of op.ready)
       → agent_call_at op (steps.ReadsClaim name) ≡ Some call → After h op (steps.ReadsClaim name) call
   claim_asked h op name rest call pod same staying split are calls = subst (After h op (steps.ReadsClaim name)) asks read
     where
@@ -212,7 +240,8 @@ module _ (setup : Setup) (seat : ℕ) (node : List ℕ) (w : World) (p : PodData
           subst (λ reply. Comes (on_with h (requests.Get key)) (agent_after op (steps.ReadsClaim name) None reply)) (sym (got_so h key same))
           (claim_read (on_with h (requests.Get key)) op name rest (row_at key w.store.rows) (get_stays setup (world setup h) seats.Agent key ∙ same) staying split are refl)
 
-  volume_asked : (h : List Entry) (op : AgentOp) (name : List ℕ) (rest : List (List ℕ)) (c : ClaimData) (call : Request) → op.pod ≡ p → world setup h ≡ w → is_deleting p.meta ≡ false → p.claims ≡ names_in op.ready ++ (name ∷ rest)
+  volume_asked : (h : List Entry) (op : AgentOp) (name : List ℕ) (rest : List (List ℕ)) (c : ClaimData) (call : Request) → op.pod ≡ p
+      → world setup h ≡ w → is_deleting p.meta ≡ false → p.claims ≡ names_in op.ready ++ (name ∷ rest)
       → AreUidsOf w.store.rows p.meta.namespace (names_in op.ready) (uids_of op.ready) → row_at (claim_key p.meta.namespace name) w.store.rows ≡ Some (Claim c)
       → agent_call_at op (steps.ReadsVolume name c) ≡ Some call → After h op (steps.ReadsVolume name c) call
   volume_asked h op name rest c call pod same staying split are there calls = subst (After h op (steps.ReadsVolume name c)) (one _ call calls) read
@@ -225,7 +254,8 @@ module _ (setup : Setup) (seat : ℕ) (node : List ℕ) (w : World) (p : PodData
           subst (λ reply. Comes (on_with h (requests.Get key)) (agent_after op (steps.ReadsVolume name c) (ready_by (steps.ReadsVolume name c) reply) reply)) (sym (got_so h key same))
           (volume_read (on_with h (requests.Get key)) op name rest c (row_at key w.store.rows) pod (get_stays setup (world setup h) seats.Agent key ∙ same) staying split are there)
 
-  next_asked : (h : List Entry) (op : AgentOp) (rest : List (List ℕ)) (call : Request) → op.pod ≡ p → world setup h ≡ w → is_deleting p.meta ≡ false → p.claims ≡ names_in op.ready ++ rest → AreUidsOf w.store.rows p.meta.namespace (names_in op.ready) (uids_of op.ready)
+  next_asked : (h : List Entry) (op : AgentOp) (rest : List (List ℕ)) (call : Request) → op.pod ≡ p → world setup h ≡ w → is_deleting p.meta ≡ false
+      → p.claims ≡ names_in op.ready ++ rest → AreUidsOf w.store.rows p.meta.namespace (names_in op.ready) (uids_of op.ready)
       → agent_call_at op (next_step op.ready (slice_get rest 0)) ≡ Some call → After h op (next_step op.ready (slice_get rest 0)) call
   next_asked h op [] call pod same staying split are calls = Ends (ends_last (answer h call))
   next_asked h op (name ∷ rest) call pod same staying split are calls = by (is_claim_read name op.ready) calls
@@ -242,7 +272,8 @@ module _ (setup : Setup) (seat : ℕ) (node : List ℕ) (w : World) (p : PodData
       subst (λ st. After h op st call) (sym step) (volume_asked h op name rest c call pod same staying split are there (sym (ap (agent_call_at op) step) ∙ calls))
 
   -- the node, the pod and its UID stay
-  still : (h new : List Entry) (op : AgentOp) (step : AgentStep) (x : Option ReadyClaim) (reply : Reply) → IsHistory setup new → IsFor h op → Comes new (agent_after op step x reply) → IsFor new (agent_after op step x reply)
+  still : (h new : List Entry) (op : AgentOp) (step : AgentStep) (x : Option ReadyClaim) (reply : Reply) → IsHistory setup new → IsFor h op
+      → Comes new (agent_after op step x reply) → IsFor new (agent_after op step x reply)
   still h new op step None reply history is comes = record { history = history; on = is.on; pod = is.pod; known = is.known; comes = comes }
   still h new op step (Some r) reply history is comes = record { history = history; on = is.on; pod = is.pod; known = is.known; comes = comes }
 
@@ -280,7 +311,8 @@ module _ (setup : Setup) (seat : ℕ) (node : List ℕ) (w : World) (p : PodData
   unfolding agent_call
   mounts_so h op call is calls mount = by is.comes
     where
-      whole : is_deleting p.meta ≡ false → p.claims ≡ names_in op.ready ++ [] → AreUidsOf w.store.rows p.meta.namespace (names_in op.ready) (uids_of op.ready) → op.step ≡ steps.MountsPod → IsMountOf h call
+      whole : is_deleting p.meta ≡ false → p.claims ≡ names_in op.ready ++ []
+          → AreUidsOf w.store.rows p.meta.namespace (names_in op.ready) (uids_of op.ready) → op.step ≡ steps.MountsPod → IsMountOf h call
       whole staying split are step = record {
         history = is.history;
         staying = staying;
@@ -299,7 +331,8 @@ module _ (setup : Setup) (seat : ℕ) (node : List ℕ) (w : World) (p : PodData
       by_next name true e = none_some e
       by_next name false e = no_read _ e
 
-      by_rest : (rest : List (List ℕ)) → is_deleting p.meta ≡ false → p.claims ≡ names_in op.ready ++ rest → AreUidsOf w.store.rows p.meta.namespace (names_in op.ready) (uids_of op.ready) → op.step ≡ next_step op.ready (slice_get rest 0) → IsMountOf h call
+      by_rest : (rest : List (List ℕ)) → is_deleting p.meta ≡ false → p.claims ≡ names_in op.ready ++ rest
+          → AreUidsOf w.store.rows p.meta.namespace (names_in op.ready) (uids_of op.ready) → op.step ≡ next_step op.ready (slice_get rest 0) → IsMountOf h call
       by_rest [] staying split are step = whole staying split are step
       by_rest (name ∷ rest) staying split are step = by_next name (is_claim_read name op.ready) (sym (ap (agent_call_at op) step) ∙ calls)
 

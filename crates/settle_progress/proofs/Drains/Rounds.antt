@@ -2,10 +2,10 @@
 use Rattle.std.proofs.Common.{◌≡◌, ◌≢◌, ◌∙◌, ℕ, zero, suc, List, Bool, true, false, true≢false, Option, Some, None, refl, sym, ap, subst}
 use Rattle.std.specs.Prelude.{option_map, slice_get, ⊤}
 use Rattle.std.proofs.lemmas.Bool.{and_parts}
-use Rattle.kube_types.specs.declared.key.Key.{Key}
-use Rattle.kube_types.specs.declared.objects.Object.{Object}
-use Rattle.kube_types.specs.Keys.{key_of, row_at}
-use Rattle.kube_types.proofs.KeyOrder.{row_at_key}
+use Rattle.kube_objects.specs.declared.key.Key.{Key}
+use Rattle.kube_objects.specs.declared.objects.Object.{Object}
+use Rattle.kube_objects.specs.Keys.{key_of, row_at}
+use Rattle.kube_objects.proofs.KeyOrder.{row_at_key}
 use Rattle.call_types.specs.declared.entry.Entry.{Entry}
 use Rattle.call_types.specs.declared.request.SeatKind.{SeatKind}
 use Rattle.call_types.specs.declared.request.SeatKind.TheVariants as seats
@@ -39,7 +39,20 @@ use Rattle.settle_progress.specs.Agents.Rounds.{HasAwake}
 use Rattle.settle_progress.proofs.Agents.Mounting.{agents_act}
 use Rattle.settle_progress.proofs.Agents.Rounds.{agent_rounds_last}
 use Rattle.settle_progress.proofs.Rounds.Rounds.{rounds_last}
-use Rattle.settle_progress.specs.Drains.Rounds.{DueRoundsLast, ForAgent, ForBinder, ForBinderOfClaims, ForClaimProtection, ForProvisioner, ForReclaimer, ForScheduler, ForVolumeProtection, HasCurrent, UnsettledRoundsLast, doer_of}
+use Rattle.settle_progress.specs.Drains.Rounds.{
+  DueRoundsLast,
+  ForAgent,
+  ForBinder,
+  ForBinderOfClaims,
+  ForClaimProtection,
+  ForProvisioner,
+  ForReclaimer,
+  ForScheduler,
+  ForVolumeProtection,
+  HasCurrent,
+  UnsettledRoundsLast,
+  doer_of,
+}
 use Rattle.settle_progress.specs.Drains.Settling.{MayDrain}
 use Rattle.settle_progress.proofs.Drains.Doers.{due_is_for}
 
@@ -94,14 +107,17 @@ controllers_built seats.Agent is = absurd is
 
 -- no actor but an agent is silent at the end of a whole round
 module _ (lets : Lets) (past : List Entry) (left : ℕ) where
-  awake_in : (ds : List Drainer) (h : List Entry) (b : ℕ) (after : List Drainer) (whole : Bool) → IsRound lets past left ds h b after whole → whole ≡ true → (place : ℕ) (d x : Drainer) → slice_get ds place ≡ Some d → slice_get after place ≡ Some x
+  awake_in : (ds : List Drainer) (h : List Entry) (b : ℕ) (after : List Drainer) (whole : Bool) → IsRound lets past left ds h b after whole
+      → whole ≡ true → (place : ℕ) (d x : Drainer) → slice_get ds place ≡ Some d → slice_get after place ≡ Some x
       → d.actor.role.kind ≢ seats.Agent → x.actor.memory.stale ≡ false
   awake_in _ h b _ _ (Ends entries rest) is_whole place d x there ran_there other = none_some there
   awake_in _ h b _ _ (Turns {ds = ds} {after = after} {whole = whole} first ran middle rest idle seat run more) is_whole zero d x there ran_there other =
       let same : first ≡ d = one first d there in
       let ran_same : ran ≡ x = one ran x ran_there in
-      let idle_run : Runs lets first.seat ran.actor middle rest true (woken first.actor) h b = subst (λ i. Runs lets first.seat ran.actor middle rest i (woken first.actor) h b) (and_parts idle whole is_whole).0 run in
-      ap (λ (y : Drainer). y.actor.memory.stale) (sym ran_same) ∙ others_stay_awake lets first.seat (woken first.actor) ran.actor h middle b rest (subst (λ (y : Drainer). y.actor.role.kind ≢ seats.Agent) (sym same) other) idle_run
+      let idle_run : Runs lets first.seat ran.actor middle rest true (woken first.actor) h b =
+      subst (λ i. Runs lets first.seat ran.actor middle rest i (woken first.actor) h b) (and_parts idle whole is_whole).0 run in
+      ap (λ (y : Drainer). y.actor.memory.stale) (sym ran_same)
+      ∙ others_stay_awake lets first.seat (woken first.actor) ran.actor h middle b rest (subst (λ (y : Drainer). y.actor.role.kind ≢ seats.Agent) (sym same) other) idle_run
   awake_in _ h b _ _ (Turns {ds = ds} {after = after} {whole = whole} first ran middle rest idle seat run more) is_whole (suc place) d x there ran_there other =
       awake_in ds middle rest after whole more (and_parts idle whole is_whole).1 place d x there ran_there other
 
@@ -109,9 +125,11 @@ module _ (lets : Lets) (past : List Entry) (left : ℕ) where
 pub followed_by : (kind : SeatKind) (key : Key) (o : Object) (rows : List Object) → row_at key rows ≡ Some o → follows kind (key_of o).kind ≡ true → follows kind key.kind ≡ true
 followed_by kind key o rows there is = ap (λ (k : Key). follows kind k.kind) (sym (row_at_key key o rows there)) ∙ is
 
-module _ (setup : Setup) (lets : Lets) (ds after : List Drainer) (h past : List Entry) (b left : ℕ) (run : IsRunOf setup past) (round : IsRound lets past left ds h b after true) (key : Key) (o : Object) (stands : row_at key (world setup h).store.rows ≡ Some o) where
+module _ (setup : Setup) (lets : Lets) (ds after : List Drainer) (h past : List Entry) (b left : ℕ) (run : IsRunOf setup past)
+    (round : IsRound lets past left ds h b after true) (key : Key) (o : Object) (stands : row_at key (world setup h).store.rows ≡ Some o) where
   -- a drainer that serves no node acts
-  pub kind_lasts : (kind : SeatKind) → IsBuiltKind kind → kind ≢ seats.Agent → HasRole ds (of_kind kind) → follows kind (key_of o).kind ≡ true → ((seat : ℕ) → CallsPass setup lets seat (of_kind kind) h key) → ((seat : ℕ) → WouldActOn setup seat (of_kind kind) h key) → HasLasting setup h past
+  pub kind_lasts : (kind : SeatKind) → IsBuiltKind kind → kind ≢ seats.Agent → HasRole ds (of_kind kind) → follows kind (key_of o).kind ≡ true
+      → ((seat : ℕ) → CallsPass setup lets seat (of_kind kind) h key) → ((seat : ℕ) → WouldActOn setup seat (of_kind kind) h key) → HasLasting setup h past
   kind_lasts kind built other at followed passes would =
       rounds_last setup lets ds after h past b left (runs_are_histories setup past run.run) round (record {
         place = at.place;
@@ -130,32 +148,48 @@ module _ (setup : Setup) (lets : Lets) (ds after : List Drainer) (h past : List 
       kind_is : at.drainer.actor.role.kind ≡ kind
       kind_is = ap (λ (r : Role). r.kind) at.role_is
 
-module _ (setup : Setup) (lets : Lets) (ds after : List Drainer) (h past : List Entry) (b left : ℕ) (may : MayDrain setup h ds) (run : IsRunOf setup past) (round : IsRound lets past left ds h b after true) (key : Key) (o : Object) (stands : row_at key (world setup h).store.rows ≡ Some o) where
+module _ (setup : Setup) (lets : Lets) (ds after : List Drainer) (h past : List Entry) (b left : ℕ) (may : MayDrain setup h ds)
+    (run : IsRunOf setup past) (round : IsRound lets past left ds h b after true) (key : Key) (o : Object) (stands : row_at key (world setup h).store.rows ≡ Some o) where
   -- a controller acts
-  controller_lasts : (kind : SeatKind) → IsController kind → follows kind (key_of o).kind ≡ true → ((seat : ℕ) → CallsPass setup lets seat (of_kind kind) h key) → ((seat : ℕ) → WouldActOn setup seat (of_kind kind) h key) → HasLasting setup h past
+  controller_lasts : (kind : SeatKind) → IsController kind → follows kind (key_of o).kind ≡ true
+      → ((seat : ℕ) → CallsPass setup lets seat (of_kind kind) h key) → ((seat : ℕ) → WouldActOn setup seat (of_kind kind) h key) → HasLasting setup h past
   controller_lasts kind is followed passes would =
       let kinds = controllers_built kind is in
       kind_lasts setup lets ds after h past b left run round key o stands kind kinds.0 kinds.1 (controller_at ds may.stand.roles.nodes may.stand.roles.are kind is) followed passes would
 
 -- an agent whose epoch is its node's is no stale one
 awake_of : (setup : Setup) (ds : List Drainer) (h : List Entry) (node : List ℕ) → OnlyOvertakenAreSilent setup ds h → HasCurrent setup ds h node → HasAwake setup ds h node
-awake_of setup ds h node only a = record { place = a.place; drainer = a.drainer; there = a.there; role = a.role; awake = current_are_awake setup ds h a.place a.drainer node only a.there a.role a.current }
+awake_of setup ds h node only a = record {
+  place = a.place;
+  drainer = a.drainer;
+  there = a.there;
+  role = a.role;
+  awake = current_are_awake setup ds h
+      a.place a.drainer node only a.there a.role a.current;
+}
 
 pub due_rounds_last : DueRoundsLast
 due_rounds_last setup lets ds after h past b left key _ _ may only run round there (ForReclaimer v action due) passes doer =
-    controller_lasts setup lets ds after h past b left may run round key _ there seats.Ops tt refl passes (λ seat. reclaims_act setup seat (of_kind seats.Ops) h key v action may.run.imports refl there due)
+    controller_lasts setup lets ds after h past b left may run round key _ there seats.Ops tt refl passes
+    (λ seat. reclaims_act setup seat (of_kind seats.Ops) h key v action may.run.imports refl there due)
 due_rounds_last setup lets ds after h past b left key _ _ may only run round there (ForProvisioner c action due) passes doer =
-    controller_lasts setup lets ds after h past b left may run round key _ there seats.Ops tt refl passes (λ seat. provisioner_acts action setup seat (of_kind seats.Ops) h key c may.run.imports refl there due)
+    controller_lasts setup lets ds after h past b left may run round key _ there seats.Ops tt refl passes
+    (λ seat. provisioner_acts action setup seat (of_kind seats.Ops) h key c may.run.imports refl there due)
 due_rounds_last setup lets ds after h past b left key _ _ may only run round there (ForBinder v action due) passes doer =
-    controller_lasts setup lets ds after h past b left may run round key _ there seats.Binder tt refl passes (λ seat. volumes_act setup seat (of_kind seats.Binder) h key v action may.run.imports refl there due)
+    controller_lasts setup lets ds after h past b left may run round key _ there seats.Binder tt refl passes
+    (λ seat. volumes_act setup seat (of_kind seats.Binder) h key v action may.run.imports refl there due)
 due_rounds_last setup lets ds after h past b left key _ _ may only run round there (ForBinderOfClaims c action due) passes doer =
-    controller_lasts setup lets ds after h past b left may run round key _ there seats.Binder tt refl passes (λ seat. claims_act setup seat (of_kind seats.Binder) h key c action may.run.imports refl there due)
+    controller_lasts setup lets ds after h past b left may run round key _ there seats.Binder tt refl passes
+    (λ seat. claims_act setup seat (of_kind seats.Binder) h key c action may.run.imports refl there due)
 due_rounds_last setup lets ds after h past b left key _ _ may only run round there (ForClaimProtection c action due) passes doer =
-    controller_lasts setup lets ds after h past b left may run round key _ there seats.ClaimProtect tt refl passes (λ seat. claim_guards_act setup seat (of_kind seats.ClaimProtect) h key c action may.run.imports refl there due)
+    controller_lasts setup lets ds after h past b left may run round key _ there seats.ClaimProtect tt refl passes
+    (λ seat. claim_guards_act setup seat (of_kind seats.ClaimProtect) h key c action may.run.imports refl there due)
 due_rounds_last setup lets ds after h past b left key _ _ may only run round there (ForVolumeProtection v action due) passes doer =
-    controller_lasts setup lets ds after h past b left may run round key _ there seats.VolumeProtect tt refl passes (λ seat. volume_guards_act setup seat (of_kind seats.VolumeProtect) h key v action may.run.imports refl there due)
+    controller_lasts setup lets ds after h past b left may run round key _ there seats.VolumeProtect tt refl passes
+    (λ seat. volume_guards_act setup seat (of_kind seats.VolumeProtect) h key v action may.run.imports refl there due)
 due_rounds_last setup lets ds after h past b left key _ _ may only run round there (ForScheduler p action open_ due) passes doer =
-    controller_lasts setup lets ds after h past b left may run round key _ there seats.Scheduler tt refl passes (λ seat. pods_act setup seat (of_kind seats.Scheduler) h key p action may.run.imports refl there open_ due)
+    controller_lasts setup lets ds after h past b left may run round key _ there seats.Scheduler tt refl passes
+    (λ seat. pods_act setup seat (of_kind seats.Scheduler) h key p action may.run.imports refl there open_ due)
 due_rounds_last setup lets ds after h past b left key _ _ may only run round there (ForAgent p action scheduled due) passes doer =
     agent_rounds_last setup lets ds after h past b left run may.stand.roles round (record {
       node = p.node;

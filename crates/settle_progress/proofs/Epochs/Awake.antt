@@ -2,15 +2,15 @@
 use Rattle.std.proofs.Common.{◌≡◌, ◌∙◌, ℕ, ◌-◌, List, [], ◌∷◌, Bool, true, false, true≢false, ◌⊎◌, Option, Some, None, inl, inr, refl, sym, ap, subst, if◌then◌else◌, zero, suc, arith}
 use Rattle.std.specs.Prelude.{◌+◌, ◌&&◌, bytes_eq, is_some, nat_lt, not, option_map, ⊤, slice_get}
 use Rattle.std.proofs.lemmas.Bool.{or_from}
-use Rattle.kube_types.specs.declared.key.Key.{Key}
-use Rattle.kube_types.specs.declared.names.Field.TheVariants as fields
-use Rattle.kube_types.specs.declared.parts.Kind.{Kind}
-use Rattle.kube_types.specs.declared.uid.Uid.{Uid}
-use Rattle.kube_types.specs.declared.objects.Pod.{Pod as PodData}
-use Rattle.kube_types.specs.declared.objects.Object.{Object}
-use Rattle.kube_types.specs.declared.objects.Object.TheVariants.{Class, Node, Volume, Claim, Pod}
-use Rattle.kube_types.specs.Bindings.{is_deleting, is_scheduled}
-use Rattle.kube_types.specs.Keys.{row_at}
+use Rattle.kube_objects.specs.declared.key.Key.{Key}
+use Rattle.kube_parts.specs.declared.names.Field.TheVariants as fields
+use Rattle.kube_parts.specs.declared.parts.Kind.{Kind}
+use Rattle.kube_parts.specs.declared.uid.Uid.{Uid}
+use Rattle.kube_objects.specs.declared.objects.Pod.{Pod as PodData}
+use Rattle.kube_objects.specs.declared.objects.Object.{Object}
+use Rattle.kube_objects.specs.declared.objects.Object.TheVariants.{Class, Node, Volume, Claim, Pod}
+use Rattle.kube_objects.specs.Bindings.{is_deleting, is_scheduled}
+use Rattle.kube_objects.specs.Keys.{row_at}
 use Rattle.call_types.specs.declared.entry.Entry.{Entry}
 use Rattle.call_types.specs.declared.reply.MountRow.{MountRow}
 use Rattle.call_types.specs.declared.reply.Refusal.TheVariants.{Invalid}
@@ -120,7 +120,8 @@ module _ (setup : Setup) (w : World) (node : List ℕ) (epoch : ℕ) (pod : Uid)
   unfolding effect on_devices device_answer outcome finish refuse refuse_stale reply_to reply_of
   finish_fresh key = rw (fresh w.devices node epoch current) (by (pod_with pod (row_at key w.store.rows)))
     where
-      tests : (p : PodData) (a b : Bool) → is_stale_told (reply_of (refuse a (Invalid fields.Deletion) (refuse b (Invalid fields.NodeName) (Removes (at_version (Pod p) (w.store.version + 1)))))) ≡ false
+      tests : (p : PodData) (a b : Bool) → is_stale_told (reply_of
+          (refuse a (Invalid fields.Deletion) (refuse b (Invalid fields.NodeName) (Removes (at_version (Pod p) (w.store.version + 1)))))) ≡ false
       tests p true b = refl
       tests p false true = refl
       tests p false false = refl
@@ -218,13 +219,18 @@ module _ (setup : Setup) (h : List Entry) (seat : ℕ) (node : List ℕ) (curren
   at_epoch : (name : List ℕ) (epoch : ℕ) → name ≡ node → last_epoch name (own seat h) ≡ Some epoch → epoch ≡ epoch_of name (world setup h).devices.epochs
   at_epoch name epoch same told = current epoch (ap (λ n. last_epoch n (own seat h)) (sym same) ∙ told) ∙ ap (λ n. epoch_now setup h n) (sym same)
 
-  step_fresh : (op : AgentOp) (step : AgentStep) (request : Request) → op.node ≡ node → StepKeeps step (at_rest op) (own seat h) → agent_call_at op step ≡ Some request → IsFresh setup (world setup h) request
+  step_fresh : (op : AgentOp) (step : AgentStep) (request : Request) → op.node ≡ node → StepKeeps step (at_rest op) (own seat h)
+      → agent_call_at op step ≡ Some request → IsFresh setup (world setup h) request
   step_fresh op (steps.ReadsClaim name) request on kept e = subst (IsFresh setup (world setup h)) (one _ request e) (get_fresh setup (world setup h) _)
   step_fresh op (steps.ReadsVolume name c) request on kept e = subst (IsFresh setup (world setup h)) (one _ request e) (get_fresh setup (world setup h) _)
-  step_fresh op steps.MountsPod request on kept e = subst (IsFresh setup (world setup h)) (one _ request e) (mount_fresh setup (world setup h) op.node op.epoch op.uid (at_epoch op.node op.epoch on kept.pod.current) _)
-  step_fresh op steps.Unmounts request on kept e = subst (IsFresh setup (world setup h)) (one _ request e) (unmount_fresh setup (world setup h) op.node op.epoch op.uid (at_epoch op.node op.epoch on kept.current))
-  step_fresh op steps.ReadsMounts request on kept e = subst (IsFresh setup (world setup h)) (one _ request e) (mounts_fresh setup (world setup h) op.node op.epoch op.uid (at_epoch op.node op.epoch on kept.current))
-  step_fresh op steps.Finishes request on kept e = subst (IsFresh setup (world setup h)) (one _ request e) (finish_fresh setup (world setup h) op.node op.epoch op.uid (at_epoch op.node op.epoch on kept.ending.current) _)
+  step_fresh op steps.MountsPod request on kept e =
+      subst (IsFresh setup (world setup h)) (one _ request e) (mount_fresh setup (world setup h) op.node op.epoch op.uid (at_epoch op.node op.epoch on kept.pod.current) _)
+  step_fresh op steps.Unmounts request on kept e =
+      subst (IsFresh setup (world setup h)) (one _ request e) (unmount_fresh setup (world setup h) op.node op.epoch op.uid (at_epoch op.node op.epoch on kept.current))
+  step_fresh op steps.ReadsMounts request on kept e =
+      subst (IsFresh setup (world setup h)) (one _ request e) (mounts_fresh setup (world setup h) op.node op.epoch op.uid (at_epoch op.node op.epoch on kept.current))
+  step_fresh op steps.Finishes request on kept e =
+      subst (IsFresh setup (world setup h)) (one _ request e) (finish_fresh setup (world setup h) op.node op.epoch op.uid (at_epoch op.node op.epoch on kept.ending.current) _)
   step_fresh op steps.Done request on kept e = none_some e
   step_fresh op steps.Parked request on kept e = none_some e
 
@@ -244,7 +250,8 @@ module _ (setup : Setup) (h : List Entry) (seat : ℕ) (node : List ℕ) (curren
 
   start_fresh : (epoch : Option ℕ) (told : Bool) (request : Request) → epoch ≡ last_epoch node (own seat h) → agent_start node epoch told ≡ Some request → IsFresh setup (world setup h) request
   start_fresh None told request is e = subst (IsFresh setup (world setup h)) (one _ request e) (take_fresh setup (world setup h) node)
-  start_fresh (Some epoch) false request is e = subst (IsFresh setup (world setup h)) (one _ request e) (mounts_fresh setup (world setup h) node epoch (record { 0 = 0 }) (at_epoch node epoch refl (sym is)))
+  start_fresh (Some epoch) false request is e =
+      subst (IsFresh setup (world setup h)) (one _ request e) (mounts_fresh setup (world setup h) node epoch (record { 0 = 0 }) (at_epoch node epoch refl (sym is)))
   start_fresh (Some epoch) true request is e = none_some e
 
   pub asked_fresh : (s : ActorState) (request : Request) → s.role ≡ agent_of node → StandsFor s (own seat h) → asked s ≡ Some request → IsFresh setup (world setup h) request
@@ -269,7 +276,8 @@ module _ (setup : Setup) (h : List Entry) (seat : ℕ) (node : List ℕ) (curren
       by None c = none_some c
       by (Some givens.Task) c = task s.under stands.settle_round_calls c
       by (Some givens.Start) c =
-          start_fresh s.memory.epoch (is_some s.memory.mounts) request epoch (subst (λ n. agent_start n s.memory.epoch (is_some s.memory.mounts) ≡ Some request) named (subst (λ k. start_of k s.role.node s.memory ≡ Some request) kind c))
+          start_fresh s.memory.epoch (is_some s.memory.mounts) request epoch
+          (subst (λ n. agent_start n s.memory.epoch (is_some s.memory.mounts) ≡ Some request) named (subst (λ k. start_of k s.role.node s.memory ≡ Some request) kind c))
       by (Some (givens.Read k)) c = subst (IsFresh setup (world setup h)) (one _ request c) (read_fresh k (ask_of (cache_of k s.caches)))
 
 -- so a slot leaves it awake
@@ -301,7 +309,8 @@ lost_memory s caches request = by s.given
     by (Some (givens.Read kind)) = refl
 
 module _ (setup : Setup) (lets : Lets) (seat : ℕ) (node : List ℕ) (after : ActorState) (past : List Entry) (left : ℕ) (idle : Bool) (history : IsHistory setup past) where
-  pub run_awake : (s : ActorState) (h : List Entry) (b : ℕ) → Runs lets seat after past left idle s h b → s.role ≡ agent_of node → IsCurrent setup h node seat → s.memory.stale ≡ false → after.memory.stale ≡ false
+  pub run_awake : (s : ActorState) (h : List Entry) (b : ℕ) → Runs lets seat after past left idle s h b → s.role ≡ agent_of node
+      → IsCurrent setup h node seat → s.memory.stale ≡ false → after.memory.stale ≡ false
   run_awake s h b (IsSpent none state entries rest busy) role current awake = ap (λ (x : ActorState). x.memory.stale) state ∙ awake
   run_awake s h b (IsIdle some ready turn entries rest calm) role current awake = ap (λ (m : Memory). m.stale) (turn_memory s after Idle turn) ∙ awake
   run_awake s h b (Asks given next request reply some ready turn passes absorbs more) role current awake =
@@ -317,7 +326,8 @@ module _ (setup : Setup) (lets : Lets) (seat : ℕ) (node : List ℕ) (after : A
       answer : is_stale_told reply ≡ false
       answer =
           ap is_stale_told (whole.1 ∙ ap (λ k. reply_to (effect setup (world setup h) k request)) (ap (λ (r : Role). r.kind) given_role))
-          ∙ asked_fresh setup h seat node current given request given_role (turn_stands s given (Call request) (own seat h) ready.rows ready.stands.told turn) (sym (gives_asked s given (Call request) turn))
+          ∙ asked_fresh setup h seat node current given request given_role
+          (turn_stands s given (Call request) (own seat h) ready.rows ready.stands.told turn) (sym (gives_asked s given (Call request) turn))
 
       memory : next.memory ≡ agent_remembers node request reply given.memory
       memory = ap (λ (x : ActorState). x.memory) absorbs ∙ (told_memory given next.caches request reply ∙ ap (λ r. memory_after r request reply given.memory) given_role)
@@ -326,15 +336,19 @@ module _ (setup : Setup) (lets : Lets) (seat : ℕ) (node : List ℕ) (after : A
       stale = ap (λ (m : Memory). m.stale) memory ∙ or_from given.memory.stale (is_stale_told reply) (ap (λ (m : Memory). m.stale) (turn_memory s given (Call request) turn) ∙ awake) answer
   run_awake s h b (IsHeld given next request some ready turn held absorbs more) role current awake =
       run_awake next h (b - 1) more (still_role s given next (Call request) request Lost turn absorbs ∙ role) current
-      (ap (λ (x : ActorState). x.memory.stale) absorbs ∙ (ap (λ (m : Memory). m.stale) (lost_memory given next.caches request) ∙ (ap (λ (m : Memory). m.stale) (turn_memory s given (Call request) turn) ∙ awake)))
+      (ap (λ (x : ActorState). x.memory.stale) absorbs
+      ∙ (ap (λ (m : Memory). m.stale) (lost_memory given next.caches request) ∙ (ap (λ (m : Memory). m.stale) (turn_memory s given (Call request) turn) ∙ awake)))
 
 -- a round leaves an agent awake
 
 module _ (setup : Setup) (lets : Lets) (past : List Entry) (left : ℕ) (node : List ℕ) (history : IsHistory setup past) where
-  awake_on : (ds : List Drainer) (h : List Entry) (b : ℕ) (after : List Drainer) (whole : Bool) → IsRound lets past left ds h b after whole → AreBuilt (roles_of ds) → (place : ℕ) (d then_ : Drainer) → slice_get ds place ≡ Some d → slice_get after place ≡ Some then_
-      → d.actor.role ≡ agent_of node → ((i : ℕ) (other : Drainer) → slice_get ds i ≡ Some other → other.actor.role ≡ agent_of node → (i ≡ place) ⊎ TakesNoMore node other.seat other.actor h) → IsAwake setup h node d → IsAwake setup past node then_
+  awake_on : (ds : List Drainer) (h : List Entry) (b : ℕ) (after : List Drainer) (whole : Bool) → IsRound lets past left ds h b after whole
+      → AreBuilt (roles_of ds) → (place : ℕ) (d then_ : Drainer) → slice_get ds place ≡ Some d → slice_get after place ≡ Some then_
+      → d.actor.role ≡ agent_of node → ((i : ℕ) (other : Drainer) → slice_get ds i ≡ Some other → other.actor.role ≡ agent_of node → (i ≡ place) ⊎
+      TakesNoMore node other.seat other.actor h) → IsAwake setup h node d → IsAwake setup past node then_
   awake_on _ h b _ _ (Ends entries rest) built place d then_ there then_there role alone awake = none_some there
-  awake_on _ h b _ _ (Turns {ds = ds} {after = after} {whole = whole} first ran middle rest idle seat run more) built zero d then_ there then_there role alone awake = record { fresh = fresh; current = current }
+  awake_on _ h b _ _ (Turns {ds = ds} {after = after} {whole = whole} first ran middle rest idle seat run more) built zero d then_ there then_there
+      role alone awake = record { fresh = fresh; current = current }
     where
       slot : GrowsWithin (first.seat ∷ []) (b - rest) h middle
       slot = run_grows lets first.seat ran.actor middle rest idle (woken first.actor) h b run

@@ -2,7 +2,7 @@
 use Rattle.std.proofs.Common.{◌≡◌, ◌∙◌, ◌⊎◌, ℕ, ◌-◌, suc, List, [], ◌∷◌, ◌++◌, Bool, true, false, true≢false, Option, Some, None, inl, inr, refl, sym, ap, subst, if◌then◌else◌}
 use Rattle.std.specs.Prelude.{bytes_eq, is_some, option_map, slice_get}
 use Rattle.std.proofs.lemmas.Slice.Eq.{bytes_eq-Decides}
-use Rattle.kube_types.specs.declared.parts.Kind.{Kind}
+use Rattle.kube_parts.specs.declared.parts.Kind.{Kind}
 use Rattle.call_types.specs.declared.entry.Entry.{Entry}
 use Rattle.call_types.specs.declared.reply.Reply.{Reply}
 use Rattle.call_types.specs.declared.reply.Reply.TheVariants as replies
@@ -79,7 +79,8 @@ is_epoch r = false
 
 -- the epoch that is told is the node's
 module _ (setup : Setup) (w : World) (kind : SeatKind) (node : List ℕ) (epoch : ℕ) where
-  told_by : (b : Bool) → reply_to (if b then refused_rule else OnDevices (take_node w.devices node)) ≡ replies.Epoch epoch → epoch ≡ epoch_of node (world_after w (if b then refused_rule else OnDevices (take_node w.devices node))).devices.epochs
+  told_by : (b : Bool) → reply_to (if b then refused_rule else OnDevices (take_node w.devices node)) ≡ replies.Epoch epoch
+      → epoch ≡ epoch_of node (world_after w (if b then refused_rule else OnDevices (take_node w.devices node))).devices.epochs
   unfolding reply_to reply_of take_node world_after
   told_by true e = absurd (true≢false (sym (ap is_epoch e)))
   told_by false e = let itself : bytes_eq node node ≡ true = (bytes_eq-Decides node node).1 refl in rw itself (sym (epoch_one _ _ e))
@@ -103,7 +104,8 @@ told_of_take node request reply epoch asked is =
 
 -- one entry
 
-module _ (setup : Setup) (e : Entry) (past : List Entry) (seat : ℕ) (node : List ℕ) (reply : e.reply ≡ reply_to (effect setup (world setup past) e.kind e.request)) (current : IsCurrent setup past node seat) where
+module _ (setup : Setup) (e : Entry) (past : List Entry) (seat : ℕ) (node : List ℕ)
+    (reply : e.reply ≡ reply_to (effect setup (world setup past) e.kind e.request)) (current : IsCurrent setup past node seat) where
   -- that takes not the node
   untaken : is_take_of node e.request ≡ false → epoch_now setup (e ∷ past) node ≡ epoch_now setup past node
   untaken none = elim ((device_moves setup (world setup past) e.kind e.request).move.epoch node) [
@@ -150,7 +152,9 @@ module _ (setup : Setup) (e : Entry) (past : List Entry) (seat : ℕ) (node : Li
       by (Some k) t =
           let asked = epoch_is node e.request e.reply k t in
           let same : k ≡ epoch = one k epoch (sym (ap (λ x. first_some x (last_epoch node (own seat past))) t) ∙ first) in
-          let now : k ≡ epoch_of node (world_after (world setup past) (effect setup (world setup past) e.kind (requests.TakeNode node))).devices.epochs = told_epoch setup (world setup past) e.kind node k (ap (λ r. reply_to (effect setup (world setup past) e.kind r)) (sym asked.0) ∙ (sym reply ∙ asked.1)) in
+          let now : k ≡ epoch_of node (world_after (world setup past)
+          (effect setup (world setup past) e.kind (requests.TakeNode node))).devices.epochs =
+          told_epoch setup (world setup past) e.kind node k (ap (λ r. reply_to (effect setup (world setup past) e.kind r)) (sym asked.0) ∙ (sym reply ∙ asked.1)) in
           sym same ∙ (now ∙ ap (λ r. epoch_of node (world_after (world setup past) (effect setup (world setup past) e.kind r)).devices.epochs) (sym asked.0))
 
   pub entry_stays : (is_take_of node e.request ≡ true → (e.seat ≡ seat) × (e.told ≡ true)) → IsCurrent setup (e ∷ past) node seat
@@ -162,7 +166,8 @@ module _ (setup : Setup) (e : Entry) (past : List Entry) (seat : ℕ) (node : Li
 
 pub epochs_stay : EpochsStay
 epochs_stay setup [] past seat node history own_takes current = current
-epochs_stay setup (e ∷ newer) past seat node history own_takes current = entry_stays setup e (newer ++ past) seat node history.1 (epochs_stay setup newer past seat node history.0 own_takes.1 current) own_takes.0
+epochs_stay setup (e ∷ newer) past seat node history own_takes current =
+    entry_stays setup e (newer ++ past) seat node history.1 (epochs_stay setup newer past seat node history.0 own_takes.1 current) own_takes.0
 
 -- which actors take nodes
 
@@ -200,7 +205,8 @@ start_takes_own own_node node (Some epoch) false r e t = absurd (true≢false (s
 start_takes_own own_node node (Some epoch) true r e t = none_some e
 
 -- an agent takes its own, of which it was told no epoch
-agent_takes_own : (s : ActorState) (mine : List Entry) (request : Request) (node : List ℕ) → s.role.kind ≡ seats.Agent → StandsFor s mine → asked s ≡ Some request → is_take_of node request ≡ true → (s.role ≡ agent_of node) × (last_epoch node mine ≡ None)
+agent_takes_own : (s : ActorState) (mine : List Entry) (request : Request) (node : List ℕ) → s.role.kind ≡ seats.Agent → StandsFor s mine
+    → asked s ≡ Some request → is_take_of node request ≡ true → (s.role ≡ agent_of node) × (last_epoch node mine ≡ None)
 agent_takes_own s mine request node is stands ask takes = by s.given ask
   where
     starts : (s.role.node ≡ node) × (s.memory.epoch ≡ None) → (s.role ≡ agent_of node) × (last_epoch node mine ≡ None)
@@ -262,12 +268,14 @@ takes_none_later node seat s newer h (inr told) = inr (on newer)
 -- a slot and a round
 
 module _ (setup : Setup) (lets : Lets) (seat target : ℕ) (node : List ℕ) (after : ActorState) (past : List Entry) (left : ℕ) (idle : Bool) (history : IsHistory setup past) where
-  pub run_stays : (s : ActorState) (h : List Entry) (b : ℕ) → Runs lets seat after past left idle s h b → IsBuiltKind s.role.kind → (s.role ≡ agent_of node → (seat ≡ target) ⊎ TakesNoMore node seat s h) → IsCurrent setup h node target → IsCurrent setup past node target
+  pub run_stays : (s : ActorState) (h : List Entry) (b : ℕ) → Runs lets seat after past left idle s h b → IsBuiltKind s.role.kind
+      → (s.role ≡ agent_of node → (seat ≡ target) ⊎ TakesNoMore node seat s h) → IsCurrent setup h node target → IsCurrent setup past node target
   run_stays s h b (IsSpent none state entries rest busy) built own_node current = subst (λ x. IsCurrent setup x node target) (sym entries) current
   run_stays s h b (IsIdle some ready turn entries rest calm) built own_node current = subst (λ x. IsCurrent setup x node target) (sym entries) current
   run_stays s h b (Asks given next request reply some ready turn passes absorbs more) built own_node current =
       run_stays next (told_entry seat given request reply ∷ h) (b - 1) more (subst (λ (r : Role). IsBuiltKind r.kind) (sym role) built) (λ is. later (own_node (sym role ∙ is)))
-      (entry_stays setup (told_entry seat given request reply) h target node whole.1 current (λ takes. let t = agents_take_their_own seat s given h request node built ready turn takes in takes_so t.1 (own_node t.0)))
+      (entry_stays setup (told_entry seat given request reply) h target node whole.1 current
+      (λ takes. let t = agents_take_their_own seat s given h request node built ready turn takes in takes_so t.1 (own_node t.0)))
     where
       role : next.role ≡ s.role
       role = still_role s given next (Call request) request (Told reply) turn absorbs
@@ -308,7 +316,8 @@ may_not_later node target seat s newer h past are (inr none) = inr (subst (Takes
 
 module _ (setup : Setup) (lets : Lets) (past : List Entry) (left target : ℕ) (node : List ℕ) (history : IsHistory setup past) where
   pub round_stays : (ds : List Drainer) (h : List Entry) (b : ℕ) (after : List Drainer) (whole : Bool) → IsRound lets past left ds h b after whole → AreBuilt (roles_of ds)
-      → ((place : ℕ) (d : Drainer) → slice_get ds place ≡ Some d → d.actor.role ≡ agent_of node → MayNotTake node target d.seat d.actor h) → IsCurrent setup h node target → IsCurrent setup past node target
+      → ((place : ℕ) (d : Drainer) → slice_get ds place ≡ Some d → d.actor.role ≡ agent_of node → MayNotTake node target d.seat d.actor h)
+      → IsCurrent setup h node target → IsCurrent setup past node target
   round_stays ds h b after whole (Ends entries rest) built own_node current = subst (λ x. IsCurrent setup x node target) (sym entries) current
   round_stays _ h b _ _ (Turns {ds = ds} {after = after} {whole = whole} d ran middle rest idle seat run more) built own_node current =
       let g = round_grows lets past left ds middle rest after whole more in

@@ -5,9 +5,9 @@ use Rattle.std.proofs.lemmas.Bool.{and_parts}
 use Rattle.std.proofs.lemmas.Bool.Decides.{Decides-eqb}
 use Rattle.std.proofs.lemmas.Slice.Eq.{bytes_eq-Decides}
 use Rattle.plain_data.specs.Pairs.{Pair}
-use Rattle.kube_types.specs.declared.names.Field.TheVariants as fields
-use Rattle.kube_types.specs.declared.names.Rule.TheVariants as rules
-use Rattle.kube_types.specs.declared.uid.Uid.{Uid}
+use Rattle.kube_parts.specs.declared.names.Field.TheVariants as fields
+use Rattle.kube_parts.specs.declared.names.Rule.TheVariants as rules
+use Rattle.kube_parts.specs.declared.uid.Uid.{Uid}
 use Rattle.call_types.specs.declared.reply.MountRow.{MountRow}
 use Rattle.call_types.specs.declared.reply.Refusal.TheVariants.{BackFault, Forbidden, Gone, Invalid}
 use Rattle.call_types.specs.declared.reply.Reply.{Reply}
@@ -18,7 +18,31 @@ use Rattle.call_types.specs.declared.request.SeatKind.{SeatKind}
 use Rattle.call_types.specs.declared.setup.Setup.{Setup}
 use Rattle.binder_model.specs.AgentLicence.{has_row, is_of_epoch}
 use Rattle.binder_model.specs.Answers.{Outcome, Says, is_user, outcome, reply_of}
-use Rattle.binder_model.specs.Devices.{Data, DeviceAnswer, Devices, MountAt, after_call, data_named, device_answer, epoch_if_stale, epoch_of, erase, first_fit, is_mounted_on, is_planned, provision, provision_new, put_mount, rows_on, take_node, unless_planned, unless_stale, with_mount, with_mounts, without_mount}
+use Rattle.binder_model.specs.Devices.{
+  Data,
+  DeviceAnswer,
+  Devices,
+  MountAt,
+  after_call,
+  data_named,
+  device_answer,
+  epoch_if_stale,
+  epoch_of,
+  erase,
+  first_fit,
+  is_mounted_on,
+  is_planned,
+  provision,
+  provision_new,
+  put_mount,
+  rows_on,
+  take_node,
+  unless_planned,
+  unless_stale,
+  with_mount,
+  with_mounts,
+  without_mount,
+}
 use Rattle.binder_model.specs.Same.{same_uid}
 use Rattle.binder_model.specs.Watching.{oldest, told_events}
 use Rattle.binder_model.specs.World.{Effect, OnDevices, OnStore, SetsMoment, World, base, effect, is_time, on_devices, refused_rule, reply_to, set_time, stale_epoch, watch, world_after}
@@ -64,7 +88,8 @@ module _ (node : List ℕ) (pod : Uid) (claims : List Uid) (ms : List MountAt) w
       either false true e = inr refl
       either false false e = absurd (true≢false (sym e))
 
-      by : (b : Bool) → has_row q (rows_on node (if b then ms else put_mount (record { node = node; row = record { pod = pod; claims = claims } }) ms)) ≡ true → (has_row q (rows_on node ms) ≡ true) ⊎ (same_uid pod q ≡ true)
+      by : (b : Bool) → has_row q (rows_on node
+          (if b then ms else put_mount (record { node = node; row = record { pod = pod; claims = claims } }) ms)) ≡ true → (has_row q (rows_on node ms) ≡ true) ⊎ (same_uid pod q ≡ true)
       by true e = inl e
       by false e = either (has_row q (rows_on node ms)) (same_uid pod q) (sym (put_row q) ∙ e)
 
@@ -118,7 +143,8 @@ module _ (node : List ℕ) (pod : Uid) where
       none true = refl
       none false = refl
 
-      by : (n u v t : Bool) → bytes_eq m.node node ≡ n → same_uid m.row.pod pod ≡ u → same_uid m.row.pod q ≡ v → same_uid q pod ≡ t → has_row q (rows_on node (without_mount node pod ms)) ≡ (has_row q (rows_on node ms) && not t)
+      by : (n u v t : Bool) → bytes_eq m.node node ≡ n → same_uid m.row.pod pod ≡ u → same_uid m.row.pod q ≡ v → same_uid q pod ≡ t
+          → has_row q (rows_on node (without_mount node pod ms)) ≡ (has_row q (rows_on node ms) && not t)
           → has_row q (rows_on node (cond (not (n && u)) (m ∷ without_mount node pod ms) (without_mount node pod ms))) ≡ (has_row q (if n then m.row ∷ rows_on node ms else rows_on node ms) && not t)
       by false u v t en eu ev et rest = rw en rest
       by true true true true en eu ev et rest = rest ∙ (none (has_row q (rows_on node ms)) ∙ sym (none (has_row q (m.row ∷ rows_on node ms))))
@@ -155,7 +181,8 @@ pub data MountsMove (node : List ℕ) (d new : Devices) (request : Request) (rep
   Stays : rows_on node new.mounts ≡ rows_on node d.mounts → MountsMove node d new request reply
   Adds : (epoch : ℕ) (pod : Uid) (claims : List Uid) → request ≡ requests.Mount node epoch pod claims → epoch ≡ epoch_of node d.epochs → new.mounts ≡ with_mount node pod claims d.mounts
       → reply ≡ Mounted (rows_on node new.mounts) → MountsMove node d new request reply
-  Drops : (epoch : ℕ) (pod : Uid) → request ≡ requests.Unmount node epoch pod → epoch ≡ epoch_of node d.epochs → new.mounts ≡ without_mount node pod d.mounts → reply ≡ Mounted (rows_on node new.mounts)
+  Drops : (epoch : ℕ) (pod : Uid) → request ≡ requests.Unmount node epoch pod → epoch ≡ epoch_of node d.epochs
+      → new.mounts ≡ without_mount node pod d.mounts → reply ≡ Mounted (rows_on node new.mounts)
       → MountsMove node d new request reply
 
 -- a list of mounts that is told, of the node at an epoch, is the one that then stands
@@ -198,7 +225,8 @@ module _ (node : List ℕ) where
   stale d request None next k = k refl
   stale d request (Some current) next k = quiet d d request _ refl refl
 
-  provisioned : (setup : Setup) (d : Devices) (request : Request) (name provisioner : List ℕ) (bytes : ℕ) (labels : Option (List Pair)) (x : Option Data) → IsAnswered d request (Some (provision setup.pools d name provisioner bytes labels x))
+  provisioned : (setup : Setup) (d : Devices) (request : Request) (name provisioner : List ℕ) (bytes : ℕ) (labels : Option (List Pair))
+      (x : Option Data) → IsAnswered d request (Some (provision setup.pools d name provisioner bytes labels x))
   unfolding provision provision_new
   provisioned setup d request name provisioner bytes labels (Some x) = quiet d _ request _ refl refl
   provisioned setup d request name provisioner bytes labels None = by (first_fit provisioner bytes labels d.stored 0 setup.pools)
@@ -208,26 +236,31 @@ module _ (node : List ℕ) where
       by (Some place) = quiet d _ request _ refl refl
 
   -- what lists the mounts of a node tells them as they then are
-  listed : (d : Devices) (name : List ℕ) (given : ℕ) (ms : List MountAt) (epoch : ℕ) (rows : List MountRow) → (bytes_eq name node && given == epoch) ≡ true → (with_mounts d name ms).reply ≡ Mounted rows → rows ≡ rows_on node ms
+  listed : (d : Devices) (name : List ℕ) (given : ℕ) (ms : List MountAt) (epoch : ℕ) (rows : List MountRow)
+      → (bytes_eq name node && given == epoch) ≡ true → (with_mounts d name ms).reply ≡ Mounted rows → rows ≡ rows_on node ms
   unfolding with_mounts
   listed d name given ms epoch rows of is = sym (ap rows_in is) ∙ ap (λ n. rows_on n ms) ((bytes_eq-Decides name node).0 (and_parts (bytes_eq name node) (given == epoch) of).0)
 
-  mounting : (d : Devices) (name : List ℕ) (epoch : ℕ) (pod : Uid) (claims : List Uid) → epoch ≡ epoch_of name d.epochs → IsAnswered d (requests.Mount name epoch pod claims) (Some (with_mounts d name (with_mount name pod claims d.mounts)))
+  mounting : (d : Devices) (name : List ℕ) (epoch : ℕ) (pod : Uid) (claims : List Uid) → epoch ≡ epoch_of name d.epochs
+      → IsAnswered d (requests.Mount name epoch pod claims) (Some (with_mounts d name (with_mount name pod claims d.mounts)))
   unfolding with_mounts
   mounting d name epoch pod claims current = record { move = by (bytes_eq name node) refl; tells = listed d name epoch (with_mount name pod claims d.mounts) }
     where
-      by : (b : Bool) → bytes_eq name node ≡ b → MountsMove node d (record d { mounts = with_mount name pod claims d.mounts }) (requests.Mount name epoch pod claims) (Mounted (rows_on name (with_mount name pod claims d.mounts)))
+      by : (b : Bool) → bytes_eq name node ≡ b
+          → MountsMove node d (record d { mounts = with_mount name pod claims d.mounts }) (requests.Mount name epoch pod claims) (Mounted (rows_on name (with_mount name pod claims d.mounts)))
       by true e =
           let same : name ≡ node = (bytes_eq-Decides name node).0 e in
           Adds epoch pod claims (ap (λ n. requests.Mount n epoch pod claims) same) (current ∙ ap (λ n. epoch_of n d.epochs) same) (ap (λ n. with_mount n pod claims d.mounts) same)
           (ap (λ n. Mounted (rows_on n (with_mount name pod claims d.mounts))) same)
       by false e = Stays (mount_other name pod claims d.mounts node e)
 
-  unmounting : (d : Devices) (name : List ℕ) (epoch : ℕ) (pod : Uid) → epoch ≡ epoch_of name d.epochs → IsAnswered d (requests.Unmount name epoch pod) (Some (with_mounts d name (without_mount name pod d.mounts)))
+  unmounting : (d : Devices) (name : List ℕ) (epoch : ℕ) (pod : Uid) → epoch ≡ epoch_of name d.epochs
+      → IsAnswered d (requests.Unmount name epoch pod) (Some (with_mounts d name (without_mount name pod d.mounts)))
   unfolding with_mounts
   unmounting d name epoch pod current = record { move = by (bytes_eq name node) refl; tells = listed d name epoch (without_mount name pod d.mounts) }
     where
-      by : (b : Bool) → bytes_eq name node ≡ b → MountsMove node d (record d { mounts = without_mount name pod d.mounts }) (requests.Unmount name epoch pod) (Mounted (rows_on name (without_mount name pod d.mounts)))
+      by : (b : Bool) → bytes_eq name node ≡ b
+          → MountsMove node d (record d { mounts = without_mount name pod d.mounts }) (requests.Unmount name epoch pod) (Mounted (rows_on name (without_mount name pod d.mounts)))
       by true e =
           let same : name ≡ node = (bytes_eq-Decides name node).0 e in
           Drops epoch pod (ap (λ n. requests.Unmount n epoch pod) same) (current ∙ ap (λ n. epoch_of n d.epochs) same) (ap (λ n. without_mount n pod d.mounts) same)
@@ -285,7 +318,9 @@ mounts_after setup w kind (requests.SetTime at) node = by (is_time at)
 mounts_after setup w kind (requests.Watch k from) node = by (nat_lt w.store.version from) (nat_lt from (oldest (base setup) w.store.version))
   where
     by : (a b : Bool)
-        → MountsAfterEffect node w (requests.Watch k from) (if a then OnStore (Says (Refused (Invalid fields.From))) else if b then OnStore (Says (Refused (Gone (oldest (base setup) w.store.version)))) else OnStore (Says (Events (told_events k from w.store.version w.log))))
+        → MountsAfterEffect node w (requests.Watch k from)
+        (if a then OnStore (Says (Refused (Invalid fields.From))) else if b then OnStore
+        (Says (Refused (Gone (oldest (base setup) w.store.version)))) else OnStore (Says (Events (told_events k from w.store.version w.log))))
     by true b = away node w (requests.Watch k from) (OnStore _) refl (λ epoch. refl)
     by false true = away node w (requests.Watch k from) (OnStore _) refl (λ epoch. refl)
     by false false = away node w (requests.Watch k from) (OnStore _) refl (λ epoch. refl)

@@ -66,9 +66,12 @@ right_of false b fresh e = e
 right_of true b fresh e = absurd (true≢false fresh)
 
 module _ (setup : Setup) (lets : Lets) (seat : ℕ) (node : List ℕ) (after : ActorState) (past : List Entry) (left : ℕ) (idle : Bool) (run : IsRunOf setup past) where
-  run_silent : (s : ActorState) (h : List Entry) (b : ℕ) → Runs lets seat after past left idle s h b → s.role ≡ agent_of node → (s.memory.stale ≡ true → WasOvertaken setup h node seat) → after.memory.stale ≡ true → WasOvertaken setup past node seat
-  run_silent s h b (IsSpent none state entries rest busy) role before silent = subst (λ es. WasOvertaken setup es node seat) (sym entries) (before (ap (λ (x : ActorState). x.memory.stale) (sym state) ∙ silent))
-  run_silent s h b (IsIdle some ready turn entries rest calm) role before silent = subst (λ es. WasOvertaken setup es node seat) (sym entries) (before (ap (λ (m : Memory). m.stale) (sym (turn_memory s after Idle turn)) ∙ silent))
+  run_silent : (s : ActorState) (h : List Entry) (b : ℕ) → Runs lets seat after past left idle s h b → s.role ≡ agent_of node
+      → (s.memory.stale ≡ true → WasOvertaken setup h node seat) → after.memory.stale ≡ true → WasOvertaken setup past node seat
+  run_silent s h b (IsSpent none state entries rest busy) role before silent =
+      subst (λ es. WasOvertaken setup es node seat) (sym entries) (before (ap (λ (x : ActorState). x.memory.stale) (sym state) ∙ silent))
+  run_silent s h b (IsIdle some ready turn entries rest calm) role before silent =
+      subst (λ es. WasOvertaken setup es node seat) (sym entries) (before (ap (λ (m : Memory). m.stale) (sym (turn_memory s after Idle turn)) ∙ silent))
   run_silent s h b (Asks given next request reply some ready turn passes absorbs more) role before silent =
       run_silent next (told_entry seat given request reply ∷ h) (b - 1) more (still_role s given next (Call request) request (Told reply) turn absorbs ∙ role) overtaken silent
     where
@@ -85,12 +88,14 @@ module _ (setup : Setup) (lets : Lets) (seat : ℕ) (node : List ℕ) (after : A
       memory = ap (λ (x : ActorState). x.memory) absorbs ∙ (told_memory given next.caches request reply ∙ ap (λ r. memory_after r request reply given.memory) given_role)
 
       told_stale : next.memory.stale ≡ true → is_stale_told reply ≡ true
-      told_stale e = right_of given.memory.stale (is_stale_told reply) (ap (λ (m : Memory). m.stale) (turn_memory s given (Call request) turn) ∙ calls_fresh s given request turn) (ap (λ (m : Memory). m.stale) (sym memory) ∙ e)
+      told_stale e = right_of given.memory.stale (is_stale_told reply)
+          (ap (λ (m : Memory). m.stale) (turn_memory s given (Call request) turn) ∙ calls_fresh s given request turn) (ap (λ (m : Memory). m.stale) (sym memory) ∙ e)
 
       fresh_if : IsCurrent setup h node seat → is_stale_told reply ≡ false
       fresh_if current =
           ap is_stale_told (history.1 ∙ ap (λ k. reply_to (effect setup (world setup h) k request)) (ap (λ (r : Role). r.kind) given_role))
-          ∙ asked_fresh setup h seat node current given request given_role (turn_stands s given (Call request) (own seat h) ready.rows ready.stands.told turn) (sym (gives_asked s given (Call request) turn))
+          ∙ asked_fresh setup h seat node current given request given_role
+          (turn_stands s given (Call request) (own seat h) ready.rows ready.stands.told turn) (sym (gives_asked s given (Call request) turn))
 
       overtaken : next.memory.stale ≡ true → WasOvertaken setup (told_entry seat given request reply ∷ h) node seat
       overtaken e = by (last_epoch node (own seat h)) refl
@@ -102,8 +107,10 @@ module _ (setup : Setup) (lets : Lets) (seat : ℕ) (node : List ℕ) (after : A
           at k told true same = absurd (true≢false (sym stale ∙ fresh_if (λ epoch is. one epoch k (sym is ∙ told) ∙ (Decides-eqb k (epoch_now setup h node)).0 same)))
           at k told false same = record {
             epoch = k;
-            told = ap (last_epoch node) (own_mine (told_entry seat given request reply) h seat refl) ∙ (ap (λ x. first_some x (last_epoch node (own seat h))) (tells_no_epoch node request reply stale) ∙ told);
-            before = below (told_low setup h (good_of setup h (older_run setup (told_entry seat given request reply ∷ []) h whole)) seat node k told) (epoch_rises setup (told_entry seat given request reply) h node);
+            told = ap (last_epoch node) (own_mine (told_entry seat given request reply) h seat refl)
+                ∙ (ap (λ x. first_some x (last_epoch node (own seat h))) (tells_no_epoch node request reply stale) ∙ told);
+            before = below (told_low setup h (good_of setup h (older_run setup (told_entry seat given request reply ∷ []) h whole)) seat node k told)
+                (epoch_rises setup (told_entry seat given request reply) h node);
           }
             where
               differ : k ≢ epoch_now setup h node
@@ -112,7 +119,8 @@ module _ (setup : Setup) (lets : Lets) (seat : ℕ) (node : List ℕ) (after : A
               lower : (a b : ℕ) → a ≢ b → a ≤ b → a < b
               lower a b other le = omega (arith, other, le)
 
-              below : k ≤ epoch_now setup h node → epoch_now setup h node ≤ epoch_now setup (told_entry seat given request reply ∷ h) node → k < epoch_now setup (told_entry seat given request reply ∷ h) node
+              below : k ≤ epoch_now setup h node → epoch_now setup h node ≤ epoch_now setup (told_entry seat given request reply ∷ h) node
+                  → k < epoch_now setup (told_entry seat given request reply ∷ h) node
               below le up = let lt = lower k (epoch_now setup h node) differ le in omega (arith, lt, up)
 
           by : (x : Option ℕ) → last_epoch node (own seat h) ≡ x → WasOvertaken setup (told_entry seat given request reply ∷ h) node seat
@@ -122,7 +130,8 @@ module _ (setup : Setup) (lets : Lets) (seat : ℕ) (node : List ℕ) (after : A
       run_silent next h (b - 1) more (still_role s given next (Call request) request Lost turn absorbs ∙ role) (λ e. absurd (true≢false (sym e ∙ fresh))) silent
     where
       fresh : next.memory.stale ≡ false
-      fresh = ap (λ (x : ActorState). x.memory.stale) absorbs ∙ (ap (λ (m : Memory). m.stale) (lost_memory given next.caches request) ∙ (ap (λ (m : Memory). m.stale) (turn_memory s given (Call request) turn) ∙ calls_fresh s given request turn))
+      fresh = ap (λ (x : ActorState). x.memory.stale) absorbs
+          ∙ (ap (λ (m : Memory). m.stale) (lost_memory given next.caches request) ∙ (ap (λ (m : Memory). m.stale) (turn_memory s given (Call request) turn) ∙ calls_fresh s given request turn))
 
 -- a round
 
@@ -151,11 +160,13 @@ seat_there (x ∷ xs) zero d at = ap Some (ap (λ (y : Drainer). y.seat) (one x 
 seat_there (x ∷ xs) (suc place) d at = seat_there xs place d at
 
 module _ (setup : Setup) (lets : Lets) (past : List Entry) (left : ℕ) (run : IsRunOf setup past) where
-  round_silent : (ds : List Drainer) (h : List Entry) (b : ℕ) (after : List Drainer) (whole : Bool) → IsRound lets past left ds h b after whole → Differ (seats_of ds) → OnlyOvertakenAreSilent setup ds h → OnlyOvertakenAreSilent setup after past
+  round_silent : (ds : List Drainer) (h : List Entry) (b : ℕ) (after : List Drainer) (whole : Bool) → IsRound lets past left ds h b after whole
+      → Differ (seats_of ds) → OnlyOvertakenAreSilent setup ds h → OnlyOvertakenAreSilent setup after past
   round_silent _ h b _ _ (Ends entries rest) differ before place x node there role silent = none_some there
   round_silent _ h b _ _ (Turns {ds = ds} {after = after} {whole = whole} first ran middle rest idle seat runs more) differ before zero x node there role silent =
       let same : ran ≡ x = one ran x there in
-      subst (WasOvertaken setup past node) (sym seat ∙ ap (λ (y : Drainer). y.seat) same) (at_first (ap (λ (y : Drainer). y.actor.role) same ∙ role) (ap (λ (y : Drainer). y.actor.memory.stale) same ∙ silent))
+      subst (WasOvertaken setup past node) (sym seat ∙ ap (λ (y : Drainer). y.seat) same)
+      (at_first (ap (λ (y : Drainer). y.actor.role) same ∙ role) (ap (λ (y : Drainer). y.actor.memory.stale) same ∙ silent))
     where
       further : HasGrown (seats_of ds) middle past
       further = let g = round_grows lets past left ds middle rest after whole more in record { made = g.made; longer = g.longer }
@@ -183,7 +194,8 @@ module _ (setup : Setup) (lets : Lets) (past : List Entry) (left : ℕ) (run : I
       others : OnlyOvertakenAreSilent setup ds middle
       others i y own_node at own_role is_silent =
           subst (λ es. WasOvertaken setup es own_node y.seat) (sym slot.longer.are)
-          (overtaken_on setup slot.longer.added h own_node y.seat (ap (own y.seat) (sym slot.longer.are) ∙ grown_others (first.seat ∷ []) h middle slot y.seat not_first) (before (suc i) y own_node at own_role is_silent))
+          (overtaken_on setup slot.longer.added h own_node y.seat
+          (ap (own y.seat) (sym slot.longer.are) ∙ grown_others (first.seat ∷ []) h middle slot y.seat not_first) (before (suc i) y own_node at own_role is_silent))
         where
           not_first : IsOneOf (first.seat ∷ []) y.seat → ⊥
           not_first (inl same) = apart first.seat (seats_of ds) differ i y.seat (seat_there ds i y at) (sym same)

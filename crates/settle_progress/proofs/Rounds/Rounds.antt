@@ -23,7 +23,8 @@ use Rattle.settle_progress.specs.Rounds.Rounds.{RoundsLast}
 
 -- more entries behind, and more before
 lasting_behind : (setup : Setup) (newer h middle : List Entry) → HasLasting setup h middle → HasLasting setup h (newer ++ middle)
-lasting_behind setup newer h middle l = record { entry = l.entry; newer = newer ++ l.newer; older = l.older; are = ap (λ es. newer ++ es) l.are ∙ sym (append_assoc newer l.newer (l.entry ∷ l.older ++ h)); lasts = l.lasts }
+lasting_behind setup newer h middle l =
+    record { entry = l.entry; newer = newer ++ l.newer; older = l.older; are = ap (λ es. newer ++ es) l.are ∙ sym (append_assoc newer l.newer (l.entry ∷ l.older ++ h)); lasts = l.lasts }
 
 lasting_before : (setup : Setup) (added h past : List Entry) → HasLasting setup (added ++ h) past → HasLasting setup h past
 lasting_before setup added h past l = record {
@@ -36,17 +37,23 @@ lasting_before setup added h past l = record {
 
 -- with what is kept at each point of the round until the actor has its turn: entries of those before it keep it, and in its own
 -- slot the key is decided by `decided`
-module _ (setup : Setup) (lets : Lets) (past : List Entry) (left : ℕ) (history : IsHistory setup past) (start : List Entry) (d : Drainer) (Kept : List Entry → Type 0) (Other : Drainer → Type 0) (Awake : Drainer → Type 0)
-    (passed : (other : Drainer) (ran : ActorState) (h middle newer : List Entry) (b rest : ℕ) (idle : Bool) → Other other → Runs lets other.seat ran middle rest idle (woken other.actor) h b → past ≡ newer ++ middle → Kept h → Kept middle)
-    (decided : (ran : Drainer) (h middle newer : List Entry) (b rest : ℕ) → past ≡ newer ++ middle → AreAlike (world setup start) (world setup h) → Kept h → Runs lets d.seat ran.actor middle rest true (woken d.actor) h b → Awake ran → HasLasting setup h middle) where
-  pub rounds_kept : (ds : List Drainer) (h : List Entry) (b : ℕ) (after : List Drainer) (whole : Bool) → IsRound lets past left ds h b after whole → whole ≡ true → AreAlike (world setup start) (world setup h) → Kept h
-      → (place : ℕ) → slice_get ds place ≡ Some d → ((i : ℕ) (other : Drainer) → i < place → slice_get ds i ≡ Some other → Other other) → ((x : Drainer) → slice_get after place ≡ Some x → Awake x) → HasLasting setup h past
+module _ (setup : Setup) (lets : Lets) (past : List Entry) (left : ℕ) (history : IsHistory setup past) (start : List Entry) (d : Drainer)
+    (Kept : List Entry → Type 0) (Other : Drainer → Type 0) (Awake : Drainer → Type 0)
+    (passed : (other : Drainer) (ran : ActorState) (h middle newer : List Entry) (b rest : ℕ) (idle : Bool) → Other other
+    → Runs lets other.seat ran middle rest idle (woken other.actor) h b → past ≡ newer ++ middle → Kept h → Kept middle)
+    (decided : (ran : Drainer) (h middle newer : List Entry) (b rest : ℕ) → past ≡ newer ++ middle → AreAlike (world setup start) (world setup h)
+    → Kept h → Runs lets d.seat ran.actor middle rest true (woken d.actor) h b → Awake ran → HasLasting setup h middle) where
+  pub rounds_kept : (ds : List Drainer) (h : List Entry) (b : ℕ) (after : List Drainer) (whole : Bool) → IsRound lets past left ds h b after whole
+      → whole ≡ true → AreAlike (world setup start) (world setup h) → Kept h
+      → (place : ℕ) → slice_get ds place ≡ Some d → ((i : ℕ) (other : Drainer) → i < place → slice_get ds i ≡ Some other → Other other)
+      → ((x : Drainer) → slice_get after place ≡ Some x → Awake x) → HasLasting setup h past
   rounds_kept _ h b _ _ (Ends entries rest) is_whole alike kept place there apart awake = none_some there
   rounds_kept _ h b _ _ (Turns {ds = ds} {after = after} {whole = whole} first ran middle rest idle seat run more) is_whole alike kept zero there apart awake =
       let parts = and_parts idle whole is_whole in
       let g = round_grows lets past left ds middle rest after whole more in
       let same : first ≡ d = one first d there in
-      let ran_idle : Runs lets d.seat ran.actor middle rest true (woken d.actor) h b = subst (λ i. Runs lets d.seat ran.actor middle rest i (woken d.actor) h b) parts.0 (subst (λ x. Runs lets x.seat ran.actor middle rest idle (woken x.actor) h b) same run) in
+      let ran_idle : Runs lets d.seat ran.actor middle rest true (woken d.actor) h b =
+      subst (λ i. Runs lets d.seat ran.actor middle rest i (woken d.actor) h b) parts.0 (subst (λ x. Runs lets x.seat ran.actor middle rest idle (woken x.actor) h b) same run) in
       let l = decided ran h middle g.longer.added b rest g.longer.are alike kept ran_idle (awake ran refl) in
       subst (HasLasting setup h) (sym g.longer.are) (lasting_behind setup g.longer.added h middle l)
   rounds_kept _ h b _ _ (Turns {ds = ds} {after = after} {whole = whole} first ran middle rest idle seat run more) is_whole alike kept (suc place) there apart awake =
@@ -65,7 +72,8 @@ module _ (setup : Setup) (lets : Lets) (past : List Entry) (left : ℕ) (history
       kept_on : Kept middle
       kept_on = passed first ran.actor h middle g.longer.added b rest idle (apart 0 first (omega arith) refl) run g.longer.are kept
 
-      by : HasLasting setup h (slot.longer.added ++ h) ⊎ AreAlike (world setup h) (world setup (slot.longer.added ++ h)) → (AreAlike (world setup start) (world setup middle) → HasLasting setup middle past) → HasLasting setup h past
+      by : HasLasting setup h (slot.longer.added ++ h) ⊎ AreAlike (world setup h) (world setup (slot.longer.added ++ h))
+          → (AreAlike (world setup start) (world setup middle) → HasLasting setup middle past) → HasLasting setup h past
       by (inl l) later = subst (HasLasting setup h) (sym g.longer.are) (lasting_behind setup g.longer.added h middle (subst (HasLasting setup h) (sym slot.longer.are) l))
       by (inr same) later =
           let on : AreAlike (world setup h) (world setup middle) = subst (λ es. AreAlike (world setup h) (world setup es)) (sym slot.longer.are) same in
@@ -76,5 +84,6 @@ pub rounds_last : RoundsLast
 rounds_last setup lets ds after h past b left history round a =
     rounds_kept setup lets past left history h a.drainer (λ x. ⊤) (λ x. ⊤) (λ x. x.actor.memory.stale ≡ false) (λ other ran x middle newer n rest idle o run are k. tt)
     (λ ran x middle newer n rest are alike k run awake.
-    keys_are_decided setup lets a.drainer.seat h a.key a.object a.drainer.actor ran.actor x middle n rest a.built (older setup newer middle (subst (IsHistory setup) are history)) alike run awake a.acts a.followed a.stands)
+    keys_are_decided setup lets a.drainer.seat h a.key a.object a.drainer.actor ran.actor x middle n rest a.built
+    (older setup newer middle (subst (IsHistory setup) are history)) alike run awake a.acts a.followed a.stands)
     ds h b after true round refl (record { rows = refl; stored = refl; mounts = refl }) tt a.place a.there (λ i other lt at. tt) a.awake

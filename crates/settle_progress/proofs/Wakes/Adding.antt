@@ -2,10 +2,10 @@
 use Rattle.std.proofs.Common.{◌≡◌, ◌∙◌, List, [], ◌∷◌, ◌++◌, Bool, true, false, true≢false, Some, inl, inr, refl, sym, ap, subst, if◌then◌else◌}
 use Rattle.std.specs.Prelude.{cond, map, ◌||◌}
 use Rattle.std.specs.List.{list_any}
-use Rattle.kube_types.specs.declared.key.Key.{Key}
-use Rattle.kube_types.specs.declared.parts.Kind.{Kind}
-use Rattle.kube_types.specs.Keys.{key_of, same_key}
-use Rattle.kube_types.proofs.SameKeys.{same_key_itself}
+use Rattle.kube_objects.specs.declared.key.Key.{Key}
+use Rattle.kube_parts.specs.declared.parts.Kind.{Kind}
+use Rattle.kube_objects.specs.Keys.{key_of, same_key}
+use Rattle.kube_objects.proofs.SameKeys.{same_key_itself}
 use Rattle.informer_cache.specs.All.{AllKnown, cache_of}
 use Rattle.informer_cache.specs.Cache.{objects_of}
 use Rattle.model_laws.proofs.Lists.{IsIn, none_some, one}
@@ -37,7 +37,8 @@ marks_stay : (j k : Key) (ts : List Taken) → mark_of k ts ≡ Some true → ma
 marks_stay j k [] e = none_some e
 marks_stay j k (t ∷ ts) e = by (is_of k t) refl e (marks_stay j k ts)
   where
-    by : (b : Bool) → is_of k t ≡ b → cond b (Some t.again) (mark_of k ts) ≡ Some true → (mark_of k ts ≡ Some true → mark_of k (map (mark j) ts) ≡ Some true) → cond (is_of k (mark j t)) (Some (mark j t).again) (mark_of k (map (mark j) ts)) ≡ Some true
+    by : (b : Bool) → is_of k t ≡ b → cond b (Some t.again) (mark_of k ts) ≡ Some true
+        → (mark_of k ts ≡ Some true → mark_of k (map (mark j) ts) ≡ Some true) → cond (is_of k (mark j t)) (Some (mark j t).again) (mark_of k (map (mark j) ts)) ≡ Some true
     by true is m rest = ap (λ b. cond b (Some (mark j t).again) (mark_of k (map (mark j) ts))) (mark_same j t k ∙ is) ∙ ap Some (mark_again j t (one t.again true m))
     by false is m rest = ap (λ b. cond b (Some (mark j t).again) (mark_of k (map (mark j) ts))) (mark_same j t k ∙ is) ∙ rest m
 
@@ -46,8 +47,10 @@ marked_self : (k : Key) (ts : List Taken) → list_any (is_of k) ts ≡ true →
 marked_self k [] e = absurd (true≢false (sym e))
 marked_self k (t ∷ ts) e = by (is_of k t) refl e (marked_self k ts)
   where
-    by : (b : Bool) → is_of k t ≡ b → (b || list_any (is_of k) ts) ≡ true → (list_any (is_of k) ts ≡ true → mark_of k (map (mark k) ts) ≡ Some true) → cond (is_of k (mark k t)) (Some (mark k t).again) (mark_of k (map (mark k) ts)) ≡ Some true
-    by true is any rest = ap (λ b. cond b (Some (mark k t).again) (mark_of k (map (mark k) ts))) (mark_same k t k ∙ is) ∙ ap Some (ap (λ b. (if b then record { key = t.key; again = true } else t).again) is)
+    by : (b : Bool) → is_of k t ≡ b → (b || list_any (is_of k) ts) ≡ true → (list_any (is_of k) ts ≡ true → mark_of k (map (mark k) ts) ≡ Some true)
+        → cond (is_of k (mark k t)) (Some (mark k t).again) (mark_of k (map (mark k) ts)) ≡ Some true
+    by true is any rest = ap (λ b. cond b (Some (mark k t).again) (mark_of k (map (mark k) ts))) (mark_same k t k ∙ is)
+        ∙ ap Some (ap (λ b. (if b then record { key = t.key; again = true } else t).again) is)
     by false is any rest = ap (λ b. cond b (Some (mark k t).again) (mark_of k (map (mark k) ts))) (mark_same k t k ∙ is) ∙ rest any
 
 or_true : (a : Bool) → (a || true) ≡ true
@@ -90,7 +93,8 @@ kinds_stay : (c : AllKnown) (kinds : List Kind) (k : Key) (w : Work) → ComesAg
 kinds_stay c [] k w a = a
 kinds_stay c (x ∷ xs) k w a = kinds_stay c xs k (kind_added c x w) (all_stay (map key_of (objects_of (cache_of x c))) k w a)
 
-pub kinds_come : (c : AllKnown) (kinds : List Kind) (kind : Kind) (k : Key) (w : Work) → IsIn kind kinds → list_any (same_key k) (map key_of (objects_of (cache_of kind c))) ≡ true → ComesAgain k (kinds_added c kinds w)
+pub kinds_come : (c : AllKnown) (kinds : List Kind) (kind : Kind) (k : Key) (w : Work) → IsIn kind kinds
+    → list_any (same_key k) (map key_of (objects_of (cache_of kind c))) ≡ true → ComesAgain k (kinds_added c kinds w)
 kinds_come c [] kind k w i there = absurd i
 kinds_come c (x ∷ xs) kind k w (inl is) there =
     kinds_stay c xs k (kind_added c x w) (all_come (map key_of (objects_of (cache_of x c))) k w (subst (λ y. list_any (same_key k) (map key_of (objects_of (cache_of y c))) ≡ true) (sym is) there))

@@ -4,12 +4,12 @@ use Rattle.std.specs.Prelude.{◌==◌, ◌&&◌, ◌||◌, cond, filter, length
 use Rattle.std.specs.List.{list_any}
 use Rattle.std.proofs.lemmas.Bool.{and_from}
 use Rattle.std.proofs.lemmas.Bool.Decides.{nat_tests}
-use Rattle.kube_types.specs.declared.key.Key.{Key}
-use Rattle.kube_types.specs.declared.parts.Kind.{Kind}
-use Rattle.kube_types.specs.declared.objects.Object.{Object}
-use Rattle.kube_types.specs.Keys.{is_of_kind, key_of, kind_of, row_at, rows_of, same_key, same_kind}
-use Rattle.kube_types.proofs.KeyOrder.{row_at_key}
-use Rattle.kube_types.proofs.SameKeys.{same_key-Decides, same_kind-Decides}
+use Rattle.kube_objects.specs.declared.key.Key.{Key}
+use Rattle.kube_parts.specs.declared.parts.Kind.{Kind}
+use Rattle.kube_objects.specs.declared.objects.Object.{Object}
+use Rattle.kube_objects.specs.Keys.{is_of_kind, key_of, kind_of, row_at, rows_of, same_key, same_kind}
+use Rattle.kube_objects.proofs.KeyOrder.{row_at_key}
+use Rattle.kube_objects.proofs.SameKeys.{same_key-Decides, same_kind-Decides}
 use Rattle.call_types.specs.declared.entry.Entry.{Entry}
 use Rattle.call_types.specs.declared.reply.Event.{Event}
 use Rattle.call_types.specs.declared.reply.Events.{Events as EventsData}
@@ -87,11 +87,16 @@ stands_alike old new key o alike there = by (row_at key new.store.rows) refl
   where
     by : (x : Option Object) → row_at key new.store.rows ≡ x → Stands new key
     by (Some p) e = There p e
-    by None e = none_some (sym (ap (option_map content_of) e) ∙ (sym (row_plain key new.store.rows) ∙ (ap (row_at key) (sym alike.rows) ∙ (row_plain key old.store.rows ∙ ap (option_map content_of) there))))
+    by None e = none_some (sym (ap (option_map content_of) e) ∙
+        (sym (row_plain key new.store.rows) ∙ (ap (row_at key) (sym alike.rows) ∙ (row_plain key old.store.rows ∙ ap (option_map content_of) there))))
 
 -- what an actor has not seen, and what stands, it was not told
-pub untold : (setup : Setup) (seat : ℕ) (s : ActorState) (h : List Entry) (key : Key) (o : Object) → IsHistory setup h → IsBuiltKind s.role.kind → IsReady seat s h → row_at key (world setup h).store.rows ≡ Some o → row_at key (all_objects s.caches) ≡ None → IsUntold setup seat h key
-untold setup seat s h key o history built ready there unseen from is = by ((caught setup h seat key.kind history (watches_on setup h seat key.kind history (watches_from s.role.kind (own seat h) key.kind built ready.stands.told.licensed)) from (sym (from_same (following_of (own seat h) key.kind)) ∙ is)).1 key refl)
+pub untold : (setup : Setup) (seat : ℕ) (s : ActorState) (h : List Entry) (key : Key) (o : Object) → IsHistory setup h → IsBuiltKind s.role.kind
+    → IsReady seat s h → row_at key (world setup h).store.rows ≡ Some o → row_at key (all_objects s.caches) ≡ None → IsUntold setup seat h key
+untold setup seat s h key o history built ready there unseen from is =
+    by ((caught setup h seat key.kind history
+    (watches_on setup h seat key.kind history (watches_from s.role.kind (own seat h) key.kind built ready.stands.told.licensed)) from
+    (sym (from_same (following_of (own seat h) key.kind)) ∙ is)).1 key refl)
   where
     none : object_of (newest (own seat h) key) ≡ None
     none = sym (ready.stands.told.caches.rows key) ∙ unseen
@@ -110,7 +115,8 @@ changed_by : (key : Key) (from : ℕ) (log : List Event) → from < changed_at k
 changed_by key from [] lt = absurd (omega (arith, lt))
 changed_by key from (x ∷ xs) lt = by (same_key (key_of x.object) key) refl lt (changed_by key from xs)
   where
-    by : (b : Bool) → same_key (key_of x.object) key ≡ b → from < (if b then x.version else changed_at key xs) → (from < changed_at key xs → (y : Event) × (IsIn y xs × ((key_of y.object ≡ key) × (y.version ≡ changed_at key xs))))
+    by : (b : Bool) → same_key (key_of x.object) key ≡ b → from < (if b then x.version else changed_at key xs)
+        → (from < changed_at key xs → (y : Event) × (IsIn y xs × ((key_of y.object ≡ key) × (y.version ≡ changed_at key xs))))
         → (y : Event) × (IsIn y (x ∷ xs) × ((key_of y.object ≡ key) × (y.version ≡ (if same_key (key_of x.object) key then x.version else changed_at key xs))))
     by true e l rest = (x, (inl refl, ((same_key-Decides (key_of x.object) key).0 e, rw e refl)))
     by false e l rest = let r = rest l in (r.0, (inr r.1.0, (r.1.1.0, r.1.1.1 ∙ rw e refl)))
@@ -144,17 +150,20 @@ in_kind p o (x ∷ xs) (inr more) e = by (p x) (in_kind p o xs more e)
     by false i = i
 
 -- a pass goes on by one kind at most, past the one that it watches
-pass_further : (pass : Pass) (passes : Bool) (request : Request) (reply : Reply) → ((pass_after pass passes request reply).behind ≡ pass.behind) ⊎ ((passes ≡ true) × ((pass_after pass passes request reply).behind ≡ pass.behind + 1))
+pass_further : (pass : Pass) (passes : Bool) (request : Request) (reply : Reply) → ((pass_after pass passes request reply).behind ≡ pass.behind)
+    ⊎ ((passes ≡ true) × ((pass_after pass passes request reply).behind ≡ pass.behind + 1))
 pass_further pass passes (requests.Watch k from) (replies.Events events) = by passes (length events.events == most_events) refl
   where
-    by : (a b : Bool) → passes ≡ a → ((if a && not b then pass.behind + 1 else pass.behind) ≡ pass.behind) ⊎ ((passes ≡ true) × ((if a && not b then pass.behind + 1 else pass.behind) ≡ pass.behind + 1))
+    by : (a b : Bool) → passes ≡ a → ((if a && not b then pass.behind + 1 else pass.behind) ≡ pass.behind)
+        ⊎ ((passes ≡ true) × ((if a && not b then pass.behind + 1 else pass.behind) ≡ pass.behind + 1))
     by true false e = inr (e, refl)
     by true true e = inl refl
     by false b e = inl refl
 pass_further pass passes (requests.Watch k from) _ = inl refl
 pass_further pass passes _ reply = inl refl
 
-pass_full : (pass : Pass) (passes : Bool) (kind : Kind) (from : ℕ) (events : EventsData) → (length events.events == most_events) ≡ true → (pass_after pass passes (requests.Watch kind from) (replies.Events events)).behind ≡ pass.behind
+pass_full : (pass : Pass) (passes : Bool) (kind : Kind) (from : ℕ) (events : EventsData) → (length events.events == most_events) ≡ true
+    → (pass_after pass passes (requests.Watch kind from) (replies.Events events)).behind ≡ pass.behind
 pass_full pass true kind from events e = ap (λ f. if true && not f then pass.behind + 1 else pass.behind) e
 pass_full pass false kind from events e = refl
 
@@ -172,7 +181,8 @@ data After (setup : Setup) (seat : ℕ) (next : ActorState) (entries : List Entr
   IsStill : IsUntold setup seat entries key → IsAhead next.role next.pass key → After setup seat next entries key
 
 -- one call
-module _ (setup : Setup) (seat : ℕ) (x : ActorState) (request : Request) (reply : Reply) (h : List Entry) (key : Key) (o : Object) (given : IsCallGiven setup seat x request reply h) (there : row_at key (world setup h).store.rows ≡ Some o) (still : IsUntold setup seat h key) (ahead : IsAhead x.role x.pass key) where
+module _ (setup : Setup) (seat : ℕ) (x : ActorState) (request : Request) (reply : Reply) (h : List Entry) (key : Key) (o : Object)
+    (given : IsCallGiven setup seat x request reply h) (there : row_at key (world setup h).store.rows ≡ Some o) (still : IsUntold setup seat h key) (ahead : IsAhead x.role x.pass key) where
   -- a call that reads another kind, or none, leaves it untold
   other_call : reads_kind key.kind request ≡ false → IsUntold setup seat (told_entry seat x request reply ∷ h) key
   other_call unread from is =
@@ -199,9 +209,11 @@ module _ (setup : Setup) (seat : ℕ) (x : ActorState) (request : Request) (repl
   ahead_by next role pass place lt at = ahead place (omega (arith, lt, pass)) (ap (λ (r : Role). kind_in_order r place) (sym role) ∙ at)
 
   -- the key is among those that were read, and nothing is in work
-  read_waits : (caches : AllKnown) (kind : Kind) → x.given ≡ Some (givens.Read kind) → x.under ≡ None → list_any (same_key key) (keys_in reply) ≡ true → waits key (told_to x caches request reply).work ≡ true
+  read_waits : (caches : AllKnown) (kind : Kind) → x.given ≡ Some (givens.Read kind) → x.under ≡ None
+      → list_any (same_key key) (keys_in reply) ≡ true → waits key (told_to x caches request reply).work ≡ true
   read_waits caches kind eg idle told_it =
-      subst (λ w. waits key w ≡ true) (sym (ap (λ (y : ActorState). y.work) (ap (given_told (learned x caches request reply) request reply) eg))) (all_self (keys_in reply) key x.work told_it (taken_none idle))
+      subst (λ w. waits key w ≡ true) (sym (ap (λ (y : ActorState). y.work) (ap (given_told (learned x caches request reply) request reply) eg)))
+      (all_self (keys_in reply) key x.work told_it (taken_none idle))
 
   pass_is : (caches : AllKnown) (kind : Kind) → x.given ≡ Some (givens.Read kind) → (told_to x caches request reply).pass ≡ pass_after x.pass (is_passing (passing x) kind) request reply
   pass_is caches kind eg = ap (λ (y : ActorState). y.pass) (ap (given_told (learned x caches request reply) request reply) eg)
@@ -209,14 +221,18 @@ module _ (setup : Setup) (seat : ℕ) (x : ActorState) (request : Request) (repl
   own_kind : (kind : Kind) → kind ≡ key.kind → is_of_kind kind o ≡ true
   own_kind kind k_is = (same_kind-Decides (kind_of o) kind).1 (ap (λ (k : Key). k.kind) (row_at_key key o (world setup h).store.rows there) ∙ sym k_is)
 
-  read_own : (caches : AllKnown) (kind : Kind) → x.given ≡ Some (givens.Read kind) → x.under ≡ None → kind ≡ key.kind → Reads setup seat x kind request reply h → Stays (world setup h) (world setup (told_entry seat x request reply ∷ h)) request reply
+  read_own : (caches : AllKnown) (kind : Kind) → x.given ≡ Some (givens.Read kind) → x.under ≡ None → kind ≡ key.kind
+      → Reads setup seat x kind request reply h → Stays (world setup h) (world setup (told_entry seat x request reply ∷ h)) request reply
       → After setup seat (told_to x caches request reply) (told_entry seat x request reply ∷ h) key
   read_own caches kind eg idle k_is (Lists none asks answered) stays =
       let mine = in_kind (is_of_kind kind) o (world setup h).store.rows (found_in key (world setup h).store.rows o there) (own_kind kind k_is) in
-      WaitsNow (read_waits caches kind eg idle (ap (λ a. list_any (same_key key) (keys_in a)) answered ∙ among key o (rows_of kind (world setup h).store.rows) mine (row_at_key key o (world setup h).store.rows there)))
+      WaitsNow (read_waits caches kind eg idle
+      (ap (λ a. list_any (same_key key) (keys_in a)) answered ∙ among key o (rows_of kind (world setup h).store.rows) mine (row_at_key key o (world setup h).store.rows there)))
   read_own caches kind eg idle k_is (FindsGone from gone some passes asks old answered) stays =
       let now = gone_from seat (told_entry seat x request reply) h refl refl kind from gone asks answered in
-      let behind = ap (λ (p : Pass). p.behind) (pass_is caches kind eg) ∙ (ap (λ q. (pass_after x.pass (is_passing (passing x) kind) q reply).behind) asks ∙ ap (λ a. (pass_after x.pass (is_passing (passing x) kind) (requests.Watch kind from) a).behind) answered) in
+      let behind = ap (λ (p : Pass). p.behind) (pass_is caches kind eg)
+      ∙ (ap (λ q. (pass_after x.pass (is_passing (passing x) kind) q reply).behind) asks
+      ∙ ap (λ a. (pass_after x.pass (is_passing (passing x) kind) (requests.Watch kind from) a).behind) answered) in
       IsStill (λ f is. none_some (sym now ∙ (ap (from_of seat (told_entry seat x request reply ∷ h)) k_is ∙ is))) (ahead_by (told_to x caches request reply) (role_is caches) behind)
   read_own caches kind eg idle k_is (IsTold from some passes asks low within answered) stays =
       let c = changed_by key from (world setup h).log (still from (ap (from_of seat h) (sym k_is) ∙ some)) in
@@ -225,7 +241,8 @@ module _ (setup : Setup) (seat : ℕ) (x : ActorState) (request : Request) (repl
       lt : from < changed_at key (world setup h).log
       lt = still from (ap (from_of seat h) (sym k_is) ∙ some)
 
-      by : (y : Event) → IsIn y (world setup h).log → key_of y.object ≡ key → y.version ≡ changed_at key (world setup h).log → (full : Bool) → (length (told kind from (world setup h).log) == most_events) ≡ full
+      by : (y : Event) → IsIn y (world setup h).log → key_of y.object ≡ key → y.version ≡ changed_at key (world setup h).log → (full : Bool)
+          → (length (told kind from (world setup h).log) == most_events) ≡ full
           → After setup seat (told_to x caches request reply) (told_entry seat x request reply ∷ h) key
       by y i own at full e = elim (told_or_later setup h kind from y low i later) [
         | inl t ↦ WaitsNow (read_waits caches kind eg idle (ap (λ a. list_any (same_key key) (keys_in a)) answered ∙ among_events key y (told kind from (world setup h).log) t own))
@@ -233,25 +250,33 @@ module _ (setup : Setup) (seat : ℕ) (x : ActorState) (request : Request) (repl
       ]
         where
           later : is_later kind from y ≡ true
-          later = and_from (nat_lt from y.version) (is_of_kind kind y.object) (let l = lt in grind (arith, nat_tests, l, at)) ((same_kind-Decides (kind_of y.object) kind).1 (ap (λ (k : Key). k.kind) own ∙ sym k_is))
+          later = and_from (nat_lt from y.version) (is_of_kind kind y.object) (let l = lt in grind (arith, nat_tests, l, at))
+              ((same_kind-Decides (kind_of y.object) kind).1 (ap (λ (k : Key). k.kind) own ∙ sym k_is))
 
-          then_late : (f : Bool) → (length (told kind from (world setup h).log) == most_events) ≡ f → (told_events kind from (world setup h).store.version (world setup h).log).upto < y.version → After setup seat (told_to x caches request reply) (told_entry seat x request reply ∷ h) key
+          then_late : (f : Bool) → (length (told kind from (world setup h).log) == most_events) ≡ f
+              → (told_events kind from (world setup h).store.version (world setup h).log).upto < y.version → After setup seat (told_to x caches request reply) (told_entry seat x request reply ∷ h) key
           then_late false ef late =
               let whole = (told_so setup h kind from false low ef).whole refl in
               let top = changed_below setup h key in
               absurd (omega (arith, whole, top, late, at))
           then_late true ef late =
               let now = watched_from seat (told_entry seat x request reply) h refl refl kind from from (world setup h).store.version (world setup h).log asks answered some in
-              let behind = ap (λ (p : Pass). p.behind) (pass_is caches kind eg) ∙ (ap (λ q. (pass_after x.pass (is_passing (passing x) kind) q reply).behind) asks ∙ (ap (λ a. (pass_after x.pass (is_passing (passing x) kind) (requests.Watch kind from) a).behind) answered ∙ pass_full x.pass (is_passing (passing x) kind) kind from (told_events kind from (world setup h).store.version (world setup h).log) ef)) in
+              let behind = ap (λ (p : Pass). p.behind) (pass_is caches kind eg)
+              ∙ (ap (λ q. (pass_after x.pass (is_passing (passing x) kind) q reply).behind) asks
+              ∙ (ap (λ a. (pass_after x.pass (is_passing (passing x) kind) (requests.Watch kind from) a).behind) answered
+              ∙ pass_full x.pass (is_passing (passing x) kind) kind from (told_events kind from (world setup h).store.version (world setup h).log) ef)) in
               IsStill (nearer now late) (ahead_by (told_to x caches request reply) (role_is caches) behind)
             where
-              nearer : from_of seat (told_entry seat x request reply ∷ h) kind ≡ Some (told_events kind from (world setup h).store.version (world setup h).log).upto → (told_events kind from (world setup h).store.version (world setup h).log).upto < y.version → IsUntold setup seat (told_entry seat x request reply ∷ h) key
+              nearer : from_of seat (told_entry seat x request reply ∷ h) kind ≡ Some
+                  (told_events kind from (world setup h).store.version (world setup h).log).upto
+                  → (told_events kind from (world setup h).store.version (world setup h).log).upto < y.version → IsUntold setup seat (told_entry seat x request reply ∷ h) key
               nearer now late f is =
                   let u = one (told_events kind from (world setup h).store.version (world setup h).log).upto f (sym now ∙ (ap (from_of seat (told_entry seat x request reply ∷ h)) k_is ∙ is)) in
                   let same = ap (changed_at key) stays.log in
                   omega (arith, u, same, late, at)
 
-  read_other : (caches : AllKnown) (kind : Kind) → x.given ≡ Some (givens.Read kind) → same_kind kind key.kind ≡ false → Reads setup seat x kind request reply h → After setup seat (told_to x caches request reply) (told_entry seat x request reply ∷ h) key
+  read_other : (caches : AllKnown) (kind : Kind) → x.given ≡ Some (givens.Read kind) → same_kind kind key.kind ≡ false
+      → Reads setup seat x kind request reply h → After setup seat (told_to x caches request reply) (told_entry seat x request reply ∷ h) key
   read_other caches kind eg other reads = IsStill (other_call (unread reads)) (further (pass_further x.pass (is_passing (passing x) kind) request reply))
     where
       unread : Reads setup seat x kind request reply h → reads_kind key.kind request ≡ false
@@ -266,7 +291,9 @@ module _ (setup : Setup) (seat : ℕ) (x : ActorState) (request : Request) (repl
       not_it : is_passing (passing x) kind ≡ true → kind_in_order x.role x.pass.behind ≡ Some key.kind → ⊥
       not_it p at = true≢false (sym (sym (ap (λ k. is_passing k kind) at) ∙ p) ∙ ((same_kind-flip key.kind kind) ∙ other))
 
-      further : ((pass_after x.pass (is_passing (passing x) kind) request reply).behind ≡ x.pass.behind) ⊎ ((is_passing (passing x) kind ≡ true) × ((pass_after x.pass (is_passing (passing x) kind) request reply).behind ≡ x.pass.behind + 1)) → IsAhead (told_to x caches request reply).role (told_to x caches request reply).pass key
+      further : ((pass_after x.pass (is_passing (passing x) kind) request reply).behind ≡ x.pass.behind)
+          ⊎ ((is_passing (passing x) kind ≡ true) × ((pass_after x.pass (is_passing (passing x) kind) request reply).behind ≡ x.pass.behind + 1))
+          → IsAhead (told_to x caches request reply).role (told_to x caches request reply).pass key
       further (inl same) place lt at = ahead_by (told_to x caches request reply) (role_is caches) (behind ∙ same) place lt at
       further (inr on) place lt at = elim (at_or_before place x.pass.behind (let b = behind in let s = on.1 in omega (arith, lt, b, s))) [
         | inl before ↦ ahead place before (ap (λ (r : Role). kind_in_order r place) (sym (role_is caches)) ∙ at)
@@ -276,16 +303,20 @@ module _ (setup : Setup) (seat : ℕ) (x : ActorState) (request : Request) (repl
   after_call : (caches : AllKnown) → After setup seat (told_to x caches request reply) (told_entry seat x request reply ∷ h) key
   after_call caches = by (given_so x request given.ask)
     where
-      by_kind : (kind : Kind) → x.given ≡ Some (givens.Read kind) → (b : Bool) → same_kind kind key.kind ≡ b → After setup seat (told_to x caches request reply) (told_entry seat x request reply ∷ h) key
+      by_kind : (kind : Kind) → x.given ≡ Some (givens.Read kind) → (b : Bool) → same_kind kind key.kind ≡ b
+          → After setup seat (told_to x caches request reply) (told_entry seat x request reply ∷ h) key
       by_kind kind eg true e = let r = read_called setup seat x request reply h given kind eg in read_own caches kind eg r.idle ((same_kind-Decides kind key.kind).0 e) r.reads r.stays
       by_kind kind eg false e = read_other caches kind eg e (read_called setup seat x request reply h given kind eg).reads
 
       by : GivenSo x → After setup seat (told_to x caches request reply) (told_entry seat x request reply ∷ h) key
       by (GivesTask eg) =
           let t = task_called setup seat x request reply h given eg in
-          IsStill (other_call (t.unread key.kind)) (ahead_by (told_to x caches request reply) (role_is caches) (ap (λ (y : ActorState). y.pass.behind) (ap (given_told (learned x caches request reply) request reply) eg ∙ ap (task_told (learned x caches request reply) reply) t.there)))
+          IsStill (other_call (t.unread key.kind))
+          (ahead_by (told_to x caches request reply) (role_is caches)
+          (ap (λ (y : ActorState). y.pass.behind) (ap (given_told (learned x caches request reply) request reply) eg ∙ ap (task_told (learned x caches request reply) reply) t.there)))
       by (GivesStart eg) =
-          IsStill (other_call ((start_called setup seat x request reply h given eg).unread key.kind)) (ahead_by (told_to x caches request reply) (role_is caches) (ap (λ (y : ActorState). y.pass.behind) (ap (given_told (learned x caches request reply) request reply) eg)))
+          IsStill (other_call ((start_called setup seat x request reply h given eg).unread key.kind))
+          (ahead_by (told_to x caches request reply) (role_is caches) (ap (λ (y : ActorState). y.pass.behind) (ap (given_told (learned x caches request reply) request reply) eg)))
       by (GivesRead kind eg) = by_kind kind eg (same_kind kind key.kind) refl
 
 lost_pass : (x : ActorState) → (lost_to x).pass ≡ x.pass
@@ -301,9 +332,12 @@ lost_pass x = by x.given
     by (Some (givens.Read kind)) = refl
     by (Some givens.Task) = by_under x.under
 
-module _ (setup : Setup) (lets : Lets) (seat : ℕ) (role : Role) (start : List Entry) (key : Key) (o : Object) (built : IsBuiltKind role.kind) (followed : follows role.kind key.kind ≡ true) (there : row_at key (world setup start).store.rows ≡ Some o)
-    (after : ActorState) (past : List Entry) (left : ℕ) (history : IsHistory setup past) (fresh : after.memory.stale ≡ false) (Held : List Entry → Type 0) (stays : StaysKept seat role past Held) (waiting_last : LastsWhereWaiting setup lets seat role start key after past left Held) where
-  pub untold_last : (s : ActorState) (h : List Entry) (b : ℕ) → Runs lets seat after past left true s h b → s.role ≡ role → AreAlike (world setup start) (world setup h) → KnowsBehind setup seat s.role s.pass h → Held h → IsUntold setup seat h key → IsAhead s.role s.pass key → HasLasting setup h past
+module _ (setup : Setup) (lets : Lets) (seat : ℕ) (role : Role) (start : List Entry) (key : Key) (o : Object) (built : IsBuiltKind role.kind)
+    (followed : follows role.kind key.kind ≡ true) (there : row_at key (world setup start).store.rows ≡ Some o)
+    (after : ActorState) (past : List Entry) (left : ℕ) (history : IsHistory setup past) (fresh : after.memory.stale ≡ false)
+    (Held : List Entry → Type 0) (stays : StaysKept seat role past Held) (waiting_last : LastsWhereWaiting setup lets seat role start key after past left Held) where
+  pub untold_last : (s : ActorState) (h : List Entry) (b : ℕ) → Runs lets seat after past left true s h b → s.role ≡ role
+      → AreAlike (world setup start) (world setup h) → KnowsBehind setup seat s.role s.pass h → Held h → IsUntold setup seat h key → IsAhead s.role s.pass key → HasLasting setup h past
   untold_last s h b (IsSpent none state entries rest busy) is alike knows kept still ahead = absurd (true≢false busy)
   untold_last s h b (IsIdle some ready turn entries rest calm) is alike knows kept still ahead =
       let awake : s.memory.stale ≡ false = ap (λ m. m.stale) (sym (turn_memory s after Idle turn)) ∙ fresh in
@@ -313,7 +347,8 @@ module _ (setup : Setup) (lets : Lets) (seat : ℕ) (role : Role) (start : List 
       let all = passed (kinds_of s.role.kind) s.pass.behind rests.passed in
       absurd (ahead p.place (omega (arith, within, all)) p.at)
   untold_last s h b (Asks given next request reply some ready turn passes absorbs more) is alike knows kept still ahead =
-      on (λ r a k u d. untold_last next (told_entry seat given request reply ∷ h) (b - 1) more r a k kept_on u d) (calls_last_or_leave_alike setup (world setup h) given.role.kind request (rows_stand_in_order setup h))
+      on (λ r a k u d. untold_last next (told_entry seat given request reply ∷ h) (b - 1) more r a k kept_on u d)
+      (calls_last_or_leave_alike setup (world setup h) given.role.kind request (rows_stand_in_order setup h))
     where
       kept_on : Held (told_entry seat given request reply ∷ h)
       kept_on = let grows = run_grows lets seat after past left true next _ _ more in stays s given request reply h grows.longer.added is ready turn grows.longer.are kept
@@ -358,22 +393,28 @@ module _ (setup : Setup) (lets : Lets) (seat : ℕ) (role : Role) (start : List 
           by (There p at) = after_call setup seat given request reply h key p g at still given_ahead next.caches
 
       then_ : After setup seat next (told_entry seat given request reply ∷ h) key → AreAlike (world setup start) (world setup (told_entry seat given request reply ∷ h))
-          → (next.role ≡ role → AreAlike (world setup start) (world setup (told_entry seat given request reply ∷ h)) → KnowsBehind setup seat next.role next.pass (told_entry seat given request reply ∷ h) → IsUntold setup seat (told_entry seat given request reply ∷ h) key → IsAhead next.role next.pass key
+          → (next.role ≡ role → AreAlike (world setup start) (world setup (told_entry seat given request reply ∷ h))
+          → KnowsBehind setup seat next.role next.pass (told_entry seat given request reply ∷ h)
+          → IsUntold setup seat (told_entry seat given request reply ∷ h) key → IsAhead next.role next.pass key
           → HasLasting setup (told_entry seat given request reply ∷ h) past)
           → HasLasting setup (told_entry seat given request reply ∷ h) past
       then_ (WaitsNow waiting) a rest = waiting_last next (told_entry seat given request reply ∷ h) (b - 1) more next_role a knows_next kept_on waiting
       then_ (IsStill u d) a rest = rest next_role a knows_next u d
 
-      on : (next.role ≡ role → AreAlike (world setup start) (world setup (told_entry seat given request reply ∷ h)) → KnowsBehind setup seat next.role next.pass (told_entry seat given request reply ∷ h) → IsUntold setup seat (told_entry seat given request reply ∷ h) key → IsAhead next.role next.pass key
+      on : (next.role ≡ role → AreAlike (world setup start) (world setup (told_entry seat given request reply ∷ h))
+          → KnowsBehind setup seat next.role next.pass (told_entry seat given request reply ∷ h) → IsUntold setup seat (told_entry seat given request reply ∷ h) key → IsAhead next.role next.pass key
           → HasLasting setup (told_entry seat given request reply ∷ h) past)
           → LastsOrAlike (world setup h) (effect setup (world setup h) given.role.kind request) → HasLasting setup h past
       on rest (inl lasts) =
           let grows = run_grows lets seat after past left true next _ _ more in
-          lasting_here setup (told_entry seat given request reply) h past grows.longer.added grows.longer.are (subst (λ r. LastsBetween (world setup h) (world setup (told_entry seat given request reply ∷ h)) r) (sym whole.1) lasts)
+          lasting_here setup (told_entry seat given request reply) h past grows.longer.added grows.longer.are
+          (subst (λ r. LastsBetween (world setup h) (world setup (told_entry seat given request reply ∷ h)) r) (sym whole.1) lasts)
       on rest (inr same) = lasting_later setup (told_entry seat given request reply) h past (then_ called (then_alike _ _ _ alike same) rest)
   untold_last s h b (IsHeld given next request some ready turn held absorbs more) is alike knows kept still ahead =
-      untold_last next h (b - 1) more (still_role s given next (Call request) request Lost turn absorbs ∙ is) alike (lost_knows setup seat given next request h (turned_knows setup seat s given (Call request) h turn knows) absorbs) kept still
-      (subst (λ r. IsAhead r next.pass key) (sym (still_role s given next (Call request) request Lost turn absorbs)) (subst (λ p. IsAhead s.role p key) (sym (ap (λ (y : ActorState). y.pass) absorbs ∙ lost_pass given)) (by (turn_pass s given (Call request) turn))))
+      untold_last next h (b - 1) more (still_role s given next (Call request) request Lost turn absorbs ∙ is) alike
+      (lost_knows setup seat given next request h (turned_knows setup seat s given (Call request) h turn knows) absorbs) kept still
+      (subst (λ r. IsAhead r next.pass key) (sym (still_role s given next (Call request) request Lost turn absorbs))
+      (subst (λ p. IsAhead s.role p key) (sym (ap (λ (y : ActorState). y.pass) absorbs ∙ lost_pass given)) (by (turn_pass s given (Call request) turn))))
     where
       by : PassAfter s given → IsAhead s.role given.pass key
       by (Kept same) = subst (λ p. IsAhead s.role p key) (sym same) ahead

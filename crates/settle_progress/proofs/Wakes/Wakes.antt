@@ -1,9 +1,9 @@
 -- A slot decides a key that is in work when it begins, once that work is over.
 use Rattle.std.proofs.Common.{◌≡◌, ◌∙◌, ℕ, ◌-◌, List, [], ◌∷◌, ◌++◌, Bool, true, false, true≢false, Option, Some, None, inl, inr, refl, sym, ap, subst, if◌then◌else◌}
 use Rattle.std.specs.Prelude.{cond, is_some, map, ⊤}
-use Rattle.kube_types.specs.declared.key.Key.{Key}
-use Rattle.kube_types.specs.declared.objects.Object.{Object}
-use Rattle.kube_types.specs.Keys.{row_at}
+use Rattle.kube_objects.specs.declared.key.Key.{Key}
+use Rattle.kube_objects.specs.declared.objects.Object.{Object}
+use Rattle.kube_objects.specs.Keys.{row_at}
 use Rattle.call_types.specs.declared.entry.Entry.{Entry}
 use Rattle.call_types.specs.declared.reply.Reply.{Reply}
 use Rattle.call_types.specs.declared.request.Request.{Request}
@@ -43,7 +43,8 @@ use Rattle.settle_calls.proofs.Passes.Given.{in_place}
 use Rattle.settle_progress.specs.Wakes.Wakes.{BusySlotsLast, CachedKeysCome, ComesAgain}
 use Rattle.settle_progress.proofs.Wakes.Adding.{finished_comes, kinds_come, put_off_comes}
 
-pub come_by : (s : ActorState) (mine : List Entry) (key : Key) (o : Object) → AllStandFor s.caches mine → follows s.role.kind key.kind ≡ true → row_at key (all_objects s.caches) ≡ Some o → ComesAgain key (woken s).work
+pub come_by : (s : ActorState) (mine : List Entry) (key : Key) (o : Object) → AllStandFor s.caches mine → follows s.role.kind key.kind ≡ true
+    → row_at key (all_objects s.caches) ≡ Some o → ComesAgain key (woken s).work
 come_by s mine key o c f there =
     let p = placed s.role.kind key.kind f in
     let own_kind : key.kind ≡ kind_known (cache_of key.kind s.caches) = sym (c.kinds key.kind) in
@@ -107,15 +108,18 @@ asks_it s new answer u turn awake under = by s.memory.stale s.under refl refl tu
 -- each call of the slot keeps what is kept
 abbrev pub StaysKept : ℕ → Role → List Entry → (List Entry → Type 0) → Type 0
 StaysKept seat role past Kept =
-    (s given : ActorState) (request : Request) (reply : Reply) (h newer : List Entry) → s.role ≡ role → IsReady seat s h → IsTurn s given (Call request) → past ≡ newer ++ (told_entry seat given request reply ∷ h) → Kept h → Kept (told_entry seat given request reply ∷ h)
+    (s given : ActorState) (request : Request) (reply : Reply) (h newer : List Entry) → s.role ≡ role → IsReady seat s h
+    → IsTurn s given (Call request) → past ≡ newer ++ (told_entry seat given request reply ∷ h) → Kept h → Kept (told_entry seat given request reply ∷ h)
 
 -- wherever the key waits in the slot, an entry lasts
 abbrev pub LastsWhereWaiting : Setup → Lets → ℕ → Role → List Entry → Key → ActorState → List Entry → ℕ → (List Entry → Type 0) → Type 0
 LastsWhereWaiting setup lets seat role start key after past left Kept =
-    (s : ActorState) (h : List Entry) (b : ℕ) → Runs lets seat after past left true s h b → s.role ≡ role → AreAlike (world setup start) (world setup h) → KnowsBehind setup seat s.role s.pass h → Kept h → waits key s.work ≡ true → HasLasting setup h past
+    (s : ActorState) (h : List Entry) (b : ℕ) → Runs lets seat after past left true s h b → s.role ≡ role
+    → AreAlike (world setup start) (world setup h) → KnowsBehind setup seat s.role s.pass h → Kept h → waits key s.work ≡ true → HasLasting setup h past
 
 -- with what is kept at each point of the slot
-module _ (setup : Setup) (lets : Lets) (seat : ℕ) (role : Role) (start : List Entry) (key : Key) (built : IsBuiltKind role.kind) (after : ActorState) (past : List Entry) (left : ℕ) (history : IsHistory setup past) (fresh : after.memory.stale ≡ false)
+module _ (setup : Setup) (lets : Lets) (seat : ℕ) (role : Role) (start : List Entry) (key : Key) (built : IsBuiltKind role.kind) (after : ActorState)
+    (past : List Entry) (left : ℕ) (history : IsHistory setup past) (fresh : after.memory.stale ≡ false)
     (Kept : List Entry → Type 0) (stays : StaysKept seat role past Kept) (waiting_last : LastsWhereWaiting setup lets seat role start key after past left Kept) where
   -- the work after an answer: the key is in work still, or waits
   ended : (u : Under) (reply : Reply) (w : Work) → u.key ≡ key → mark_of key w.taken ≡ Some true → ComesAgain key (work_after u reply w)
@@ -126,7 +130,8 @@ module _ (setup : Setup) (lets : Lets) (seat : ℕ) (role : Role) (start : List 
       by false true = inl (subst (λ k. waits key (ended_work true k w) ≡ true) (sym own) (put_off_comes key w marked))
       by false false = inl (subst (λ k. waits key (ended_work false k w) ≡ true) (sym own) (finished_comes key w marked))
 
-  pub marked_last : (s : ActorState) (h : List Entry) (b : ℕ) → Runs lets seat after past left true s h b → s.role ≡ role → AreAlike (world setup start) (world setup h) → KnowsBehind setup seat s.role s.pass h → Kept h → mark_of key s.work.taken ≡ Some true → HasLasting setup h past
+  pub marked_last : (s : ActorState) (h : List Entry) (b : ℕ) → Runs lets seat after past left true s h b → s.role ≡ role
+      → AreAlike (world setup start) (world setup h) → KnowsBehind setup seat s.role s.pass h → Kept h → mark_of key s.work.taken ≡ Some true → HasLasting setup h past
   marked_last s h b (IsSpent none state entries rest busy) is alike knows kept marked = absurd (true≢false busy)
   marked_last s h b (IsIdle some ready turn entries rest calm) is alike knows kept marked = by (under_key s key ready.stands.queue.taken marked)
     where
@@ -159,28 +164,33 @@ module _ (setup : Setup) (lets : Lets) (seat : ℕ) (role : Role) (start : List 
           let given_under : given.under ≡ Some u = ap (λ (x : ActorState). x.under) a.state ∙ under in
           let given_task : given.given ≡ Some givens.Task = ap (λ (x : ActorState). x.given) a.state in
           let work : given.work ≡ s.work = ap (λ (x : ActorState). x.work) a.state in
-          let state : next ≡ task_told (learned given next.caches request reply) reply (Some u) = absorbs ∙ (ap (given_told (learned given next.caches request reply) request reply) given_task ∙ ap (task_told (learned given next.caches request reply) reply) given_under) in
+          let state : next ≡ task_told (learned given next.caches request reply) reply (Some u) = absorbs
+          ∙ (ap (given_told (learned given next.caches request reply) request reply) given_task ∙ ap (task_told (learned given next.caches request reply) reply) given_under) in
           subst (ComesAgain key) (sym (ap (λ (x : ActorState). x.work) state)) (ended u reply given.work own (ap (λ (w : Work). mark_of key w.taken) work ∙ marked))
 
       -- the entry lasts, or leaves the world alike
-      on : (AreAlike (world setup start) (world setup (told_entry seat given request reply ∷ h)) → HasLasting setup (told_entry seat given request reply ∷ h) past) → LastsOrAlike (world setup h) (effect setup (world setup h) given.role.kind request) → HasLasting setup h past
+      on : (AreAlike (world setup start) (world setup (told_entry seat given request reply ∷ h))
+          → HasLasting setup (told_entry seat given request reply ∷ h) past) → LastsOrAlike (world setup h) (effect setup (world setup h) given.role.kind request) → HasLasting setup h past
       on rest (inl lasts) =
           let g = run_grows lets seat after past left true next _ _ more in
-          lasting_here setup (told_entry seat given request reply) h past g.longer.added g.longer.are (subst (λ r. LastsBetween (world setup h) (world setup (told_entry seat given request reply ∷ h)) r) (sym whole.1) lasts)
+          lasting_here setup (told_entry seat given request reply) h past g.longer.added g.longer.are
+          (subst (λ r. LastsBetween (world setup h) (world setup (told_entry seat given request reply ∷ h)) r) (sym whole.1) lasts)
       on rest (inr same) = lasting_later setup (told_entry seat given request reply) h past (rest (then_alike _ _ _ alike same))
 
       split : LastsOrAlike (world setup h) (effect setup (world setup h) given.role.kind request)
       split = calls_last_or_leave_alike setup (world setup h) given.role.kind request (rows_stand_in_order setup h)
 
       goes : ComesAgain key next.work
-          → (next.role ≡ role → AreAlike (world setup start) (world setup (told_entry seat given request reply ∷ h)) → KnowsBehind setup seat next.role next.pass (told_entry seat given request reply ∷ h) → mark_of key next.work.taken ≡ Some true
+          → (next.role ≡ role → AreAlike (world setup start) (world setup (told_entry seat given request reply ∷ h))
+          → KnowsBehind setup seat next.role next.pass (told_entry seat given request reply ∷ h) → mark_of key next.work.taken ≡ Some true
           → HasLasting setup (told_entry seat given request reply ∷ h) past)
           → HasLasting setup h past
       goes (inl there) rest = on (λ a. waiting_last next (told_entry seat given request reply ∷ h) (b - 1) more next_role a knows_next kept_on there) split
       goes (inr again) rest = on (λ a. rest next_role a knows_next again) split
 
       by : IsUnder s key
-          → (next.role ≡ role → AreAlike (world setup start) (world setup (told_entry seat given request reply ∷ h)) → KnowsBehind setup seat next.role next.pass (told_entry seat given request reply ∷ h) → mark_of key next.work.taken ≡ Some true
+          → (next.role ≡ role → AreAlike (world setup start) (world setup (told_entry seat given request reply ∷ h))
+          → KnowsBehind setup seat next.role next.pass (told_entry seat given request reply ∷ h) → mark_of key next.work.taken ≡ Some true
           → HasLasting setup (told_entry seat given request reply ∷ h) past)
           → HasLasting setup h past
       by (For u under own) rest = goes (comes u under own) rest
@@ -196,7 +206,9 @@ module _ (setup : Setup) (lets : Lets) (seat : ℕ) (role : Role) (start : List 
           let given_task : given.given ≡ Some givens.Task = ap (λ (x : ActorState). x.given) a.state in
           let work : given.work ≡ s.work = ap (λ (x : ActorState). x.work) a.state in
           let state : next ≡ lost_under given (Some u) = absorbs ∙ (ap (lost_given given) given_task ∙ ap (lost_under given) given_under) in
-          let there : waits key next.work ≡ true = subst (λ w. waits key w ≡ true) (sym (ap (λ (x : ActorState). x.work) state)) (subst (λ k. waits key (ended_work true k given.work) ≡ true) (sym own) (put_off_comes key given.work (ap (λ (w : Work). mark_of key w.taken) work ∙ marked))) in
+          let there : waits key next.work ≡ true =
+          subst (λ w. waits key w ≡ true) (sym (ap (λ (x : ActorState). x.work) state))
+          (subst (λ k. waits key (ended_work true k given.work) ≡ true) (sym own) (put_off_comes key given.work (ap (λ (w : Work). mark_of key w.taken) work ∙ marked))) in
           waiting_last next h (b - 1) more next_role alike (lost_knows setup seat given next request h (turned_knows setup seat s given (Call request) h turn knows) absorbs) kept there
 
 pub busy_slots_last : BusySlotsLast
@@ -206,4 +218,5 @@ busy_slots_last setup lets seat start key old after h past b left built history 
     by (inl there) = last setup lets seat old.role start key acts built after past left history fresh (woken old) h b run refl alike (nothing_behind setup seat old h) there
     by (inr again) =
         marked_last setup lets seat old.role start key built after past left history fresh (λ x. ⊤) (λ s given request reply x newer is ready turn are k. tt)
-        (λ s x n more is same knows k waiting. last setup lets seat old.role start key acts built after past left history fresh s x n more is same knows waiting) (woken old) h b run refl alike (nothing_behind setup seat old h) tt again
+        (λ s x n more is same knows k waiting. last setup lets seat old.role start key acts built after past left history fresh s x n more is same
+        knows waiting) (woken old) h b run refl alike (nothing_behind setup seat old h) tt again

@@ -1,9 +1,9 @@
 -- A round with an agent for which something is due.
 -- A choice of this project.
 use Rattle.std.specs.Prelude.{ℕ, ◌≡◌, true, List, Some, slice_get}
-use Rattle.kube_types.specs.declared.key.Key.{Key}
-use Rattle.kube_types.specs.declared.objects.Object.{Object}
-use Rattle.kube_types.specs.Keys.{row_at}
+use Rattle.kube_objects.specs.declared.key.Key.{Key}
+use Rattle.kube_objects.specs.declared.objects.Object.{Object}
+use Rattle.kube_objects.specs.Keys.{row_at}
 use Rattle.call_types.specs.declared.entry.Entry.{Entry}
 use Rattle.call_types.specs.declared.request.SeatKind.TheVariants as seats
 use Rattle.call_types.specs.declared.setup.Setup.{Setup}
@@ -40,4 +40,5 @@ pub record HasAgent (setup : Setup) (lets : Lets) (ds : List Drainer) (start : L
 -- so a whole round with such an agent has an entry that lasts, by it or by another
 abbrev pub AgentRoundsLast : Type 0
 AgentRoundsLast =
-    (setup : Setup) (lets : Lets) (ds after : List Drainer) (h past : List Entry) (b left : ℕ) → IsRunOf setup past → AreRoles (roles_of ds) → IsRound lets past left ds h b after true → HasAgent setup lets ds h → HasLasting setup h past
+    (setup : Setup) (lets : Lets) (ds after : List Drainer) (h past : List Entry) (b left : ℕ) → IsRunOf setup past → AreRoles (roles_of ds)
+    → IsRound lets past left ds h b after true → HasAgent setup lets ds h → HasLasting setup h past

@@ -12,4 +12,5 @@ use Rattle.settle_progress.specs.Drains.Rounds.{HasCurrent}
 -- and of each node that they have there is an agent that is no stale one
 abbrev pub FreshDrainersServe : Type 0
 FreshDrainersServe =
-    (setup : Setup) (ds : List Drainer) (past : List Entry) (stand : AreStanding ds past) → HaveNoEntries (seats_of ds) past → OnlyOvertakenAreSilent setup ds past × ((node : List ℕ) → SomeOf (λ n. n ≡ node) stand.roles.nodes → HasCurrent setup ds past node)
+    (setup : Setup) (ds : List Drainer) (past : List Entry) (stand : AreStanding ds past) → HaveNoEntries (seats_of ds) past
+    → OnlyOvertakenAreSilent setup ds past × ((node : List ℕ) → SomeOf (λ n. n ≡ node) stand.roles.nodes → HasCurrent setup ds past node)

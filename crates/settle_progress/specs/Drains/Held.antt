@@ -1,12 +1,12 @@
 -- A round in which a gate holds back Mounts alone, some of those that are due. What is asked of the gate can be seen of it.
 -- A choice of this project.
 use Rattle.std.specs.Prelude.{ℕ, ◌≡◌, true, List, [], ◌∷◌, Option, Some, None, ⊤}
-use Rattle.kube_types.specs.declared.names.Due.TheVariants as dues
-use Rattle.kube_types.specs.declared.uid.Uid.{Uid}
-use Rattle.kube_types.specs.declared.objects.Claim.{Claim as ClaimData}
-use Rattle.kube_types.specs.declared.objects.Pod.{Pod as PodData}
-use Rattle.kube_types.specs.declared.objects.Object.{Object}
-use Rattle.kube_types.specs.declared.objects.Object.TheVariants.{Pod}
+use Rattle.kube_parts.specs.declared.names.Due.TheVariants as dues
+use Rattle.kube_parts.specs.declared.uid.Uid.{Uid}
+use Rattle.kube_objects.specs.declared.objects.Claim.{Claim as ClaimData}
+use Rattle.kube_objects.specs.declared.objects.Pod.{Pod as PodData}
+use Rattle.kube_objects.specs.declared.objects.Object.{Object}
+use Rattle.kube_objects.specs.declared.objects.Object.TheVariants.{Pod}
 use Rattle.call_types.specs.declared.entry.Entry.{Entry}
 use Rattle.call_types.specs.declared.request.Request.TheVariants.{Mount}
 use Rattle.call_types.specs.declared.setup.Setup.{Setup}
@@ -39,7 +39,8 @@ AreUidsOf rows namespace names uids = ⊥
 -- the start
 abbrev pub MountsPass : Setup → Lets → List Entry → PodData → Type 0
 MountsPass setup lets start p =
-    (h : List Entry) (epoch : ℕ) (uid : Uid) (claims : List Uid) → IsHistory setup h → AreAlike (world setup start) (world setup h) → p.meta.uid ≡ Some uid → AreUidsOf (world setup start).store.rows p.meta.namespace p.claims claims
+    (h : List Entry) (epoch : ℕ) (uid : Uid) (claims : List Uid) → IsHistory setup h → AreAlike (world setup start) (world setup h)
+    → p.meta.uid ≡ Some uid → AreUidsOf (world setup start).store.rows p.meta.namespace p.claims claims
     → lets h (Mount p.node epoch uid claims) ≡ true
 
 -- where the object is a pod whose Mount is due. Of any other nothing is asked
@@ -53,5 +54,6 @@ LetsMountPass setup lets start o = ⊤
 -- that passes
 abbrev pub HeldRoundsLast : Type 0
 HeldRoundsLast =
-    (setup : Setup) (lets : Lets) (ds after : List Drainer) (h past : List Entry) (b left : ℕ) → MayDrain setup h ds → OnlyOvertakenAreSilent setup ds h → IsRunOf setup past → IsRound lets past left ds h b after true
+    (setup : Setup) (lets : Lets) (ds after : List Drainer) (h past : List Entry) (b left : ℕ) → MayDrain setup h ds
+    → OnlyOvertakenAreSilent setup ds h → IsRunOf setup past → IsRound lets past left ds h b after true
     → HoldsMountsAlone lets → (x : HasDue setup ds h) → LetsMountPass setup lets h x.object → HasLasting setup h past

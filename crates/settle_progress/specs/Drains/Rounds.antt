@@ -1,16 +1,16 @@
 -- Every round that begins with something due has an entry that lasts: by the actor that does it, or by another.
 -- A choice of this project.
 use Rattle.std.specs.Prelude.{ℕ, ◌≡◌, true, false, List, Some, slice_get, if◌then◌else◌}
-use Rattle.kube_types.specs.declared.key.Key.{Key}
-use Rattle.kube_types.specs.declared.names.Due.{Due}
-use Rattle.kube_types.specs.declared.names.Due.TheVariants as dues
-use Rattle.kube_types.specs.declared.objects.Claim.{Claim as ClaimData}
-use Rattle.kube_types.specs.declared.objects.Pod.{Pod as PodData}
-use Rattle.kube_types.specs.declared.objects.Volume.{Volume as VolumeData}
-use Rattle.kube_types.specs.declared.objects.Object.{Object}
-use Rattle.kube_types.specs.declared.objects.Object.TheVariants.{Claim, Pod, Volume}
-use Rattle.kube_types.specs.Bindings.{is_scheduled}
-use Rattle.kube_types.specs.Keys.{row_at}
+use Rattle.kube_objects.specs.declared.key.Key.{Key}
+use Rattle.kube_parts.specs.declared.names.Due.{Due}
+use Rattle.kube_parts.specs.declared.names.Due.TheVariants as dues
+use Rattle.kube_objects.specs.declared.objects.Claim.{Claim as ClaimData}
+use Rattle.kube_objects.specs.declared.objects.Pod.{Pod as PodData}
+use Rattle.kube_objects.specs.declared.objects.Volume.{Volume as VolumeData}
+use Rattle.kube_objects.specs.declared.objects.Object.{Object}
+use Rattle.kube_objects.specs.declared.objects.Object.TheVariants.{Claim, Pod, Volume}
+use Rattle.kube_objects.specs.Bindings.{is_scheduled}
+use Rattle.kube_objects.specs.Keys.{row_at}
 use Rattle.call_types.specs.declared.entry.Entry.{Entry}
 use Rattle.call_types.specs.declared.request.SeatKind.{SeatKind}
 use Rattle.call_types.specs.declared.request.SeatKind.TheVariants as seats
@@ -89,11 +89,13 @@ pub record HasDue (setup : Setup) (ds : List Drainer) (h : List Entry) : Type 0 
 -- whatever an actor has to do, where its calls for the object pass: in a whole round an entry lasts
 abbrev pub DueRoundsLast : Type 0
 DueRoundsLast =
-    (setup : Setup) (lets : Lets) (ds after : List Drainer) (h past : List Entry) (b left : ℕ) (key : Key) (o : Object) (role : Role) → MayDrain setup h ds → OnlyOvertakenAreSilent setup ds h → IsRunOf setup past → IsRound lets past left ds h b after true
+    (setup : Setup) (lets : Lets) (ds after : List Drainer) (h past : List Entry) (b left : ℕ) (key : Key) (o : Object) (role : Role)
+    → MayDrain setup h ds → OnlyOvertakenAreSilent setup ds h → IsRunOf setup past → IsRound lets past left ds h b after true
     → row_at key (world setup h).store.rows ≡ Some o → DueFor setup (world setup h) o role → ((seat : ℕ) → CallsPass setup lets seat role h key) → HasDoer setup ds h role → HasLasting setup h past
 
 -- so for all that is due
 abbrev pub UnsettledRoundsLast : Type 0
 UnsettledRoundsLast =
-    (setup : Setup) (lets : Lets) (ds after : List Drainer) (h past : List Entry) (b left : ℕ) → MayDrain setup h ds → OnlyOvertakenAreSilent setup ds h → IsRunOf setup past → IsRound lets past left ds h b after true → (x : HasDue setup ds h)
+    (setup : Setup) (lets : Lets) (ds after : List Drainer) (h past : List Entry) (b left : ℕ) → MayDrain setup h ds
+    → OnlyOvertakenAreSilent setup ds h → IsRunOf setup past → IsRound lets past left ds h b after true → (x : HasDue setup ds h)
     → ((seat : ℕ) → CallsPass setup lets seat (doer_of x.object x.action) h x.key) → HasLasting setup h past

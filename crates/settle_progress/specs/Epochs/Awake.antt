@@ -17,6 +17,8 @@ pub record IsAwake (setup : Setup) (h : List Entry) (node : List ℕ) (d : Drain
 -- so it stays in a round, where no other of the round that serves its node is still to take it
 abbrev pub AgentsStayAwake : Type 0
 AgentsStayAwake =
-    (setup : Setup) (lets : Lets) (ds after : List Drainer) (h past : List Entry) (b left : ℕ) (whole : Bool) (place : ℕ) (d then_ : Drainer) (node : List ℕ) → IsHistory setup past → AreRoles (roles_of ds) → IsRound lets past left ds h b after whole
-    → slice_get ds place ≡ Some d → slice_get after place ≡ Some then_ → d.actor.role ≡ agent_of node → ((i : ℕ) (other : Drainer) → slice_get ds i ≡ Some other → other.actor.role ≡ agent_of node → (i ≡ place) ⊎ TakesNoMore node other.seat other.actor h) → IsAwake setup h node d
+    (setup : Setup) (lets : Lets) (ds after : List Drainer) (h past : List Entry) (b left : ℕ) (whole : Bool) (place : ℕ) (d then_ : Drainer)
+    (node : List ℕ) → IsHistory setup past → AreRoles (roles_of ds) → IsRound lets past left ds h b after whole
+    → slice_get ds place ≡ Some d → slice_get after place ≡ Some then_ → d.actor.role ≡ agent_of node
+    → ((i : ℕ) (other : Drainer) → slice_get ds i ≡ Some other → other.actor.role ≡ agent_of node → (i ≡ place) ⊎ TakesNoMore node other.seat other.actor h) → IsAwake setup h node d
     → IsAwake setup past node then_

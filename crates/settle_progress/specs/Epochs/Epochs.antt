@@ -28,7 +28,8 @@ TakesAreOwn seat node (e ∷ newer) = (is_take_of node e.request ≡ true → (e
 
 -- such entries leave the seat its epoch
 abbrev pub EpochsStay : Type 0
-EpochsStay = (setup : Setup) (newer past : List Entry) (seat : ℕ) (node : List ℕ) → IsHistory setup (newer ++ past) → TakesAreOwn seat node newer → IsCurrent setup past node seat → IsCurrent setup (newer ++ past) node seat
+EpochsStay = (setup : Setup) (newer past : List Entry) (seat : ℕ) (node : List ℕ) → IsHistory setup (newer ++ past) → TakesAreOwn seat node newer
+    → IsCurrent setup past node seat → IsCurrent setup (newer ++ past) node seat
 
 -- an actor that takes a node is the agent of that node, and was told no epoch of it
 abbrev pub AgentsTakeTheirOwn : Type 0
@@ -43,5 +44,7 @@ TakesNoMore node seat s h = (s.memory.stale ≡ true) ⊎ (is_some (last_epoch n
 -- so a round leaves the agent of a node its epoch, where no other of the round that serves that node is still to take it
 abbrev pub RoundsKeepEpochs : Type 0
 RoundsKeepEpochs =
-    (setup : Setup) (lets : Lets) (ds after : List Drainer) (h past : List Entry) (b left : ℕ) (whole : Bool) (seat : ℕ) (node : List ℕ) → IsHistory setup past → AreRoles (roles_of ds) → IsRound lets past left ds h b after whole
-    → ((place : ℕ) (d : Drainer) → slice_get ds place ≡ Some d → d.actor.role ≡ agent_of node → (d.seat ≡ seat) ⊎ TakesNoMore node d.seat d.actor h) → IsCurrent setup h node seat → IsCurrent setup past node seat
+    (setup : Setup) (lets : Lets) (ds after : List Drainer) (h past : List Entry) (b left : ℕ) (whole : Bool) (seat : ℕ) (node : List ℕ)
+    → IsHistory setup past → AreRoles (roles_of ds) → IsRound lets past left ds h b after whole
+    → ((place : ℕ) (d : Drainer) → slice_get ds place ≡ Some d → d.actor.role ≡ agent_of node → (d.seat ≡ seat) ⊎ TakesNoMore node d.seat d.actor h)
+    → IsCurrent setup h node seat → IsCurrent setup past node seat

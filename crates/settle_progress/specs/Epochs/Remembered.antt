@@ -1,7 +1,7 @@
 -- What an agent remembers of the mounts of its node, and what the devices have there. The newest entry of a history stands first.
 -- A choice of this project, after the volume manager of kubelet, which keeps what it mounted.
 use Rattle.std.specs.Prelude.{ℕ, ◌≡◌, ◌⊎◌, Bool, true, false, List, [], ◌∷◌, Some, ⊤}
-use Rattle.kube_types.specs.declared.uid.Uid.{Uid}
+use Rattle.kube_parts.specs.declared.uid.Uid.{Uid}
 use Rattle.call_types.specs.declared.entry.Entry.{Entry}
 use Rattle.call_types.specs.declared.reply.MountRow.{MountRow}
 use Rattle.call_types.specs.declared.request.Request.{Request}
@@ -41,5 +41,6 @@ pub record AreRemembered (node : List ℕ) (mounts : List MountAt) (rows : List 
 -- in a run, as long as the epoch of the seat is the node's
 abbrev pub MountsAreRemembered : Type 0
 MountsAreRemembered =
-    (setup : Setup) (past : List Entry) (seat : ℕ) (node : List ℕ) (rows : List MountRow) → IsRunOf setup past → Holds setup past node seat → (memory_of (agent_of node) (own seat past)).mounts ≡ Some rows
+    (setup : Setup) (past : List Entry) (seat : ℕ) (node : List ℕ) (rows : List MountRow) → IsRunOf setup past → Holds setup past node seat
+    → (memory_of (agent_of node) (own seat past)).mounts ≡ Some rows
     → AreRemembered node (world setup past).devices.mounts rows (own seat past)

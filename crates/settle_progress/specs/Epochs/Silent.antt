@@ -27,14 +27,17 @@ OnlyOvertakenAreSilent setup ds h =
 -- so a round leaves them, whole or not
 abbrev pub RoundsSilenceTheOvertaken : Type 0
 RoundsSilenceTheOvertaken =
-    (setup : Setup) (lets : Lets) (ds after : List Drainer) (h past : List Entry) (b left : ℕ) (whole : Bool) → IsRunOf setup past → AreSeats (seats_of ds) → IsRound lets past left ds h b after whole → OnlyOvertakenAreSilent setup ds h → OnlyOvertakenAreSilent setup after past
+    (setup : Setup) (lets : Lets) (ds after : List Drainer) (h past : List Entry) (b left : ℕ) (whole : Bool) → IsRunOf setup past
+    → AreSeats (seats_of ds) → IsRound lets past left ds h b after whole → OnlyOvertakenAreSilent setup ds h → OnlyOvertakenAreSilent setup after past
 
 -- so do entries of others
 abbrev pub OthersSilenceNone : Type 0
 OthersSilenceNone =
-    (setup : Setup) (ds : List Drainer) (newer h : List Entry) → ((place : ℕ) (d : Drainer) → slice_get ds place ≡ Some d → own d.seat (newer ++ h) ≡ own d.seat h) → OnlyOvertakenAreSilent setup ds h → OnlyOvertakenAreSilent setup ds (newer ++ h)
+    (setup : Setup) (ds : List Drainer) (newer h : List Entry)
+    → ((place : ℕ) (d : Drainer) → slice_get ds place ≡ Some d → own d.seat (newer ++ h) ≡ own d.seat h) → OnlyOvertakenAreSilent setup ds h → OnlyOvertakenAreSilent setup ds (newer ++ h)
 
 -- and an agent that took no epoch but the one that its node has is then no stale one
 abbrev pub CurrentAreAwake : Type 0
 CurrentAreAwake =
-    (setup : Setup) (ds : List Drainer) (h : List Entry) (place : ℕ) (d : Drainer) (node : List ℕ) → OnlyOvertakenAreSilent setup ds h → slice_get ds place ≡ Some d → d.actor.role ≡ agent_of node → IsCurrent setup h node d.seat → IsAwake setup h node d
+    (setup : Setup) (ds : List Drainer) (h : List Entry) (place : ℕ) (d : Drainer) (node : List ℕ) → OnlyOvertakenAreSilent setup ds h
+    → slice_get ds place ≡ Some d → d.actor.role ≡ agent_of node → IsCurrent setup h node d.seat → IsAwake setup h node d

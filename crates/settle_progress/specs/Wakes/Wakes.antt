@@ -1,9 +1,9 @@
 -- A slot that begins with something under way: the key of the task is marked at the wake, and waits once the task has ended.
 -- Source: client-go, util/workqueue, `Add` and `Done`: a key in processing that is added again is queued when it is done.
 use Rattle.std.specs.Prelude.{ℕ, ◌≡◌, ◌⊎◌, true, false, List, Some}
-use Rattle.kube_types.specs.declared.key.Key.{Key}
-use Rattle.kube_types.specs.declared.objects.Object.{Object}
-use Rattle.kube_types.specs.Keys.{row_at}
+use Rattle.kube_objects.specs.declared.key.Key.{Key}
+use Rattle.kube_objects.specs.declared.objects.Object.{Object}
+use Rattle.kube_objects.specs.Keys.{row_at}
 use Rattle.call_types.specs.declared.entry.Entry.{Entry}
 use Rattle.call_types.specs.declared.setup.Setup.{Setup}
 use Rattle.binder_model.specs.Reading.{follows}
@@ -25,19 +25,23 @@ ComesAgain key w = (waits key w ≡ true) ⊎ (mark_of key w.taken ≡ Some true
 
 -- a key that an actor has cached does so once the actor is woken, whatever is under way
 abbrev pub CachedKeysCome : Type 0
-CachedKeysCome = (s : ActorState) (mine : List Entry) (key : Key) (o : Object) → StandsWhole s mine → follows s.role.kind key.kind ≡ true → row_at key (all_objects s.caches) ≡ Some o → ComesAgain key (woken s).work
+CachedKeysCome = (s : ActorState) (mine : List Entry) (key : Key) (o : Object) → StandsWhole s mine → follows s.role.kind key.kind ≡ true
+    → row_at key (all_objects s.caches) ≡ Some o → ComesAgain key (woken s).work
 
 -- a slot that ends idle, with such a key on which the actor acts, has an entry that lasts
 abbrev pub BusySlotsLast : Type 0
 BusySlotsLast =
     (setup : Setup) (lets : Lets) (seat : ℕ) (start : List Entry) (key : Key) (old after : ActorState) (h past : List Entry) (b left : ℕ) → IsBuiltKind old.role.kind → IsHistory setup past
-    → AreAlike (world setup start) (world setup h) → Runs lets seat after past left true (woken old) h b → after.memory.stale ≡ false → ActsOn setup lets seat old.role start key → ComesAgain key (woken old).work
+    → AreAlike (world setup start) (world setup h) → Runs lets seat after past left true (woken old) h b → after.memory.stale ≡ false
+    → ActsOn setup lets seat old.role start key → ComesAgain key (woken old).work
     → HasLasting setup h past
 
 -- wherever an object of a kind that the actor follows stands, its key is decided in a slot that ends idle: it is cached, or a list or
 -- a watch tells it, whatever is under way. So where the actor acts on the key the slot has an entry that lasts
 abbrev pub KeysAreDecided : Type 0
 KeysAreDecided =
-    (setup : Setup) (lets : Lets) (seat : ℕ) (start : List Entry) (key : Key) (o : Object) (old after : ActorState) (h past : List Entry) (b left : ℕ) → IsBuiltKind old.role.kind → IsHistory setup past
-    → AreAlike (world setup start) (world setup h) → Runs lets seat after past left true (woken old) h b → after.memory.stale ≡ false → ActsOn setup lets seat old.role start key → follows old.role.kind key.kind ≡ true
+    (setup : Setup) (lets : Lets) (seat : ℕ) (start : List Entry) (key : Key) (o : Object) (old after : ActorState) (h past : List Entry)
+    (b left : ℕ) → IsBuiltKind old.role.kind → IsHistory setup past
+    → AreAlike (world setup start) (world setup h) → Runs lets seat after past left true (woken old) h b → after.memory.stale ≡ false
+    → ActsOn setup lets seat old.role start key → follows old.role.kind key.kind ≡ true
     → row_at key (world setup start).store.rows ≡ Some o → HasLasting setup h past

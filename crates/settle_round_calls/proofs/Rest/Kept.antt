@@ -1,14 +1,14 @@
 -- A slot of a scheduler makes no object, and calls no back end: claims, volumes and planned faults are no more behind it.
 use Rattle.std.proofs.Common.{◌≡◌, ◌∙◌, ℕ, ◌≤◌, List, [], ◌∷◌, Bool, true, false, Some, inl, inr, refl, sym, ap, subst, arith, if◌then◌else◌}
 use Rattle.std.specs.Prelude.{nat_lt}
-use Rattle.kube_types.specs.declared.key.Key.{Key}
-use Rattle.kube_types.specs.declared.names.Field.TheVariants as fields
-use Rattle.kube_types.specs.declared.parts.Kind.{Kind}
-use Rattle.kube_types.specs.declared.parts.Kind.TheVariants as kinds
-use Rattle.kube_types.specs.declared.objects.Object.{Object}
-use Rattle.kube_types.specs.declared.objects.Object.TheVariants.{Class, Node, Volume, Claim, Pod}
-use Rattle.kube_types.specs.Keys.{AreRows, key_of, kind_of, row_at}
-use Rattle.kube_types.proofs.KeyOrder.{row_at_key}
+use Rattle.kube_objects.specs.declared.key.Key.{Key}
+use Rattle.kube_parts.specs.declared.names.Field.TheVariants as fields
+use Rattle.kube_parts.specs.declared.parts.Kind.{Kind}
+use Rattle.kube_parts.specs.declared.parts.Kind.TheVariants as kinds
+use Rattle.kube_objects.specs.declared.objects.Object.{Object}
+use Rattle.kube_objects.specs.declared.objects.Object.TheVariants.{Class, Node, Volume, Claim, Pod}
+use Rattle.kube_objects.specs.Keys.{AreRows, key_of, kind_of, row_at}
+use Rattle.kube_objects.proofs.KeyOrder.{row_at_key}
 use Rattle.call_types.specs.declared.entry.Entry.{Entry}
 use Rattle.call_types.specs.declared.reply.Refusal.TheVariants.{Gone, Invalid}
 use Rattle.call_types.specs.declared.reply.Reply.{Reply}
@@ -102,7 +102,8 @@ pub record Stays (setup : Setup) (w v : World) : Type 0 where
 
 module _ (setup : Setup) (w : World) (mine : List Entry) where
   -- a scheduler writes over what stands
-  over : (order : AreRows w.store.rows) (f : Kind → ℕ) (o : Object) (rows : List Object) → IsMoved w.store.rows rows o → (request : Request) → Licensed seats.Scheduler mine request → Writes w seats.Scheduler request o → total (of_kind f) rows ≤ total (of_kind f) w.store.rows
+  over : (order : AreRows w.store.rows) (f : Kind → ℕ) (o : Object) (rows : List Object) → IsMoved w.store.rows rows o → (request : Request)
+      → Licensed seats.Scheduler mine request → Writes w seats.Scheduler request o → total (of_kind f) rows ≤ total (of_kind f) w.store.rows
   over order f o rows moved request may i = by request may i
     where
       next : (old : Object) → IsNext w.store old o → total (of_kind f) rows ≤ total (of_kind f) w.store.rows
@@ -130,7 +131,8 @@ module _ (setup : Setup) (w : World) (mine : List Entry) where
   same_devices (requests.Watch k from) may = by (nat_lt w.store.version from) (nat_lt from (oldest (base setup) w.store.version))
     where
       by : (ahead gone : Bool)
-          → (world_after w (if ahead then OnStore (Says (Refused (Invalid fields.From))) else if gone then OnStore (Says (Refused (Gone (oldest (base setup) w.store.version)))) else OnStore (Says (Events (told_events k from w.store.version w.log))))).devices ≡ w.devices
+          → (world_after w (if ahead then OnStore (Says (Refused (Invalid fields.From))) else if gone then OnStore
+          (Says (Refused (Gone (oldest (base setup) w.store.version)))) else OnStore (Says (Events (told_events k from w.store.version w.log))))).devices ≡ w.devices
       by true gone = refl
       by false true = refl
       by false false = refl
@@ -162,10 +164,12 @@ module _ (setup : Setup) (w : World) (mine : List Entry) where
 
 -- ---- the slot
 
-pub scheduler_keeps : (setup : Setup) (lets : Lets) (seat : ℕ) (old after : ActorState) (h past : List Entry) (b left : ℕ) (idle : Bool) → old.role.kind ≡ seats.Scheduler → IsRunOf setup past → Runs lets seat after past left idle (woken old) h b
+pub scheduler_keeps : (setup : Setup) (lets : Lets) (seat : ℕ) (old after : ActorState) (h past : List Entry) (b left : ℕ) (idle : Bool)
+    → old.role.kind ≡ seats.Scheduler → IsRunOf setup past → Runs lets seat after past left idle (woken old) h b
     → Stays setup (world setup h) (world setup past)
 scheduler_keeps setup lets seat old after h past b left idle kind run runs =
-    run_moves setup lets seat after past left idle run old.role (subst IsBuiltKind (sym kind) tt) (Stays setup) (λ w. record { claims = omega arith; volumes = omega arith; faults = omega arith }) joins calls (woken old) h b runs refl
+    run_moves setup lets seat after past left idle run old.role (subst IsBuiltKind (sym kind) tt) (Stays setup)
+    (λ w. record { claims = omega arith; volumes = omega arith; faults = omega arith }) joins calls (woken old) h b runs refl
   where
     joins : (u v w : World) → Stays setup u v → Stays setup v w → Stays setup u w
     joins u v w first then_ =
@@ -177,7 +181,8 @@ scheduler_keeps setup lets seat old after h past b left idle kind run runs =
         let f = then_.faults in
         record { claims = omega (arith, a, b); volumes = omega (arith, c, d); faults = omega (arith, e, f) }
 
-    calls : (x : ActorState) (request : Request) (reply : Reply) (g : List Entry) → x.role ≡ old.role → IsCalled setup seat x request reply g → Stays setup (world setup g) (world setup (told_entry seat x request reply ∷ g))
+    calls : (x : ActorState) (request : Request) (reply : Reply) (g : List Entry) → x.role ≡ old.role → IsCalled setup seat x request reply g
+        → Stays setup (world setup g) (world setup (told_entry seat x request reply ∷ g))
     calls x request reply g is called =
         let of : x.role.kind ≡ seats.Scheduler = ap (λ (r : Role). r.kind) is ∙ kind in
         let here = call_stays setup (world setup g) (own seat g) (rows_stand_in_order setup g) request (subst (λ k. Licensed k (own seat g) request) of called.may) in

@@ -3,8 +3,8 @@ use Rattle.std.proofs.Common.{◌≡◌, ℕ, suc, ◌+◌, ◌*◌, ◌≤◌, 
 use Rattle.std.specs.Prelude.{◌/◌, map, ⊤}
 use Rattle.std.proofs.Math.Nat.{add-mul}
 use Rattle.std.proofs.lemmas.Nat.{mul-le}
-use Rattle.kube_types.specs.declared.objects.Object.{Object}
-use Rattle.kube_types.specs.declared.objects.Object.TheVariants.{Class, Node, Volume, Claim, Pod}
+use Rattle.kube_objects.specs.declared.objects.Object.{Object}
+use Rattle.kube_objects.specs.declared.objects.Object.TheVariants.{Class, Node, Volume, Claim, Pod}
 use Rattle.call_types.specs.declared.entry.Entry.{Entry}
 use Rattle.call_types.specs.declared.request.SeatKind.{SeatKind}
 use Rattle.call_types.specs.declared.request.SeatKind.TheVariants as seats
@@ -80,18 +80,23 @@ agent_sweeps first pods few =
 
 -- an agent, from where nothing is under way. One that was told that its epoch is stale makes no call
 pub agent_costs_from :
-    (setup : Setup) (lets : Lets) (seat : ℕ) (old after : ActorState) (h past : List Entry) (b left : ℕ) (idle : Bool) (pods : ℕ) → old.role.kind ≡ seats.Agent → IsRunOf setup past → HoldsMountsAlone lets → (old.memory.stale ≡ false → old.under ≡ None)
-    → total pod_size (world setup h).store.rows ≤ pods → Runs lets seat after past left idle (begun old) h b → b ≤ left + (8 * writes_since setup h past + (3 * pods + 62) + agent_sweep_calls pods * (writes_since setup h past / 513))
+    (setup : Setup) (lets : Lets) (seat : ℕ) (old after : ActorState) (h past : List Entry) (b left : ℕ) (idle : Bool) (pods : ℕ)
+    → old.role.kind ≡ seats.Agent → IsRunOf setup past → HoldsMountsAlone lets → (old.memory.stale ≡ false → old.under ≡ None)
+    → total pod_size (world setup h).store.rows ≤ pods → Runs lets seat after past left idle (begun old) h b
+    → b ≤ left + (8 * writes_since setup h past + (3 * pods + 62) + agent_sweep_calls pods * (writes_since setup h past / 513))
 agent_costs_from setup lets seat old after h past b left idle pods kind run holds rests few runs = by old.memory.stale refl
   where
     by : (stale : Bool) → old.memory.stale ≡ stale → b ≤ left + (8 * writes_since setup h past + (3 * pods + 62) + agent_sweep_calls pods * (writes_since setup h past / 513))
     by true e = let same = (silent_run setup lets seat after past left idle run (begun old) h b runs e).1 in omega (arith, same)
     by false e =
         let rows = rows_stand_in_order setup h in
-        let less = costs_from setup lets seat old after h past b left idle (world setup h).store.rows (subst IsBuiltKind (sym kind) tt) run (reads_pass lets holds) (rests e) rows (kept_first old.role.kind (world setup h).store.rows) runs in
+        let less = costs_from setup lets seat old after h past b left idle (world setup h).store.rows (subst IsBuiltKind (sym kind) tt) run
+        (reads_pass lets holds) (rests e) rows (kept_first old.role.kind (world setup h).store.rows) runs in
         let kinds = agent_kinds (world setup h).store.rows pods few in
-        let of_kind : sum_over (most old.role.kind (world setup h).store.rows) (kinds_of old.role.kind) ≡ sum_over (most seats.Agent (world setup h).store.rows) (kinds_of seats.Agent) = ap (λ k. sum_over (most k (world setup h).store.rows) (kinds_of k)) kind in
-        let sweeps = mul-le (sweep_cost (world setup h).store.rows seats.Agent) (writes_since setup h past / 513) (agent_sweep_calls pods) (writes_since setup h past / 513) (agent_sweeps (world setup h).store.rows pods few) (omega arith) in
+        let of_kind : sum_over (most old.role.kind (world setup h).store.rows) (kinds_of old.role.kind) ≡ sum_over
+        (most seats.Agent (world setup h).store.rows) (kinds_of seats.Agent) = ap (λ k. sum_over (most k (world setup h).store.rows) (kinds_of k)) kind in
+        let sweeps = mul-le (sweep_cost (world setup h).store.rows seats.Agent) (writes_since setup h past / 513) (agent_sweep_calls pods)
+        (writes_since setup h past / 513) (agent_sweeps (world setup h).store.rows pods few) (omega arith) in
         let as_agent = ap (λ k. sweep_cost (world setup h).store.rows k * (writes_since setup h past / 513)) kind in
         omega (arith, less, kinds, of_kind, sweeps, as_agent)
 
@@ -154,7 +159,8 @@ module _ (setup : Setup) (lets : Lets) (past : List Entry) (left : ℕ) (run : I
   middle_run ds h b after whole round = let g = round_grows lets past left ds h b after whole round in older_run setup g.longer.added h (subst (IsRunOf setup) g.longer.are run)
 
   -- the writes of a slot, and those after it
-  pub split : (d ran : Drainer) (ds : List Drainer) (h middle : List Entry) (b rest : ℕ) (idle : Bool) (after : List Drainer) (whole : Bool) → Runs lets d.seat ran.actor middle rest idle (woken d.actor) h b → IsRound lets past left ds middle rest after whole
+  pub split : (d ran : Drainer) (ds : List Drainer) (h middle : List Entry) (b rest : ℕ) (idle : Bool) (after : List Drainer) (whole : Bool)
+      → Runs lets d.seat ran.actor middle rest idle (woken d.actor) h b → IsRound lets past left ds middle rest after whole
       → writes_since setup h past ≡ writes_since setup h middle + writes_since setup middle past
   split d ran ds h middle b rest idle after whole runs more =
       let g = run_grows lets d.seat ran.actor middle rest idle (woken d.actor) h b runs in
@@ -168,11 +174,13 @@ module _ (setup : Setup) (lets : Lets) (past : List Entry) (left : ℕ) (run : I
 
   -- ---- the slots
 
-  agent_slot : (d ran : Drainer) (h middle : List Entry) (b rest : ℕ) (idle : Bool) → IsRunOf setup middle → d.actor.role.kind ≡ seats.Agent → (d.actor.memory.stale ≡ false → d.actor.under ≡ None) → Runs lets d.seat ran.actor middle rest idle (woken d.actor) h b → given_at h
+  agent_slot : (d ran : Drainer) (h middle : List Entry) (b rest : ℕ) (idle : Bool) → IsRunOf setup middle → d.actor.role.kind ≡ seats.Agent
+      → (d.actor.memory.stale ≡ false → d.actor.under ≡ None) → Runs lets d.seat ran.actor middle rest idle (woken d.actor) h b → given_at h
       → b ≤ rest + (8 * writes_since setup h middle + (3 * pods + 62) + agent_sweep_calls pods * (writes_since setup h middle / 513))
   agent_slot d ran h middle b rest idle here kind rests runs given = agent_costs_from setup lets d.seat (woken d.actor) ran.actor h middle b rest idle pods kind here holds rests (pods_at h given) runs
 
-  sure_slot : (d ran : Drainer) (h middle : List Entry) (b rest : ℕ) (idle : Bool) → IsRunOf setup middle → begins_to_last d.actor.role.kind ≡ true → (d.actor.memory.stale ≡ false → d.actor.under ≡ None) → Runs lets d.seat ran.actor middle rest idle (woken d.actor) h b
+  sure_slot : (d ran : Drainer) (h middle : List Entry) (b rest : ℕ) (idle : Bool) → IsRunOf setup middle → begins_to_last d.actor.role.kind ≡ true
+      → (d.actor.memory.stale ≡ false → d.actor.under ≡ None) → Runs lets d.seat ran.actor middle rest idle (woken d.actor) h b
       → b ≤ rest + (8 * writes_since setup h middle + 65)
   sure_slot d ran h middle b rest idle here sure rests runs = sure_slots_cost_writes setup lets d.seat d.actor ran.actor h middle b rest idle sure here holds rests runs
 
@@ -187,12 +195,14 @@ module _ (setup : Setup) (lets : Lets) (past : List Entry) (left : ℕ) (run : I
   sure_calls n seats.Ops sure = refl
   sure_calls n seats.Agent sure = absurd (true≢false (sym sure))
 
-  plain_round : (ds : List Drainer) (h : List Entry) (b : ℕ) (after : List Drainer) (whole : Bool) → IsRound lets past left ds h b after whole → ArePlain (roles_of ds) → AreBuilt (roles_of ds) → AreAtRest ds → given_at h
+  plain_round : (ds : List Drainer) (h : List Entry) (b : ℕ) (after : List Drainer) (whole : Bool) → IsRound lets past left ds h b after whole
+      → ArePlain (roles_of ds) → AreBuilt (roles_of ds) → AreAtRest ds → given_at h
       → b ≤ left + (8 * writes_since setup h past + idle_of pods (roles_of ds) + agent_sweep_calls pods * (pods_in (world setup h).store.rows / 513))
   plain_round _ h b _ _ (Ends entries rest) plain built rests given = omega (arith, rest)
   plain_round _ h b _ _ (Turns {ds = ds} {after = after} {whole = whole} d ran middle rest idle seat runs more) plain built rests given =
       let here = middle_run ds middle rest after whole more in
-      let later = plain_round ds middle rest after whole more plain.1 built.1 (λ place x at. rests (suc place) x at) (slot_given setup lets d.seat d.actor ran.actor h middle b rest idle (world setup start).store.rows here built.0 (rests 0 d refl) runs given) in
+      let later = plain_round ds middle rest after whole more plain.1 built.1 (λ place x at. rests (suc place) x at)
+      (slot_given setup lets d.seat d.actor ran.actor h middle b rest idle (world setup start).store.rows here built.0 (rests 0 d refl) runs given) in
       let n = split d ran ds h middle b rest idle after whole runs more in
       by here n later plain.0
     where
@@ -208,34 +218,43 @@ module _ (setup : Setup) (lets : Lets) (past : List Entry) (left : ℕ) (run : I
       by here n later (IsSure sure) =
           let now = sure_slot d ran h middle b rest idle here sure (rests 0 d refl) runs in
           let few = slots_add_no_pod setup lets d.seat d.actor ran.actor h middle b rest idle built.0 here runs in
-          let sweeps = mul_less (agent_sweep_calls pods) (pods_in (world setup middle).store.rows / 513) (pods_in (world setup h).store.rows / 513) (div_less (pods_in (world setup middle).store.rows) (pods_in (world setup h).store.rows) few) in
+          let sweeps = mul_less (agent_sweep_calls pods) (pods_in (world setup middle).store.rows / 513) (pods_in (world setup h).store.rows / 513)
+          (div_less (pods_in (world setup middle).store.rows) (pods_in (world setup h).store.rows) few) in
           let own = sure_calls pods d.actor.role.kind sure in
           omega (arith, n, later, now, sweeps, own)
 
   -- ---- ops, by what stands when its slot begins
 
-  ops_round : (claims volumes writes : ℕ) (role : Role) (ds : List Drainer) (h : List Entry) (b : ℕ) (after : List Drainer) (whole : Bool) → IsRound lets past left ds h b after whole → StandSo (role ∷ roles_of ds) → AreBuilt (roles_of ds) → AreAtRest ds → given_at h
+  ops_round : (claims volumes writes : ℕ) (role : Role) (ds : List Drainer) (h : List Entry) (b : ℕ) (after : List Drainer) (whole : Bool)
+      → IsRound lets past left ds h b after whole → StandSo (role ∷ roles_of ds) → AreBuilt (roles_of ds) → AreAtRest ds → given_at h
       → claims_in (world setup h).store.rows ≤ claims → volumes_in (world setup h).store.rows ≤ volumes → settle_write_counts setup (world setup h) ≤ writes
-      → b ≤ left + (8 * writes_since setup h past + (2 * claims + 3 * volumes + idle_of pods (roles_of ds)) + sweep_calls claims volumes * (writes / 513) + agent_sweep_calls pods * (pods_in (world setup h).store.rows / 513))
+      → b ≤ left + (8 * writes_since setup h past + (2 * claims + 3 * volumes + idle_of pods (roles_of ds)) + sweep_calls claims volumes *
+      (writes / 513) + agent_sweep_calls pods * (pods_in (world setup h).store.rows / 513))
   ops_round claims volumes writes role _ h b _ _ (Ends entries rest) so built rests given few fewer fewest = absurd so
   ops_round claims volumes writes role _ h b _ _ (Turns {ds = ds} {after = after} {whole = whole} d ran middle rest idle seat runs more) so built rests given few fewer fewest =
       let here = middle_run ds middle rest after whole more in
-      let later = plain_round ds middle rest after whole more so.1.1 built.1 (λ place x at. rests (suc place) x at) (slot_given setup lets d.seat d.actor ran.actor h middle b rest idle (world setup start).store.rows here built.0 (rests 0 d refl) runs given) in
+      let later = plain_round ds middle rest after whole more so.1.1 built.1 (λ place x at. rests (suc place) x at)
+      (slot_given setup lets d.seat d.actor ran.actor h middle b rest idle (world setup start).store.rows here built.0 (rests 0 d refl) runs given) in
       let n = split d ran ds h middle b rest idle after whole runs more in
       let now = ops_slots_cost_less setup lets d.seat d.actor ran.actor h middle b rest idle so.1.0 here (reads_pass lets holds) (rests 0 d refl) runs in
       let falls = ops_writes_fall setup lets d.seat d.actor ran.actor h middle b rest idle so.1.0 here (rests 0 d refl) runs in
       let ended = ended_few (world setup h).store.rows in
-      let less = mul-le (ops_sweep_calls (world setup h).store.rows) (writes_since setup h middle / 513) (sweep_calls claims volumes) (writes / 513) (ops_sweeps (world setup h).store.rows claims volumes few fewer)
+      let less = mul-le (ops_sweep_calls (world setup h).store.rows) (writes_since setup h middle / 513) (sweep_calls claims volumes) (writes / 513)
+      (ops_sweeps (world setup h).store.rows claims volumes few fewer)
       (div_less (writes_since setup h middle) writes (omega (arith, falls, fewest))) in
       let pods_stay = slots_add_no_pod setup lets d.seat d.actor ran.actor h middle b rest idle built.0 here runs in
-      let sweeps = mul_less (agent_sweep_calls pods) (pods_in (world setup middle).store.rows / 513) (pods_in (world setup h).store.rows / 513) (div_less (pods_in (world setup middle).store.rows) (pods_in (world setup h).store.rows) pods_stay) in
+      let sweeps = mul_less (agent_sweep_calls pods) (pods_in (world setup middle).store.rows / 513) (pods_in (world setup h).store.rows / 513)
+      (div_less (pods_in (world setup middle).store.rows) (pods_in (world setup h).store.rows) pods_stay) in
       let own = ap (role_calls pods) so.1.0 in
       omega (arith, n, later, now, few, fewer, ended, less, sweeps, own)
 
   -- ---- the scheduler before it
 
-  whole_round : (ds : List Drainer) (h : List Entry) (b : ℕ) (after : List Drainer) (whole : Bool) → IsRound lets past left ds h b after whole → StandSo (roles_of ds) → AreBuilt (roles_of ds) → AreAtRest ds → given_at h
-      → b ≤ left + (8 * writes_since setup h past + (2 * claims_in (world setup h).store.rows + 3 * volumes_in (world setup h).store.rows + idle_of pods (roles_of ds)) + sweep_calls (claims_in (world setup h).store.rows) (volumes_in (world setup h).store.rows) * (ops_most setup (world setup h) / 513)
+  whole_round : (ds : List Drainer) (h : List Entry) (b : ℕ) (after : List Drainer) (whole : Bool) → IsRound lets past left ds h b after whole
+      → StandSo (roles_of ds) → AreBuilt (roles_of ds) → AreAtRest ds → given_at h
+      → b ≤ left + (8 * writes_since setup h past +
+      (2 * claims_in (world setup h).store.rows + 3 * volumes_in (world setup h).store.rows + idle_of pods (roles_of ds)) + sweep_calls
+      (claims_in (world setup h).store.rows) (volumes_in (world setup h).store.rows) * (ops_most setup (world setup h) / 513)
       + agent_sweep_calls pods * (pods_in (world setup h).store.rows / 513))
   whole_round _ h b _ _ (Ends entries rest) so built rests given = absurd so
   whole_round _ h b _ _ (Turns {ds = ds} {after = after} {whole = whole} d ran middle rest idle seat runs more) so built rests given =
@@ -248,12 +267,15 @@ module _ (setup : Setup) (lets : Lets) (past : List Entry) (left : ℕ) (run : I
       let claims = kept.claims in
       let volumes = kept.volumes in
       let faults = kept.faults in
-      let later = ops_round (claims_in (world setup h).store.rows) (volumes_in (world setup h).store.rows) (ops_most setup (world setup h)) d.actor.role ds middle rest after whole more so built.1 (λ place x at. rests (suc place) x at)
-      (slot_given setup lets d.seat d.actor ran.actor h middle b rest idle (world setup start).store.rows here built.0 (rests 0 d refl) runs given) claims volumes (omega (arith, bounded, claims, volumes, faults, nodes, writes)) in
+      let later = ops_round (claims_in (world setup h).store.rows) (volumes_in (world setup h).store.rows)
+      (ops_most setup (world setup h)) d.actor.role ds middle rest after whole more so built.1 (λ place x at. rests (suc place) x at)
+      (slot_given setup lets d.seat d.actor ran.actor h middle b rest idle (world setup start).store.rows here built.0 (rests 0 d refl) runs given)
+      claims volumes (omega (arith, bounded, claims, volumes, faults, nodes, writes)) in
       let n = split d ran ds h middle b rest idle after whole runs more in
       let now = sure_slot d ran h middle b rest idle here (ap begins_to_last kind) (rests 0 d refl) runs in
       let pods_stay = slots_add_no_pod setup lets d.seat d.actor ran.actor h middle b rest idle built.0 here runs in
-      let sweeps = mul_less (agent_sweep_calls pods) (pods_in (world setup middle).store.rows / 513) (pods_in (world setup h).store.rows / 513) (div_less (pods_in (world setup middle).store.rows) (pods_in (world setup h).store.rows) pods_stay) in
+      let sweeps = mul_less (agent_sweep_calls pods) (pods_in (world setup middle).store.rows / 513) (pods_in (world setup h).store.rows / 513)
+      (div_less (pods_in (world setup middle).store.rows) (pods_in (world setup h).store.rows) pods_stay) in
       let own = ap (role_calls pods) kind in
       omega (arith, n, later, now, sweeps, own)
     where

@@ -3,8 +3,8 @@ use Rattle.std.proofs.Common.{◌≡◌, ℕ, ◌+◌, ◌*◌, ◌-◌, ◌≤�
 use Rattle.std.specs.Prelude.{◌/◌}
 use Rattle.std.proofs.Math.Nat.{mul-add}
 use Rattle.std.proofs.lemmas.Nat.{div-add-mod', mul-le}
-use Rattle.kube_types.specs.declared.objects.Object.{Object}
-use Rattle.kube_types.specs.declared.objects.Object.TheVariants.{Class, Node, Volume, Claim, Pod}
+use Rattle.kube_objects.specs.declared.objects.Object.{Object}
+use Rattle.kube_objects.specs.declared.objects.Object.TheVariants.{Class, Node, Volume, Claim, Pod}
 use Rattle.call_types.specs.declared.entry.Entry.{Entry}
 use Rattle.call_types.specs.declared.setup.Setup.{Setup}
 use Rattle.settle_measure.specs.Left.Measure.{claims_in, pods_in, total, volumes_in}
@@ -57,7 +57,8 @@ all_counted [] = omega arith
 all_counted (o ∷ os) = let rest = all_counted os in omega (arith, rest)
 
 -- ops is swept 32 times at most, and once more for each 513 names and faults, where a volume was made; an agent 15 times
-pub ops_swept : (claims volumes pod_count more times : ℕ) → claims + volumes + pod_count ≤ 8193 → times ≤ 2 * claims + volumes + pod_count + more → sweep_calls claims volumes * (times / 513) ≤ ((2 * claims + 3 * volumes + 24) - 7 * 513) * 32 + 41 * more
+pub ops_swept : (claims volumes pod_count more times : ℕ) → claims + volumes + pod_count ≤ 8193 → times ≤ 2 * claims + volumes + pod_count + more
+    → sweep_calls claims volumes * (times / 513) ≤ ((2 * claims + 3 * volumes + 24) - 7 * 513) * 32 + 41 * more
 ops_swept claims volumes pod_count more times counted few =
     let is = sweep_is claims volumes in
     let whole = div-add-mod' times 513 in
@@ -80,7 +81,8 @@ small_worlds_have_short_rounds w small = let all = all_counted w.store.rows in o
 -- ---- drains
 
 -- no further round comes where no call is left
-pub none_more : (lets : Lets) (setup : Setup) (after : List Drainer) (past : List Entry) (left : ℕ) (ds : List Drainer) (h : List Entry) (b : ℕ) → b ≡ 0 → (drained : Drains lets setup after past left ds h b) → EachRoundIsShort lets setup after past left ds h b drained
+pub none_more : (lets : Lets) (setup : Setup) (after : List Drainer) (past : List Entry) (left : ℕ) (ds : List Drainer) (h : List Entry) (b : ℕ)
+    → b ≡ 0 → (drained : Drains lets setup after past left ds h b) → EachRoundIsShort lets setup after past left ds h b drained
 none_more lets setup after past left ds h b none (NothingDue settled same entries rest) = tt
 none_more lets setup after past left ds h b none (IsSpent first due empty same entries rest) = tt
 none_more lets setup after past left ds h b none (Goes first due some between middle rest whole round more) = absurd (omega (arith, none, some))

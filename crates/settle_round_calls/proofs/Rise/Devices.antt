@@ -2,11 +2,11 @@
 use Rattle.std.proofs.Common.{◌≡◌, ◌∙◌, ◌⊎◌, ℕ, ◌+◌, ◌≤◌, ◌<◌, ◌^◌, List, [], Bool, true, false, Some, inl, inr, refl, ap, subst, arith, if◌then◌else◌}
 use Rattle.std.specs.Prelude.{bytes_eq, cond, ◌&&◌}
 use Rattle.std.specs.List.{list_any}
-use Rattle.kube_types.specs.declared.objects.DataId.{DataId}
-use Rattle.kube_types.specs.declared.objects.Object.{Object}
-use Rattle.kube_types.specs.declared.objects.Object.TheVariants.{Class, Node, Volume, Claim, Pod}
-use Rattle.kube_types.specs.Keys.{AreRows}
-use Rattle.kube_types.specs.Sources.{data_id_of}
+use Rattle.kube_objects.specs.declared.objects.DataId.{DataId}
+use Rattle.kube_objects.specs.declared.objects.Object.{Object}
+use Rattle.kube_objects.specs.declared.objects.Object.TheVariants.{Class, Node, Volume, Claim, Pod}
+use Rattle.kube_objects.specs.Keys.{AreRows}
+use Rattle.kube_objects.specs.Sources.{data_id_of}
 use Rattle.call_types.specs.declared.reply.Refusal.TheVariants.{BackFault}
 use Rattle.call_types.specs.declared.reply.Reply.TheVariants.{Refused}
 use Rattle.call_types.specs.declared.request.Request.TheVariants.{Erase}
@@ -51,10 +51,12 @@ module _ (setup : Setup) (w : World) (id : DataId) (a : DeviceAnswer) (order : A
     each : (o : Object) → IsIn o w.store.rows → Pays (λ y. object_left w.store.rows w.devices y + lost_by only.given.name y) (object_left w.store.rows a.devices) none_paid o
     each (Class y) i = omega arith
     each (Node y) i = omega arith
-    each (Volume u) i = let h = volume_less w.store.rows w.store.rows w.devices a.devices u (λ namespace n is. is) (λ is. ap (was_erased (data_id_of u.source)) erased ∙ erased_kept id (data_id_of u.source) w.devices.stored is) in omega (arith, h)
+    each (Volume u) i = let h = volume_less w.store.rows w.store.rows w.devices a.devices u (λ namespace n is. is) (λ is. ap
+        (was_erased (data_id_of u.source)) erased ∙ erased_kept id (data_id_of u.source) w.devices.stored is) in omega (arith, h)
     each (Pod p) i = let h = pods_same w.devices a.devices x.mounts p in omega (arith, h)
     each (Claim c) i =
-        let h = claim_up w.store.rows w.devices a.devices c (if is_data_name only.given.name c.meta.uid then 1 else 0) (provision_up w.store.rows w.devices a.devices c only.given.name c.meta.uid kept) in
+        let h = claim_up w.store.rows w.devices a.devices c (if is_data_name only.given.name c.meta.uid then 1 else 0)
+        (provision_up w.store.rows w.devices a.devices c only.given.name c.meta.uid kept) in
         omega (arith, h)
 
     one_loses : left_of (with_devices w a) ≤ left_of w + 1
@@ -62,7 +64,8 @@ module _ (setup : Setup) (w : World) (id : DataId) (a : DeviceAnswer) (order : A
         let sums = falls (λ y. object_left w.store.rows w.devices y + lost_by only.given.name y) (object_left w.store.rows a.devices) none_paid w.store.rows each in
         let none = none_pays w.store.rows in
         let split = total_sum (object_left w.store.rows w.devices) (lost_by only.given.name) w.store.rows in
-        let most = one_more only.given.name w.store.rows order (λ c e i j own own_too. owner w.store.rows names only.given.name c e (stands w.store.rows order (Claim c) i) (stands w.store.rows order (Claim e) j) own own_too) in
+        let most = one_more only.given.name w.store.rows order
+        (λ c e i j own own_too. owner w.store.rows names only.given.name c e (stands w.store.rows order (Claim c) i) (stands w.store.rows order (Claim e) j) own own_too) in
         omega (arith, sums, none, split, most)
 
   pub erase_costs : (most : ℕ) → most < 2 ^ 60 → AreFew most w.devices.stored → device_answer setup w.devices (Erase id) ≡ Some a → left_of (with_devices w a) ≤ left_of w + 1
@@ -71,6 +74,7 @@ module _ (setup : Setup) (w : World) (id : DataId) (a : DeviceAnswer) (order : A
       by : (b : Bool) → has_id id w.devices.stored ≡ b → (a.devices.stored ≡ w.devices.stored) ⊎ (a.devices.stored ≡ data_after_erase id w.devices.stored) → left_of (with_devices w a) ≤ left_of w + 1
       by false lacks x = let h = erase_stays setup w id a order lacks e in omega (arith, h)
       by true has (inl same) =
-          let h : total (object_left w.store.rows a.devices) w.store.rows ≤ left_of w = devices_total w.store.rows w.store.rows w.devices a.devices (all_provision w.store.rows w.devices a.devices [] (erasure_is setup w.devices id a e).mounts (inl same)) refl in
+          let h : total (object_left w.store.rows a.devices) w.store.rows ≤ left_of w =
+          devices_total w.store.rows w.store.rows w.devices a.devices (all_provision w.store.rows w.devices a.devices [] (erasure_is setup w.devices id a e).mounts (inl same)) refl in
           omega (arith, h)
       by true has (inr erased) = one_loses (erasure_is setup w.devices id a e) erased (alone most w.devices.stored few short id has)

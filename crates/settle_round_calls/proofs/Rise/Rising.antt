@@ -1,10 +1,10 @@
 -- Each call of a controller, and entries one after the other.
 use Rattle.std.proofs.Common.{◌≡◌, ◌≢◌, ◌∙◌, ℕ, ◌+◌, ◌*◌, ◌-◌, ◌≤◌, List, [], ◌∷◌, ◌++◌, Option, Some, None, refl, sym, ap, subst, arith, length}
-use Rattle.kube_types.specs.declared.objects.Object.{Object}
-use Rattle.kube_types.specs.declared.objects.Object.TheVariants.{Class, Node, Volume, Claim, Pod}
-use Rattle.kube_types.specs.Bindings.{ref_uid}
-use Rattle.kube_types.specs.declared.uid.Uid.{Uid}
-use Rattle.kube_types.specs.Uids.{uid_of_serial}
+use Rattle.kube_objects.specs.declared.objects.Object.{Object}
+use Rattle.kube_objects.specs.declared.objects.Object.TheVariants.{Class, Node, Volume, Claim, Pod}
+use Rattle.kube_objects.specs.Bindings.{ref_uid}
+use Rattle.kube_parts.specs.declared.uid.Uid.{Uid}
+use Rattle.kube_parts.specs.Uids.{uid_of_serial}
 use Rattle.call_types.specs.declared.entry.Entry.{Entry}
 use Rattle.call_types.specs.declared.request.Request.{Request}
 use Rattle.call_types.specs.declared.request.Request.TheVariants as requests
@@ -84,14 +84,20 @@ are_reads seats.VolumeProtect built agent node epoch pod claims = (refl, refl, r
 are_reads seats.Agent built agent node epoch pod claims = absurd (agent refl)
 
 module _ (setup : Setup) (h : List Entry) (run : IsRunOf setup h) (fit : UidsFit setup) (seat : ℕ) (kind : SeatKind) (built : IsBuiltKind kind) (agent : kind ≢ seats.Agent) where
-  asked_costs : (r : Request) (a : DeviceAnswer) → Licensed kind (own seat h) r → device_answer setup (world setup h).devices r ≡ Some a → left_of (with_devices (world setup h) a) ≤ left_of (world setup h) + erase_rise r
+  asked_costs : (r : Request) (a : DeviceAnswer) → Licensed kind (own seat h) r → device_answer setup (world setup h).devices r ≡ Some a
+      → left_of (with_devices (world setup h) a) ≤ left_of (world setup h) + erase_rise r
   unfolding device_answer
-  asked_costs (requests.Provision name provisioner bytes labels) a may e = let stays = provision_stays setup (world setup h) name provisioner bytes labels a (rows_stand_in_order setup h) e in omega (arith, stays)
+  asked_costs (requests.Provision name provisioner bytes labels) a may e = let stays =
+      provision_stays setup (world setup h) name provisioner bytes labels a (rows_stand_in_order setup h) e in omega (arith, stays)
   asked_costs (requests.Erase id) a may e = erase_costs setup (world setup h) id a (rows_stand_in_order setup h) (own_names setup h run fit) (length h) run.short (data_are_few setup h) e
-  asked_costs (requests.TakeNode node) a may e = absurd (subst (allows kind (own seat h)) (are_reads kind built agent node 0 (uid_of_serial 0) []).0 (row_allows kind (own seat h) (requests.TakeNode node) built may))
-  asked_costs (requests.Mounts node epoch) a may e = absurd (subst (allows kind (own seat h)) (are_reads kind built agent node epoch (uid_of_serial 0) []).1 (row_allows kind (own seat h) (requests.Mounts node epoch) built may))
-  asked_costs (requests.Mount node epoch pod claims) a may e = absurd (subst (allows kind (own seat h)) (are_reads kind built agent node epoch pod claims).2 (row_allows kind (own seat h) (requests.Mount node epoch pod claims) built may))
-  asked_costs (requests.Unmount node epoch pod) a may e = absurd (subst (allows kind (own seat h)) (are_reads kind built agent node epoch pod []).3 (row_allows kind (own seat h) (requests.Unmount node epoch pod) built may))
+  asked_costs (requests.TakeNode node) a may e =
+      absurd (subst (allows kind (own seat h)) (are_reads kind built agent node 0 (uid_of_serial 0) []).0 (row_allows kind (own seat h) (requests.TakeNode node) built may))
+  asked_costs (requests.Mounts node epoch) a may e =
+      absurd (subst (allows kind (own seat h)) (are_reads kind built agent node epoch (uid_of_serial 0) []).1 (row_allows kind (own seat h) (requests.Mounts node epoch) built may))
+  asked_costs (requests.Mount node epoch pod claims) a may e =
+      absurd (subst (allows kind (own seat h)) (are_reads kind built agent node epoch pod claims).2 (row_allows kind (own seat h) (requests.Mount node epoch pod claims) built may))
+  asked_costs (requests.Unmount node epoch pod) a may e =
+      absurd (subst (allows kind (own seat h)) (are_reads kind built agent node epoch pod []).3 (row_allows kind (own seat h) (requests.Unmount node epoch pod) built may))
   asked_costs _ a may e = none_some e
 
 -- a scheduler asks the devices for nothing
@@ -117,12 +123,14 @@ module _ (setup : Setup) (h : List Entry) (history : IsHistory setup h) (seat : 
       let c = came setup (world setup h) seats.Scheduler r o (rows_stand_in_order setup h) written in
       scheduler_spends setup seat h history o (effect setup (world setup h) seats.Scheduler r) r r refl may c.write c.store
 
-  plain_left : (kind : SeatKind) (r : Request) (o : Object) → IsPlain kind → Licensed kind (own seat h) r → written_by (effect setup (world setup h) kind r) ≡ Some o → left_of (after_call kind r) ≤ left_of (world setup h) + 28
+  plain_left : (kind : SeatKind) (r : Request) (o : Object) → IsPlain kind → Licensed kind (own seat h) r
+      → written_by (effect setup (world setup h) kind r) ≡ Some o → left_of (after_call kind r) ≤ left_of (world setup h) + 28
   plain_left kind r o plain may written =
       let c = came setup (world setup h) kind r o (rows_stand_in_order setup h) written in
       write_costs (world setup h) (effect setup (world setup h) kind r) r o (rows_stand_in_order setup h) (writing setup seat h history o kind r plain may c.write) c.store
 
-  write_left : (kind : SeatKind) (r : Request) (o : Object) → IsBuiltKind kind → kind ≢ seats.Agent → Licensed kind (own seat h) r → written_by (effect setup (world setup h) kind r) ≡ Some o → left_of (after_call kind r) ≤ left_of (world setup h) + most_rise kind
+  write_left : (kind : SeatKind) (r : Request) (o : Object) → IsBuiltKind kind → kind ≢ seats.Agent → Licensed kind (own seat h) r
+      → written_by (effect setup (world setup h) kind r) ≡ Some o → left_of (after_call kind r) ≤ left_of (world setup h) + most_rise kind
   write_left seats.User r o built agent may written = absurd built
   write_left seats.Agent r o built agent may written = absurd (agent refl)
   write_left seats.Scheduler r o built agent may written = (scheduled r o may written).rise
@@ -153,7 +161,8 @@ faults_stay setup w kind r = calls_stay setup w.devices (world_after w (effect s
 
 pub calls_raise_little : CallsRaiseLittle
 calls_raise_little setup e h allow built agent run =
-    with_faults (left_of (world setup h)) (faults_left setup (world setup h).devices) (left_of (world setup (e ∷ h))) (faults_left setup (world setup (e ∷ h)).devices) (most_rise e.kind * writes_since setup h (e ∷ h)) (erase_rise e.request)
+    with_faults (left_of (world setup h)) (faults_left setup (world setup h).devices) (left_of (world setup (e ∷ h)))
+    (faults_left setup (world setup (e ∷ h)).devices) (most_rise e.kind * writes_since setup h (e ∷ h)) (erase_rise e.request)
     (by (comes_to (world setup h) (effect setup (world setup h) e.kind e.request))) (faults_stay setup (world setup h) e.kind e.request)
   where
     here : IsRunOf setup h
@@ -162,7 +171,8 @@ calls_raise_little setup e h allow built agent run =
     may : Licensed e.kind (own e.seat h) e.request
     may = run.run.2
 
-    by : ComesTo (world setup h) (effect setup (world setup h) e.kind e.request) → left_of (world setup (e ∷ h)) ≤ left_of (world setup h) + most_rise e.kind * writes_since setup h (e ∷ h) + erase_rise e.request
+    by : ComesTo (world setup h) (effect setup (world setup h) e.kind e.request)
+        → left_of (world setup (e ∷ h)) ≤ left_of (world setup h) + most_rise e.kind * writes_since setup h (e ∷ h) + erase_rise e.request
     by (Leaves store left) = more _ _ _ _ (let same = left in omega (arith, same))
     by (Wrote o written version) =
         let less = write_left setup h (runs_are_histories setup h here.run) e.seat e.kind e.request o built agent may written in
@@ -191,24 +201,29 @@ then_more first middle last p q r x y low high sum = omega (arith, low, high, su
 pub entries_raise_little : EntriesRaiseLittle
 entries_raise_little setup kind [] h allow built agent each run = more _ _ _ _ (omega arith)
 entries_raise_little setup kind (e ∷ newer) h allow built agent each run =
-    then_more (work_left setup (world setup h)) (work_left setup (world setup (newer ++ h))) (work_left setup (world setup (e ∷ newer ++ h))) (most_rise kind * writes_since setup h (newer ++ h)) (most_rise kind * writes_since setup (newer ++ h) (e ∷ newer ++ h))
+    then_more (work_left setup (world setup h)) (work_left setup (world setup (newer ++ h))) (work_left setup (world setup (e ∷ newer ++ h)))
+    (most_rise kind * writes_since setup h (newer ++ h)) (most_rise kind * writes_since setup (newer ++ h) (e ∷ newer ++ h))
     (most_rise kind * writes_since setup h (e ∷ newer ++ h)) (erase_rise e.request) (erases_rise newer)
     (entries_raise_little setup kind newer h allow built agent each.1 (older_run setup (e ∷ []) (newer ++ h) run))
-    (subst (λ k. work_left setup (world setup (e ∷ newer ++ h)) ≤ work_left setup (world setup (newer ++ h)) + most_rise k * writes_since setup (newer ++ h) (e ∷ newer ++ h) + erase_rise e.request) each.0
+    (subst (λ k. work_left setup (world setup (e ∷ newer ++ h)) ≤ work_left setup (world setup (newer ++ h)) + most_rise k * writes_since setup
+    (newer ++ h) (e ∷ newer ++ h) + erase_rise e.request) each.0
     (calls_raise_little setup e (newer ++ h) allow (subst IsBuiltKind (sym each.0) built) (λ is. agent (sym each.0 ∙ is)) run))
     (join kind (world setup h).store.version (world setup (newer ++ h)).store.version (world setup (e ∷ newer ++ h)).store.version (rises setup newer h) (rises setup (e ∷ []) (newer ++ h)))
 
 -- ---- schedulers
 
 scheduler_call : (setup : Setup) (h : List Entry) (seat : ℕ) (r : Request) → IsHistory setup h → Licensed seats.Scheduler (own seat h) r
-    → left_of (world_after (world setup h) (effect setup (world setup h) seats.Scheduler r)) + 3 * untaken_in (world_after (world setup h) (effect setup (world setup h) seats.Scheduler r)).store.rows ≤ left_of (world setup h) + 3 * untaken_in (world setup h).store.rows
+    → left_of (world_after (world setup h) (effect setup (world setup h) seats.Scheduler r)) + 3 * untaken_in
+    (world_after (world setup h) (effect setup (world setup h) seats.Scheduler r)).store.rows ≤ left_of (world setup h) + 3 * untaken_in (world setup h).store.rows
 scheduler_call setup h seat r history may = by (comes_to (world setup h) (effect setup (world setup h) seats.Scheduler r))
   where
     by : ComesTo (world setup h) (effect setup (world setup h) seats.Scheduler r)
-        → left_of (world_after (world setup h) (effect setup (world setup h) seats.Scheduler r)) + 3 * untaken_in (world_after (world setup h) (effect setup (world setup h) seats.Scheduler r)).store.rows ≤ left_of (world setup h) + 3 * untaken_in (world setup h).store.rows
+        → left_of (world_after (world setup h) (effect setup (world setup h) seats.Scheduler r)) + 3 * untaken_in
+        (world_after (world setup h) (effect setup (world setup h) seats.Scheduler r)).store.rows ≤ left_of (world setup h) + 3 * untaken_in (world setup h).store.rows
     by (Leaves store left) = let same = ap (λ s. untaken_in s.rows) store in omega (arith, left, same)
     by (Wrote o written version) = (scheduled setup h history seat r o may written).paid
-    by (Asked a is store left) = absurd (scheduler_asks_none setup (world setup h) (own seat h) r a may (subst (EffectOf setup (world setup h) seats.Scheduler r) is (effect_form setup (world setup h) seats.Scheduler r (rows_stand_in_order setup h))).1)
+    by (Asked a is store left) = absurd (scheduler_asks_none setup (world setup h) (own seat h) r a may
+        (subst (EffectOf setup (world setup h) seats.Scheduler r) is (effect_form setup (world setup h) seats.Scheduler r (rows_stand_in_order setup h))).1)
 
 pub schedulers_raise_little : SchedulersRaiseLittle
 schedulers_raise_little setup [] h each run = omega arith
@@ -216,8 +231,10 @@ schedulers_raise_little setup (e ∷ newer) h each run =
     let before = older_run setup (e ∷ []) (newer ++ h) run in
     let rest = schedulers_raise_little setup newer h each.1 before in
     let may : Licensed seats.Scheduler (own e.seat (newer ++ h)) e.request = subst (λ k. Licensed k (own e.seat (newer ++ h)) e.request) each.0 run.run.2 in
-    let now : left_of (world setup (e ∷ newer ++ h)) + 3 * untaken_in (world setup (e ∷ newer ++ h)).store.rows ≤ left_of (world setup (newer ++ h)) + 3 * untaken_in (world setup (newer ++ h)).store.rows =
-    subst (λ k. left_of (world_after (world setup (newer ++ h)) (effect setup (world setup (newer ++ h)) k e.request)) + 3 * untaken_in (world_after (world setup (newer ++ h)) (effect setup (world setup (newer ++ h)) k e.request)).store.rows
+    let now : left_of (world setup (e ∷ newer ++ h)) + 3 * untaken_in (world setup (e ∷ newer ++ h)).store.rows ≤ left_of
+    (world setup (newer ++ h)) + 3 * untaken_in (world setup (newer ++ h)).store.rows =
+    subst (λ k. left_of (world_after (world setup (newer ++ h)) (effect setup (world setup (newer ++ h)) k e.request)) + 3 * untaken_in
+    (world_after (world setup (newer ++ h)) (effect setup (world setup (newer ++ h)) k e.request)).store.rows
     ≤ left_of (world setup (newer ++ h)) + 3 * untaken_in (world setup (newer ++ h)).store.rows) (sym each.0)
     (scheduler_call setup (newer ++ h) e.seat e.request (runs_are_histories setup (newer ++ h) before.run) may) in
     let faults = faults_stay setup (world setup (newer ++ h)) e.kind e.request in

@@ -3,22 +3,22 @@ use Rattle.std.proofs.Common.{◌≡◌, ◌∙◌, ◌⊎◌, ℕ, ◌+◌, ◌
 use Rattle.std.specs.Prelude.{◌&&◌, is_none, is_some}
 use Rattle.std.proofs.lemmas.Bool.{and_parts}
 use Rattle.plain_data.specs.Pairs.{put_pair}
-use Rattle.kube_types.specs.declared.key.Key.{Key}
-use Rattle.kube_types.specs.declared.parts.Kind.TheVariants as kinds
-use Rattle.kube_types.specs.declared.parts.VolumePhase.{VolumePhase}
-use Rattle.kube_types.specs.declared.parts.VolumePhase.TheVariants as volumes
-use Rattle.kube_types.specs.declared.objects.Claim.{Claim as ClaimData}
-use Rattle.kube_types.specs.declared.objects.Meta.{Meta}
-use Rattle.kube_types.specs.declared.objects.Pod.{Pod as PodData}
-use Rattle.kube_types.specs.declared.objects.Ref.{Ref}
-use Rattle.kube_types.specs.declared.objects.Volume.{Volume as VolumeData}
-use Rattle.kube_types.specs.declared.objects.Object.{Object}
-use Rattle.kube_types.specs.declared.objects.Object.TheVariants.{Class, Node, Volume, Claim, Pod}
-use Rattle.kube_types.specs.declared.uid.Uid.{Uid}
-use Rattle.kube_types.specs.Bindings.{beta_class, bind_completed, bound_by_controller, carries, is_deleting, ref_uid, selected_node}
-use Rattle.kube_types.specs.Keys.{AreRows, key_of, meta_of, put_row, row_at, without_row}
-use Rattle.kube_types.specs.Sources.{data_id_of}
-use Rattle.kube_types.proofs.KeyOrder.{row_at_key}
+use Rattle.kube_objects.specs.declared.key.Key.{Key}
+use Rattle.kube_parts.specs.declared.parts.Kind.TheVariants as kinds
+use Rattle.kube_parts.specs.declared.parts.VolumePhase.{VolumePhase}
+use Rattle.kube_parts.specs.declared.parts.VolumePhase.TheVariants as volumes
+use Rattle.kube_objects.specs.declared.objects.Claim.{Claim as ClaimData}
+use Rattle.kube_objects.specs.declared.objects.Meta.{Meta}
+use Rattle.kube_objects.specs.declared.objects.Pod.{Pod as PodData}
+use Rattle.kube_objects.specs.declared.objects.Ref.{Ref}
+use Rattle.kube_objects.specs.declared.objects.Volume.{Volume as VolumeData}
+use Rattle.kube_objects.specs.declared.objects.Object.{Object}
+use Rattle.kube_objects.specs.declared.objects.Object.TheVariants.{Class, Node, Volume, Claim, Pod}
+use Rattle.kube_parts.specs.declared.uid.Uid.{Uid}
+use Rattle.kube_objects.specs.Bindings.{beta_class, bind_completed, bound_by_controller, carries, is_deleting, ref_uid, selected_node}
+use Rattle.kube_objects.specs.Keys.{AreRows, key_of, meta_of, put_row, row_at, without_row}
+use Rattle.kube_objects.specs.Sources.{data_id_of}
+use Rattle.kube_objects.proofs.KeyOrder.{row_at_key}
 use Rattle.call_types.specs.declared.entry.Entry.{Entry}
 use Rattle.call_types.specs.declared.request.Request.{Request}
 use Rattle.call_types.specs.declared.request.Request.TheVariants as requests
@@ -95,11 +95,13 @@ module _ (rows : List Object) (d : Devices) (v : VolumeData) (c : ClaimData) (n 
   taken_weight : (b : Bool) → volume_left rows d (taken_as b v c n) ≤ volume_left rows d v + 3
   taken_weight true =
       let stage = few_stages (is_awaited rows (Some (ref_to c))) c.meta.uid v.phase known in
-      let life = life_kept (is_deleting v.meta) (is_over (ref_uid v.claim_ref) v.phase) (is_over c.meta.uid v.phase) (was_erased (data_id_of v.source) d.stored) (not_over (ref_uid v.claim_ref) v.phase (inl free)) in
+      let life = life_kept (is_deleting v.meta) (is_over (ref_uid v.claim_ref) v.phase) (is_over c.meta.uid v.phase)
+      (was_erased (data_id_of v.source) d.stored) (not_over (ref_uid v.claim_ref) v.phase (inl free)) in
       omega (arith, stage, life)
   taken_weight false =
       let stage = few_stages (is_awaited rows (Some (ref_to c))) c.meta.uid v.phase known in
-      let life = life_kept (is_deleting v.meta) (is_over (ref_uid v.claim_ref) v.phase) (is_over c.meta.uid v.phase) (was_erased (data_id_of v.source) d.stored) (not_over (ref_uid v.claim_ref) v.phase (inl free)) in
+      let life = life_kept (is_deleting v.meta) (is_over (ref_uid v.claim_ref) v.phase) (is_over c.meta.uid v.phase)
+      (was_erased (data_id_of v.source) d.stored) (not_over (ref_uid v.claim_ref) v.phase (inl free)) in
       omega (arith, stage, life)
 
   untaken_before : is_untaken (Volume v) ≡ 1
@@ -118,7 +120,8 @@ module _ (rows : List Object) (d : Devices) (v : VolumeData) (c : ClaimData) (n 
       record {
         held = λ open_ staying which h. false_not _ before (and_parts (carries v e) _ (and_parts (carries v e && _) _ h).0).0;
         offered = λ open_ staying empty h. false_not _ before (and_parts (carries v e) _ h).0;
-        done = λ completed named. let was : completed_left e (Some (Volume v)) ≡ 5 + unless (is_lost e.phase) 1 = rw before refl in let most = away_most e (taken_as b v c n) in omega (arith, was, most);
+        done = λ completed named. let was : completed_left e (Some (Volume v)) ≡ 5 + unless (is_lost e.phase) 1 = rw before refl in let most =
+            away_most e (taken_as b v c n) in omega (arith, was, most);
       }
 
 -- ---- what a write of a scheduler costs
@@ -166,7 +169,8 @@ module _ (setup : Setup) (seat : ℕ) (h : List Entry) (history : IsHistory setu
           keyed = λ i. record { kind = kinds.PersistentVolume; namespace = at.placed i; name = at.named i }
 
           same : u.old ≡ Volume v
-          same = stands_it setup h (Volume v) u.old (key_of (Volume new)) (told_is_true setup h seat (Volume v) history it) keyed u.there (subst (λ g. is_other_version g (meta_of u.old).version ≡ false) at.version u.version)
+          same = stands_it setup h (Volume v) u.old (key_of (Volume new)) (told_is_true setup h seat (Volume v) history it) keyed u.there
+              (subst (λ g. is_other_version g (meta_of u.old).version ≡ false) at.version u.version)
 
           of_claim : (x : Object) → IsClaimWith (IsTaken v new) x → Takes w o
           of_claim (Claim d) is = record {
@@ -218,7 +222,15 @@ module _ (setup : Setup) (seat : ℕ) (h : List Entry) (history : IsHistory setu
         m = record r.on.meta { annotations = put_pair selected_node r.row.node.meta.name r.on.meta.annotations; version = w.store.version + 1 }
 
         alike : MetaAlike r.on.meta m
-        alike = record { namespace = refl; name = refl; uid = refl; deleted = refl; completed = value_other bind_completed selected_node r.row.node.meta.name r.on.meta.annotations refl; beta = value_other beta_class selected_node r.row.node.meta.name r.on.meta.annotations refl }
+        alike = record {
+          namespace = refl;
+          name = refl;
+          uid = refl;
+          deleted = refl;
+          completed =
+              value_other bind_completed selected_node r.row.node.meta.name r.on.meta.annotations refl;
+          beta = value_other beta_class selected_node r.row.node.meta.name r.on.meta.annotations refl;
+        }
 
         is_o : o ≡ Claim (record r.on { meta = m })
         is_o = r.is ∙ ap (λ y. Claim (rewritten_claim r.on y (w.store.version + 1))) r.row.change
@@ -257,7 +269,8 @@ module _ (setup : Setup) (seat : ℕ) (h : List Entry) (history : IsHistory setu
         let few = put_untaken w.store.rows order (Pod i.pod) (Pod new) at in
         let rows : untaken_in (world_after w x).store.rows ≡ untaken_in (put_row (Pod new) w.store.rows) = ap untaken_in p.rows in
         record { rise = omega (arith, now, costs, was, most); paid = omega (arith, now, costs, was, most, few, rows) }
-    by_pod key uid node is i (inr took) = absurd (subst (λ r. IsLeaving r (Pod (record i.pod { node = node; meta = record i.pod.meta { version = w.store.version + 1 } }))) is (subst (IsLeaving request) i.is took.leaves))
+    by_pod key uid node is i (inr took) = absurd (subst
+        (λ r. IsLeaving r (Pod (record i.pod { node = node; meta = record i.pod.meta { version = w.store.version + 1 } }))) is (subst (IsLeaving request) i.is took.leaves))
 
     pub scheduler_spends : (r : Request) → request ≡ r → Licensed seats.Scheduler (own seat h) r → Writes w seats.Scheduler r o → Put w x o ⊎ Took w x request o → SpendsBy
     scheduler_spends (requests.Update (Volume new) given) is may u came = by_volume (takes new given may u) came

@@ -3,16 +3,16 @@ use Rattle.std.proofs.Common.{◌≡◌, ◌∙◌, ℕ, ◌+◌, ◌≤◌, Lis
 use Rattle.std.specs.Prelude.{bytes_eq, cond}
 use Rattle.std.proofs.lemmas.Bool.{and_parts, false_from_ne_true}
 use Rattle.std.proofs.lemmas.Slice.Eq.{bytes_eq-Decides}
-use Rattle.kube_types.specs.declared.key.Key.{Key}
-use Rattle.kube_types.specs.declared.objects.Claim.{Claim as ClaimData}
-use Rattle.kube_types.specs.declared.objects.Ref.{Ref}
-use Rattle.kube_types.specs.declared.objects.Volume.{Volume as VolumeData}
-use Rattle.kube_types.specs.declared.objects.Object.{Object}
-use Rattle.kube_types.specs.declared.objects.Object.TheVariants.{Class, Node, Volume, Claim, Pod}
-use Rattle.kube_types.specs.Bindings.{carries, names_claim, refers_carrying, uid_carries}
-use Rattle.kube_types.specs.Keys.{AreRows, key_of, put_row, row_at, same_key, without_row}
-use Rattle.kube_types.proofs.KeyOrder.{row_at-put_row, row_at-without_row}
-use Rattle.kube_types.proofs.SameKeys.{same_key-Decides}
+use Rattle.kube_objects.specs.declared.key.Key.{Key}
+use Rattle.kube_objects.specs.declared.objects.Claim.{Claim as ClaimData}
+use Rattle.kube_objects.specs.declared.objects.Ref.{Ref}
+use Rattle.kube_objects.specs.declared.objects.Volume.{Volume as VolumeData}
+use Rattle.kube_objects.specs.declared.objects.Object.{Object}
+use Rattle.kube_objects.specs.declared.objects.Object.TheVariants.{Class, Node, Volume, Claim, Pod}
+use Rattle.kube_objects.specs.Bindings.{carries, names_claim, refers_carrying, uid_carries}
+use Rattle.kube_objects.specs.Keys.{AreRows, key_of, put_row, row_at, same_key, without_row}
+use Rattle.kube_objects.proofs.KeyOrder.{row_at-put_row, row_at-without_row}
+use Rattle.kube_objects.proofs.SameKeys.{same_key-Decides}
 use Rattle.binder_model.specs.Devices.{Devices}
 use Rattle.binder_model.specs.ObjectKeys.{claim_key}
 use Rattle.model_laws.proofs.Lists.{none_some, one}
@@ -87,8 +87,10 @@ module _ (rows : List Object) (d : Devices) (order : AreRows rows) (v : VolumeDa
   put_costs new same =
       let agree : Agree rows (put_row (Volume new) rows) (key_of (Volume v)) = subst (Agree rows (put_row (Volume new) rows)) same (put_agrees (Volume new) rows) in
       let now : row_at (key_of (Volume v)) (put_row (Volume new) rows) ≡ Some (Volume new) = ap (λ k. row_at k (put_row (Volume new) rows)) (sym same) ∙ row_at-put_row (Volume new) rows in
-      let sums = put_falls (with_room rows (put_row (Volume new) rows) d order v there) (object_left (put_row (Volume new) rows) d) none_paid (Volume new) (Volume v) rows order (ap (λ k. row_at k rows) same ∙ there)
-      (λ o i differs. each_costs rows (put_row (Volume new) rows) d order v there agree (volume_puts_no_claim new rows) (λ c. let e = ap (completed_left c) now in let m = away_most c new in omega (arith, e, m)) o) in
+      let sums = put_falls (with_room rows (put_row (Volume new) rows) d order v there) (object_left (put_row (Volume new) rows) d) none_paid
+      (Volume new) (Volume v) rows order (ap (λ k. row_at k rows) same ∙ there)
+      (λ o i differs. each_costs rows (put_row (Volume new) rows) d order v there agree (volume_puts_no_claim new rows)
+      (λ c. let e = ap (completed_left c) now in let m = away_most c new in omega (arith, e, m)) o) in
       let none = none_pays rows in
       let most = room rows (put_row (Volume new) rows) d order v there in
       let new_most = volume_most (put_row (Volume new) rows) d new in
@@ -98,8 +100,10 @@ module _ (rows : List Object) (d : Devices) (order : AreRows rows) (v : VolumeDa
   pub gone_costs : left_on (without_row (key_of (Volume v)) rows) d ≤ left_on rows d + 18
   gone_costs =
       let now : row_at (key_of (Volume v)) (without_row (key_of (Volume v)) rows) ≡ None = row_at-without_row (key_of (Volume v)) rows order in
-      let sums = gone_falls (with_room rows (without_row (key_of (Volume v)) rows) d order v there) (object_left (without_row (key_of (Volume v)) rows) d) none_paid (key_of (Volume v)) (Volume v) rows order there
-      (λ o i differs. each_costs rows (without_row (key_of (Volume v)) rows) d order v there (without_agrees (key_of (Volume v)) rows) (volume_takes_no_claim v rows) (λ c. let e = ap (completed_left c) now in omega (arith, e)) o) in
+      let sums = gone_falls (with_room rows (without_row (key_of (Volume v)) rows) d order v there)
+      (object_left (without_row (key_of (Volume v)) rows) d) none_paid (key_of (Volume v)) (Volume v) rows order there
+      (λ o i differs. each_costs rows (without_row (key_of (Volume v)) rows) d order v there (without_agrees (key_of (Volume v)) rows)
+      (volume_takes_no_claim v rows) (λ c. let e = ap (completed_left c) now in omega (arith, e)) o) in
       let none = none_pays rows in
       let most = room rows (without_row (key_of (Volume v)) rows) d order v there in
       omega (arith, sums, none, most)
@@ -107,7 +111,8 @@ module _ (rows : List Object) (d : Devices) (order : AreRows rows) (v : VolumeDa
 -- it is created
 pub new_costs : (rows : List Object) (d : Devices) (new : VolumeData) → AreRows rows → row_at (key_of (Volume new)) rows ≡ None → left_on (put_row (Volume new) rows) d ≤ left_on rows d + 10
 new_costs rows d new order free =
-    let sums = new_falls (object_left rows d) (object_left (put_row (Volume new) rows) d) none_paid (Volume new) rows free (λ o i. let h = each_less rows (put_row (Volume new) rows) d d all o i in omega (arith, h)) in
+    let sums = new_falls (object_left rows d) (object_left (put_row (Volume new) rows) d) none_paid (Volume new) rows free
+    (λ o i. let h = each_less rows (put_row (Volume new) rows) d d all o i in omega (arith, h)) in
     let none = none_pays rows in
     let most = volume_most (put_row (Volume new) rows) d new in
     omega (arith, sums, none, most)

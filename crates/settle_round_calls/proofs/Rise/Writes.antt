@@ -2,15 +2,15 @@
 -- the new one does.
 use Rattle.std.proofs.Common.{◌≡◌, ◌∙◌, ◌⊎◌, ℕ, ◌+◌, ◌≤◌, List, Bool, true, false, true≢false, Option, Some, None, inl, inr, refl, sym, ap, subst, arith}
 use Rattle.std.specs.Prelude.{not, ◌&&◌, is_some, ⊤}
-use Rattle.kube_types.specs.declared.key.Key.{Key}
-use Rattle.kube_types.specs.declared.objects.Claim.{Claim as ClaimData}
-use Rattle.kube_types.specs.declared.objects.Meta.{Meta}
-use Rattle.kube_types.specs.declared.objects.Volume.{Volume as VolumeData}
-use Rattle.kube_types.specs.declared.objects.Object.{Object}
-use Rattle.kube_types.specs.declared.objects.Object.TheVariants.{Class, Node, Volume, Claim, Pod}
-use Rattle.kube_types.specs.Bindings.{bind_completed, has_key, is_completed, is_deleting, is_empty, is_protected_claim, selected_node}
-use Rattle.kube_types.specs.Keys.{AreRows, key_of, kind_index, kind_of, meta_of, put_row, row_at, without_row}
-use Rattle.kube_types.proofs.KeyOrder.{row_at_key}
+use Rattle.kube_objects.specs.declared.key.Key.{Key}
+use Rattle.kube_objects.specs.declared.objects.Claim.{Claim as ClaimData}
+use Rattle.kube_objects.specs.declared.objects.Meta.{Meta}
+use Rattle.kube_objects.specs.declared.objects.Volume.{Volume as VolumeData}
+use Rattle.kube_objects.specs.declared.objects.Object.{Object}
+use Rattle.kube_objects.specs.declared.objects.Object.TheVariants.{Class, Node, Volume, Claim, Pod}
+use Rattle.kube_objects.specs.Bindings.{bind_completed, has_key, is_completed, is_deleting, is_empty, is_protected_claim, selected_node}
+use Rattle.kube_objects.specs.Keys.{AreRows, key_of, kind_index, kind_of, meta_of, put_row, row_at, without_row}
+use Rattle.kube_objects.proofs.KeyOrder.{row_at_key}
 use Rattle.call_types.specs.declared.entry.Entry.{Entry}
 use Rattle.call_types.specs.declared.request.NewStatus.{NewStatus}
 use Rattle.call_types.specs.declared.request.NewStatus.TheVariants as statuses
@@ -95,7 +95,8 @@ module _ (mine : List Entry) (new c : ClaimData) (n : ℕ) where
   guard_seeks false row = so (ap (λ (x : ClaimData). is_completed x) row.change) (ap (λ (x : ClaimData). is_empty x.volume_name) row.change)
 
   cleared_seeks : MayClearNode mine c new → Seeks c new n
-  cleared_seeks row = so (ap (λ (x : ClaimData). is_completed x) row.change ∙ ap is_some (value_without bind_completed selected_node c.meta.annotations refl)) (ap (λ (x : ClaimData). is_empty x.volume_name) row.change)
+  cleared_seeks row = so (ap (λ (x : ClaimData). is_completed x) row.change ∙ ap is_some
+      (value_without bind_completed selected_node c.meta.annotations refl)) (ap (λ (x : ClaimData). is_empty x.volume_name) row.change)
 
 -- ---- a claim is written over the one that was told
 
@@ -106,7 +107,8 @@ pub record Rewrites (w : World) (new : ClaimData) (o : Object) (Row : ClaimData 
   pub is : o ≡ Claim (rewritten_claim on new (w.store.version + 1))
 
 module _ (setup : Setup) (seat : ℕ) (h : List Entry) (history : IsHistory setup h) where
-  pub rewrites : (kind : SeatKind) (new : ClaimData) (given : Option ℕ) (o : Object) (Row : ClaimData → Type 0) → ToldClaim (λ c. IsWrittenAt given new.meta.namespace new.meta.name c.meta × Row c) (own seat h)
+  pub rewrites : (kind : SeatKind) (new : ClaimData) (given : Option ℕ) (o : Object) (Row : ClaimData → Type 0)
+      → ToldClaim (λ c. IsWrittenAt given new.meta.namespace new.meta.name c.meta × Row c) (own seat h)
       → IsUpdate (world setup h).store kind (Claim new) given o → Rewrites (world setup h) new o Row
   unfolding updated_object with_meta with_status_of
   rewrites kind new given o Row told u = by t.0 t.1 t.2
@@ -117,7 +119,8 @@ module _ (setup : Setup) (seat : ℕ) (h : List Entry) (history : IsHistory setu
       by : (x : Object) → ToldObject (λ y. y ≡ x) (own seat h) → IsClaimWith (λ c. IsWrittenAt given new.meta.namespace new.meta.name c.meta × Row c) x → Rewrites (world setup h) new o Row
       by (Claim c) it is =
           let keyed : key_of (Claim c) ≡ key_of (Claim new) = λ i. claim_key (is.0.placed i) (is.0.named i) in
-          let same : u.old ≡ Claim c = stands_it setup h (Claim c) u.old (key_of (Claim new)) (told_is_true setup h seat (Claim c) history it) keyed u.there (subst (λ g. is_other_version g (meta_of u.old).version ≡ false) is.0.version u.version) in
+          let same : u.old ≡ Claim c = stands_it setup h (Claim c) u.old (key_of (Claim new)) (told_is_true setup h seat (Claim c) history it) keyed
+          u.there (subst (λ g. is_other_version g (meta_of u.old).version ≡ false) is.0.version u.version) in
           let is_o : o ≡ Claim (rewritten_claim c new ((world setup h).store.version + 1)) = u.is ∙ ap (λ y. updated_object y (Claim new) ((world setup h).store.version + 1)) same in
           record { on = c; row = is.1; there = ap (λ y. row_at (key_of y) (world setup h).store.rows) is_o ∙ (u.there ∙ ap Some same); is = is_o }
       by (Class x) it is = absurd is
@@ -134,7 +137,8 @@ module _ (setup : Setup) (seat : ℕ) (h : List Entry) (history : IsHistory setu
         OverClaim r.on (rewritten_claim r.on new (w.store.version + 1)) r.is (ap (λ x. row_at (key_of x) w.store.rows) (sym r.is) ∙ r.there) (seeks r.on r.row)
 
     volume_over : (kind : SeatKind) (new : VolumeData) (given : Option ℕ) → Writes w kind (requests.Update (Volume new) given) o → Writing w o
-    volume_over kind new given u = over_volume w o u.old (updated_next w.store kind (Volume new) given o u).there (ap (λ (k : Key). kind_index k.kind) (ap key_of u.is ∙ key-updated u.old (Volume new) (w.store.version + 1)))
+    volume_over kind new given u = over_volume w o u.old (updated_next w.store kind (Volume new) given o u).there (ap
+        (λ (k : Key). kind_index k.kind) (ap key_of u.is ∙ key-updated u.old (Volume new) (w.store.version + 1)))
 
     status_over : (kind : SeatKind) (key : Key) (status : NewStatus) (given : Option ℕ) → IsStatus w.store kind key status given o → Writing w o
     unfolding with_status at_version with_meta
@@ -143,7 +147,8 @@ module _ (setup : Setup) (seat : ℕ) (h : List Entry) (history : IsHistory setu
         by : (old : Object) → row_at key w.store.rows ≡ Some old → with_status (statuses.Volume phase) old ≡ Some i.new → Writing w o
         by (Volume v) there e =
             let is : o ≡ Volume (record v { phase = phase; meta = record v.meta { version = w.store.version + 1 } }) = i.is ∙ ap (λ x. at_version x (w.store.version + 1)) (sym (one _ i.new e)) in
-            OverVolume v (record v { phase = phase; meta = record v.meta { version = w.store.version + 1 } }) is (ap (λ k. row_at k w.store.rows) (row_at_key key (Volume v) w.store.rows there) ∙ there)
+            OverVolume v (record v { phase = phase; meta = record v.meta { version = w.store.version + 1 } }) is
+            (ap (λ k. row_at k w.store.rows) (row_at_key key (Volume v) w.store.rows there) ∙ there)
         by (Class x) there e = none_some e
         by (Node x) there e = none_some e
         by (Claim x) there e = none_some e
@@ -178,7 +183,8 @@ module _ (setup : Setup) (seat : ℕ) (h : List Entry) (history : IsHistory setu
         claim_over new (λ c. ClaimMay (claim_guard (is_protected_claim new)) (own seat h) new c) (λ c row. guard_seeks (own seat h) new c (w.store.version + 1) (is_protected_claim new) row)
         (rewrites seats.ClaimProtect new given o (λ c. ClaimMay (claim_guard (is_protected_claim new)) (own seat h) new c) may.1 u)
     writing seats.Ops (requests.Update (Claim new) given) plain may u =
-        claim_over new (λ c. MayClearNode (own seat h) c new) (λ c row. cleared_seeks (own seat h) new c (w.store.version + 1) row) (rewrites seats.Ops new given o (λ c. MayClearNode (own seat h) c new) may.1 u)
+        claim_over new (λ c. MayClearNode (own seat h) c new) (λ c row. cleared_seeks (own seat h) new c (w.store.version + 1) row)
+        (rewrites seats.Ops new given o (λ c. MayClearNode (own seat h) c new) may.1 u)
     writing seats.Ops (requests.Create (Volume v)) plain may i = made seats.Ops v i
     writing seats.Ops (requests.Delete key (Some uid)) plain may i =
         over_volume w o i.old (marked_next w.store w.moment key (Some uid) o i).there
@@ -239,7 +245,8 @@ module _ (w : World) (x : Effect) (request : Request) where
   write_costs o order (OverVolume v new is at) (inr took) =
       let same : key_of (Volume v) ≡ key_of (Volume new) = row_at_key (key_of (Volume new)) (Volume v) w.store.rows at in
       let now = after_took (Volume new) (subst (Took w x request) is took) in
-      let key : left_on (without_row (key_of (Volume v)) w.store.rows) w.devices ≡ left_on (without_row (key_of (Volume new)) w.store.rows) w.devices = ap (λ k. left_on (without_row k w.store.rows) w.devices) same in
+      let key : left_on (without_row (key_of (Volume v)) w.store.rows) w.devices ≡ left_on
+      (without_row (key_of (Volume new)) w.store.rows) w.devices = ap (λ k. left_on (without_row k w.store.rows) w.devices) same in
       let costs = gone_costs w.store.rows w.devices order v (ap (λ k. row_at k w.store.rows) same ∙ at) in
       omega (arith, now, key, costs)
   write_costs o order (NewVolume new is free stays) (inl put) =
@@ -256,6 +263,7 @@ module _ (w : World) (x : Effect) (request : Request) where
   write_costs o order (OverClaim c new is at seeks) (inr took) =
       let same : key_of (Claim c) ≡ key_of (Claim new) = row_at_key (key_of (Claim new)) (Claim c) w.store.rows at in
       let now = after_took (Claim new) (subst (Took w x request) is took) in
-      let key : left_on (without_row (key_of (Claim c)) w.store.rows) w.devices ≡ left_on (without_row (key_of (Claim new)) w.store.rows) w.devices = ap (λ k. left_on (without_row k w.store.rows) w.devices) same in
+      let key : left_on (without_row (key_of (Claim c)) w.store.rows) w.devices ≡ left_on (without_row (key_of (Claim new)) w.store.rows) w.devices =
+      ap (λ k. left_on (without_row k w.store.rows) w.devices) same in
       let costs = claim_gone w.store.rows w.devices c order (ap (λ k. row_at k w.store.rows) same ∙ at) in
       omega (arith, now, key, costs)

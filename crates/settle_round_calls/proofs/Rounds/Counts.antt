@@ -1,11 +1,11 @@
 -- What stands never becomes more by the calls of controllers and agents, but for a volume at each write; whatever a call was decided on.
 use Rattle.std.proofs.Common.{◌≡◌, ◌∙◌, ℕ, ◌+◌, ◌≤◌, List, [], ◌∷◌, ◌++◌, Bool, false, true≢false, Some, inl, inr, refl, sym, ap, subst, arith}
-use Rattle.kube_types.specs.declared.key.Key.{Key}
-use Rattle.kube_types.specs.declared.parts.Kind.TheVariants as kinds
-use Rattle.kube_types.specs.declared.objects.Object.{Object}
-use Rattle.kube_types.specs.declared.objects.Object.TheVariants.{Class, Node, Volume, Claim, Pod}
-use Rattle.kube_types.specs.Keys.{AreRows, key_of, kind_index, kind_of, row_at}
-use Rattle.kube_types.proofs.KeyOrder.{row_at_key}
+use Rattle.kube_objects.specs.declared.key.Key.{Key}
+use Rattle.kube_parts.specs.declared.parts.Kind.TheVariants as kinds
+use Rattle.kube_objects.specs.declared.objects.Object.{Object}
+use Rattle.kube_objects.specs.declared.objects.Object.TheVariants.{Class, Node, Volume, Claim, Pod}
+use Rattle.kube_objects.specs.Keys.{AreRows, key_of, kind_index, kind_of, row_at}
+use Rattle.kube_objects.proofs.KeyOrder.{row_at_key}
 use Rattle.call_types.specs.declared.entry.Entry.{Entry}
 use Rattle.call_types.specs.declared.reply.Reply.{Reply}
 use Rattle.call_types.specs.declared.request.Request.{Request}
@@ -101,7 +101,8 @@ rows_fewer old new order o moved put =
     let vn = volumes_are new in
     by put co cn vo vn
   where
-    by : IsPut old o → claims_in old ≡ total (of_kind is_claim) old → claims_in new ≡ total (of_kind is_claim) new → volumes_in old ≡ total (of_kind is_volume) old → volumes_in new ≡ total (of_kind is_volume) new → RowsFewer old new
+    by : IsPut old o → claims_in old ≡ total (of_kind is_claim) old → claims_in new ≡ total (of_kind is_claim) new
+        → volumes_in old ≡ total (of_kind is_volume) old → volumes_in new ≡ total (of_kind is_volume) new → RowsFewer old new
     by (OverOld was there names) co cn vo vn =
         let c = over_stays is_claim old new order o was there moved in
         let v = over_stays is_volume old new order o was there moved in
@@ -172,16 +173,19 @@ call_fewer setup e h built run = by (comes_to (world setup h) (effect setup (wor
 
 -- ---- entries of one kind, and slots
 
-pub entries_fewer : (setup : Setup) (seat : ℕ) (kind : SeatKind) (newer h : List Entry) → IsBuiltKind kind → AreBy seat kind newer → IsRunOf setup (newer ++ h) → Fewer setup (world setup h) (world setup (newer ++ h))
+pub entries_fewer : (setup : Setup) (seat : ℕ) (kind : SeatKind) (newer h : List Entry) → IsBuiltKind kind → AreBy seat kind newer
+    → IsRunOf setup (newer ++ h) → Fewer setup (world setup h) (world setup (newer ++ h))
 entries_fewer setup seat kind [] h built each run = no_more setup (world setup h)
 entries_fewer setup seat kind (e ∷ newer) h built each run =
     joins setup (world setup h) (world setup (newer ++ h)) (world setup (e ∷ newer ++ h)) (entries_fewer setup seat kind newer h built each.0 (older_run setup (e ∷ []) (newer ++ h) run))
     (call_fewer setup e (newer ++ h) (subst IsBuiltKind (sym each.1.of_kind) built) run)
 
-pub slot_fewer : (setup : Setup) (lets : Lets) (seat : ℕ) (old after : ActorState) (h past : List Entry) (b left : ℕ) (idle : Bool) → IsBuiltKind old.role.kind → IsRunOf setup past → Runs lets seat after past left idle (woken old) h b
+pub slot_fewer : (setup : Setup) (lets : Lets) (seat : ℕ) (old after : ActorState) (h past : List Entry) (b left : ℕ) (idle : Bool)
+    → IsBuiltKind old.role.kind → IsRunOf setup past → Runs lets seat after past left idle (woken old) h b
     → Fewer setup (world setup h) (world setup past)
 slot_fewer setup lets seat old after h past b left idle built run runs =
     run_moves setup lets seat after past left idle run old.role built (Fewer setup) (no_more setup) (joins setup) calls (woken old) h b runs refl
   where
-    calls : (x : ActorState) (request : Request) (reply : Reply) (g : List Entry) → x.role ≡ old.role → IsCalled setup seat x request reply g → Fewer setup (world setup g) (world setup (told_entry seat x request reply ∷ g))
+    calls : (x : ActorState) (request : Request) (reply : Reply) (g : List Entry) → x.role ≡ old.role → IsCalled setup seat x request reply g
+        → Fewer setup (world setup g) (world setup (told_entry seat x request reply ∷ g))
     calls x request reply g is called = call_fewer setup (told_entry seat x request reply) g (subst (λ (r : Role). IsBuiltKind r.kind) (sym is) built) called.run

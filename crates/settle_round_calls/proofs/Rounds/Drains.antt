@@ -18,7 +18,8 @@ use Rattle.settle_round_calls.proofs.Rest.Short.{none_more}
 use Rattle.settle_round_calls.specs.Rounds.EveryRound.{EveryDrainedRoundIsShort}
 use Rattle.settle_round_calls.proofs.Rounds.Sum.{every_round_is_short, older_in_order}
 
-module _ (setup : Setup) (lets : Lets) (after : List Drainer) (past : List Entry) (left : ℕ) (allow : ImportsAllow setup) (run : IsRunOf setup past) (holds : HoldsMountsAlone lets) (order : AreAlwaysInOrder setup past) where
+module _ (setup : Setup) (lets : Lets) (after : List Drainer) (past : List Entry) (left : ℕ) (allow : ImportsAllow setup) (run : IsRunOf setup past)
+    (holds : HoldsMountsAlone lets) (order : AreAlwaysInOrder setup past) where
   run_at : (ds : List Drainer) (h : List Entry) (b : ℕ) → Drains lets setup after past left ds h b → IsRunOf setup h
   run_at ds h b drained = let g = drains_grow lets setup after past left ds h b drained in older_run setup g.longer.added h (subst (IsRunOf setup) g.longer.are run)
 
@@ -27,7 +28,8 @@ module _ (setup : Setup) (lets : Lets) (after : List Drainer) (past : List Entry
       let g = drains_grow lets setup after past left ds h b drained in
       older_in_order setup g.longer.added h past g.longer.are order
 
-  each_short : (ds : List Drainer) (h : List Entry) (b : ℕ) → MayDrain setup h ds → length ds ≤ 13 → (drained : Drains lets setup after past left ds h b) → EachRoundIsShort lets setup after past left ds h b drained
+  each_short : (ds : List Drainer) (h : List Entry) (b : ℕ) → MayDrain setup h ds → length ds ≤ 13
+      → (drained : Drains lets setup after past left ds h b) → EachRoundIsShort lets setup after past left ds h b drained
   each_short ds h b may few (NothingDue settled same entries rest) = tt
   each_short ds h b may few (IsSpent first due none same entries rest) = tt
   each_short ds h b may few (Goes first due some between middle rest true round more) =

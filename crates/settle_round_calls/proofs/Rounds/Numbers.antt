@@ -19,10 +19,12 @@ ops_times claims volumes faults = 2 * claims + (volumes + 1) + faults
 
 -- the scheduler, ops, three that guard and so many agents
 abbrev pub round_calls : ℕ → ℕ → ℕ → ℕ → ℕ → ℕ → ℕ
-round_calls agents claims volumes pods pod_count faults = 68 + (ops_calls claims volumes (ops_times claims volumes faults) + (3 * 68 + (agents * agent_calls claims pods + agent_sweep_calls pods * (pod_count / 513))))
+round_calls agents claims volumes pods pod_count faults =
+    68 + (ops_calls claims volumes (ops_times claims volumes faults) + (3 * 68 + (agents * agent_calls claims pods + agent_sweep_calls pods * (pod_count / 513))))
 
 -- eight calls for each write besides. Only objects stand in products with objects
-pub stated : (size claims volumes pods pod_count faults writes agents : ℕ) → claims + volumes + pods ≤ size → claims + volumes + pod_count ≤ 8192 → pod_count ≤ pods → agents ≤ 8 → writes ≤ 20 * claims + 14 * volumes + 5 * pod_count + pods + faults + 272
+pub stated : (size claims volumes pods pod_count faults writes agents : ℕ) → claims + volumes + pods ≤ size → claims + volumes + pod_count ≤ 8192
+    → pod_count ≤ pods → agents ≤ 8 → writes ≤ 20 * claims + 14 * volumes + 5 * pod_count + pods + faults + 272
     → 8 * writes + round_calls agents claims volumes pods pod_count faults ≤ 256 * (size + faults + 16)
 stated size claims volumes pods pod_count faults writes agents counted small pods_less few written =
     let each = mul-le agents (agent_calls claims pods) 8 (agent_calls claims pods) few (omega arith) in

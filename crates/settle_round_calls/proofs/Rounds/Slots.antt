@@ -2,7 +2,7 @@
 use Rattle.std.proofs.Common.{◌≡◌, ◌≢◌, ◌∙◌, ℕ, ◌+◌, ◌*◌, ◌≤◌, List, [], ◌∷◌, length, Bool, true, true≢false, refl, sym, ap, subst, arith}
 use Rattle.std.specs.Prelude.{◌/◌}
 use Rattle.std.proofs.lemmas.Nat.{mul-le}
-use Rattle.kube_types.specs.declared.objects.Object.{Object}
+use Rattle.kube_objects.specs.declared.objects.Object.{Object}
 use Rattle.call_types.specs.declared.entry.Entry.{Entry}
 use Rattle.call_types.specs.declared.reply.Reply.{Reply}
 use Rattle.call_types.specs.declared.request.Request.{Request}
@@ -91,7 +91,8 @@ erases_few (e ∷ newer) = let rest = erases_few newer in let one = erases_once 
 abbrev PaysUntaken : Setup → World → World → Type 0
 PaysUntaken setup w v = work_left setup v + 3 * untaken_in v.store.rows ≤ work_left setup w + 3 * untaken_in w.store.rows
 
-module _ (setup : Setup) (lets : Lets) (seat : ℕ) (old after : ActorState) (h past : List Entry) (b left : ℕ) (idle : Bool) (built : IsBuiltKind old.role.kind) (allow : ImportsAllow setup) (run : IsRunOf setup past) (holds : HoldsMountsAlone lets) (runs : Runs lets seat after past left idle (woken old) h b) where
+module _ (setup : Setup) (lets : Lets) (seat : ℕ) (old after : ActorState) (h past : List Entry) (b left : ℕ) (idle : Bool)
+    (built : IsBuiltKind old.role.kind) (allow : ImportsAllow setup) (run : IsRunOf setup past) (holds : HoldsMountsAlone lets) (runs : Runs lets seat after past left idle (woken old) h b) where
   -- ---- what was under way, and the rest
 
   abbrev Rests : Type 0
@@ -141,7 +142,8 @@ module _ (setup : Setup) (lets : Lets) (seat : ℕ) (old after : ActorState) (h 
       let erased = erases_few few.newer in
       omega (arith, numbered, erased)
 
-  left_pays : (most : ℕ) (entries : List Entry) (budget : ℕ) → Few entries budget → IsRunOf setup entries → old.role.kind ≢ seats.Agent → most_rise old.role.kind ≡ 28 → leftover_writes old.role.kind (world setup h).store.rows ≡ most
+  left_pays : (most : ℕ) (entries : List Entry) (budget : ℕ) → Few entries budget → IsRunOf setup entries → old.role.kind ≢ seats.Agent
+      → most_rise old.role.kind ≡ 28 → leftover_writes old.role.kind (world setup h).store.rows ≡ most
       → writes_since setup h entries + work_left setup (world setup entries) ≤ work_left setup (world setup h) + (37 * most + 3)
   left_pays most entries budget few here agent rise as_many =
       let rises = left_rises entries budget few here agent rise in
@@ -172,16 +174,19 @@ module _ (setup : Setup) (lets : Lets) (seat : ℕ) (old after : ActorState) (h 
       by (AndGoesOn g) =
           let first = left_pays most g.entries g.budget g.few (left_run g) (no_agent old.role.kind guard.sure) guard.rise (guard.writes (world setup h).store.rows) in
           let plain = ap is_plain (rest_kind g) ∙ guard.plain in
-          let rest = other_slot setup lets seat g.state after g.entries past g.budget left idle run (rest_runs g) (rest_built g) (no_scheduler g.state.role.kind plain) (no_ops g.state.role.kind plain) g.none (actors_pay setup seat g.state.role (rest_built g) allow) in
+          let rest = other_slot setup lets seat g.state after g.entries past g.budget left idle run (rest_runs g) (rest_built g)
+          (no_scheduler g.state.role.kind plain) (no_ops g.state.role.kind plain) g.none (actors_pay setup seat g.state.role (rest_built g) allow) in
           let both = parts g in
           omega (arith, first, rest, both)
 
   -- ---- the scheduler
 
-  pub settle_write_counts : old.role.kind ≡ seats.Scheduler → writes_since setup h past ≤ claims_in (world setup h).store.rows + volumes_in (world setup h).store.rows + 1 + total pod_size (world setup h).store.rows
+  pub settle_write_counts : old.role.kind ≡ seats.Scheduler
+      → writes_since setup h past ≤ claims_in (world setup h).store.rows + volumes_in (world setup h).store.rows + 1 + total pod_size (world setup h).store.rows
   settle_write_counts kind = by ended (ap (λ k. leftover_writes k (world setup h).store.rows) kind)
     where
-      by : HasEnded setup lets seat after past left idle (woken old) h b → leftover_writes old.role.kind (world setup h).store.rows ≡ claims_in (world setup h).store.rows + volumes_in (world setup h).store.rows + 1
+      by : HasEnded setup lets seat after past left idle (woken old) h b
+          → leftover_writes old.role.kind (world setup h).store.rows ≡ claims_in (world setup h).store.rows + volumes_in (world setup h).store.rows + 1
           → writes_since setup h past ≤ claims_in (world setup h).store.rows + volumes_in (world setup h).store.rows + 1 + total pod_size (world setup h).store.rows
       by (EndsThere few) own = let writes = few.writes in omega (arith, writes, own)
       by (AndGoesOn g) own =
@@ -195,11 +200,13 @@ module _ (setup : Setup) (lets : Lets) (seat : ℕ) (old after : ActorState) (h 
   -- no call of it raises what is left to do but where it takes a volume that carries no claim
   pub scheduler_work : old.role.kind ≡ seats.Scheduler → work_left setup (world setup past) ≤ work_left setup (world setup h) + 3 * volumes_in (world setup h).store.rows
   scheduler_work kind =
-      let all = run_moves setup lets seat after past left idle run old.role built (PaysUntaken setup) (λ w. omega arith) (λ u v w first then_. omega (arith, first, then_)) calls (woken old) h b runs refl in
+      let all = run_moves setup lets seat after past left idle run old.role built (PaysUntaken setup) (λ w. omega arith)
+      (λ u v w first then_. omega (arith, first, then_)) calls (woken old) h b runs refl in
       let few = untaken_are_volumes (world setup h).store.rows in
       omega (arith, all, few)
     where
-      calls : (x : ActorState) (request : Request) (reply : Reply) (g : List Entry) → x.role ≡ old.role → IsCalled setup seat x request reply g → PaysUntaken setup (world setup g) (world setup (told_entry seat x request reply ∷ g))
+      calls : (x : ActorState) (request : Request) (reply : Reply) (g : List Entry) → x.role ≡ old.role → IsCalled setup seat x request reply g
+          → PaysUntaken setup (world setup g) (world setup (told_entry seat x request reply ∷ g))
       calls x request reply g is called = schedulers_raise_little setup (told_entry seat x request reply ∷ []) g (ap (λ (r : Role). r.kind) is ∙ kind, tt) called.run
 
   -- ---- ops
@@ -222,11 +229,13 @@ module _ (setup : Setup) (lets : Lets) (seat : ℕ) (old after : ActorState) (h 
     pub ops_work : writes_since setup h past + work_left setup (world setup past) ≤ work_left setup (world setup h) + (claims_in (world setup h).store.rows + 40)
     ops_work = by ended
       where
-        by : HasEnded setup lets seat after past left idle (woken old) h b → writes_since setup h past + work_left setup (world setup past) ≤ work_left setup (world setup h) + (claims_in (world setup h).store.rows + 40)
+        by : HasEnded setup lets seat after past left idle (woken old) h b
+            → writes_since setup h past + work_left setup (world setup past) ≤ work_left setup (world setup h) + (claims_in (world setup h).store.rows + 40)
         by (EndsThere few) = let all = left_pays 1 past left few run no_agent_ops (ap most_rise kind) ops_once in omega (arith, all)
         by (AndGoesOn g) =
             let first = left_pays 1 g.entries g.budget g.few (left_run g) no_agent_ops (ap most_rise kind) ops_once in
-            let rest = ops_slot setup lets seat g.state after g.entries past g.budget left idle run (rest_runs g) (rest_kind g ∙ kind) g.none (actors_pay setup seat g.state.role (rest_built g) allow) in
+            let rest = ops_slot setup lets seat g.state after g.entries past g.budget left idle run (rest_runs g) (rest_kind g ∙ kind) g.none
+            (actors_pay setup seat g.state.role (rest_built g) allow) in
             let nodes = left_nodes g in
             let both = parts g in
             omega (arith, first, rest, nodes, both)
@@ -235,7 +244,8 @@ module _ (setup : Setup) (lets : Lets) (seat : ℕ) (old after : ActorState) (h 
         → b ≤ left + (8 * writes_since setup h past + ops_calls claims volumes (ops_times claims volumes faults))
     ops_costs claims volumes faults few_claims few_volumes few_faults = by ended (three old.role.kind (world setup h).store.rows no_agent_ops)
       where
-        by : HasEnded setup lets seat after past left idle (woken old) h b → leftover_calls old.role.kind (world setup h).store.rows ≡ 3 → b ≤ left + (8 * writes_since setup h past + ops_calls claims volumes (ops_times claims volumes faults))
+        by : HasEnded setup lets seat after past left idle (woken old) h b → leftover_calls old.role.kind (world setup h).store.rows ≡ 3
+            → b ≤ left + (8 * writes_since setup h past + ops_calls claims volumes (ops_times claims volumes faults))
         by (EndsThere few) own = let calls = few.calls in omega (arith, calls, own)
         by (AndGoesOn g) own =
             let calls = g.few.calls in
@@ -252,8 +262,10 @@ module _ (setup : Setup) (lets : Lets) (seat : ℕ) (old after : ActorState) (h 
             let bounded = ops_writes_are_bounded setup (world setup g.entries) in
             let end_volumes = ended_few (world setup g.entries).store.rows in
             let sweeps = ops_sweeps (world setup g.entries).store.rows claims (volumes + 1) (omega (arith, few_claims, fewer_claims)) (omega (arith, few_volumes, more_volumes, count, writes, once)) in
-            let times = div_less (writes_since setup g.entries past) (ops_times claims volumes faults) (omega (arith, falls, bounded, nodes, few_claims, few_volumes, few_faults, fewer_claims, more_volumes, fewer_faults, count, writes, once)) in
-            let less = mul-le (ops_sweep_calls (world setup g.entries).store.rows) (writes_since setup g.entries past / 513) (sweep_calls claims (volumes + 1)) (ops_times claims volumes faults / 513) sweeps times in
+            let times = div_less (writes_since setup g.entries past) (ops_times claims volumes faults)
+            (omega (arith, falls, bounded, nodes, few_claims, few_volumes, few_faults, fewer_claims, more_volumes, fewer_faults, count, writes, once)) in
+            let less = mul-le (ops_sweep_calls (world setup g.entries).store.rows) (writes_since setup g.entries past / 513)
+            (sweep_calls claims (volumes + 1)) (ops_times claims volumes faults / 513) sweeps times in
             let both = parts g in
             omega (arith, calls, own, rest, less, both, end_volumes, few_claims, few_volumes, fewer_claims, more_volumes, count, writes, once)
 
@@ -271,5 +283,6 @@ module _ (setup : Setup) (lets : Lets) (seat : ℕ) (old after : ActorState) (h 
           let fewer = (left_fewer g).pods in
           let rest = agent_costs_from setup lets seat g.state after g.entries past g.budget left idle pods (rest_kind g ∙ kind) run holds g.none (omega (arith, fewer, few_pods)) (rest_runs g) in
           let both = parts g in
-          let sweeps = mul_less (agent_sweep_calls pods) (writes_since setup g.entries past / 513) (writes_since setup h past / 513) (div_less (writes_since setup g.entries past) (writes_since setup h past) (omega (arith, both))) in
+          let sweeps = mul_less (agent_sweep_calls pods) (writes_since setup g.entries past / 513) (writes_since setup h past / 513)
+          (div_less (writes_since setup g.entries past) (writes_since setup h past) (omega (arith, both))) in
           omega (arith, calls, own, rest, both, sweeps, few_claims)

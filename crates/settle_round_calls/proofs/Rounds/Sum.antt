@@ -87,7 +87,8 @@ stand_so roles these = subst StandSo (sym these.are) (refl, (refl, (binder_guard
 pub older_in_order : (setup : Setup) (newer h past : List Entry) → past ≡ newer ++ h → AreAlwaysInOrder setup past → AreAlwaysInOrder setup h
 older_in_order setup newer h past are order between older split_ = order (newer ++ between) older (are ∙ (ap (λ es. newer ++ es) split_ ∙ sym (append_assoc newer between older)))
 
-module _ (setup : Setup) (lets : Lets) (past : List Entry) (left : ℕ) (allow : ImportsAllow setup) (run : IsRunOf setup past) (holds : HoldsMountsAlone lets) (order : AreAlwaysInOrder setup past) (start : List Entry) where
+module _ (setup : Setup) (lets : Lets) (past : List Entry) (left : ℕ) (allow : ImportsAllow setup) (run : IsRunOf setup past)
+    (holds : HoldsMountsAlone lets) (order : AreAlwaysInOrder setup past) (start : List Entry) where
   -- from here on so many calls are made beside the writes, and so many writes done
   record IsFew (h : List Entry) (b calls writes : ℕ) : Type 0 where
     costs : b ≤ left + (8 * writes_since setup h past + calls)
@@ -111,9 +112,11 @@ module _ (setup : Setup) (lets : Lets) (past : List Entry) (left : ℕ) (allow :
 
     swept_less : (h middle : List Entry) → pods_in (world setup middle).store.rows ≤ pods_in (world setup h).store.rows → swept_at middle ≤ swept_at h
     swept_less h middle stay =
-        mul_less (agent_sweep_calls pods) (pods_in (world setup middle).store.rows / 513) (pods_in (world setup h).store.rows / 513) (div_less (pods_in (world setup middle).store.rows) (pods_in (world setup h).store.rows) stay)
+        mul_less (agent_sweep_calls pods) (pods_in (world setup middle).store.rows / 513) (pods_in (world setup h).store.rows / 513)
+        (div_less (pods_in (world setup middle).store.rows) (pods_in (world setup h).store.rows) stay)
 
-    agents_round : (ds : List Drainer) (h : List Entry) (b : ℕ) (after : List Drainer) (whole : Bool) → IsRound lets past left ds h b after whole → AreAgents (roles_of ds) → claims_in (world setup h).store.rows ≤ claims → total pod_size (world setup h).store.rows ≤ pods
+    agents_round : (ds : List Drainer) (h : List Entry) (b : ℕ) (after : List Drainer) (whole : Bool) → IsRound lets past left ds h b after whole
+        → AreAgents (roles_of ds) → claims_in (world setup h).store.rows ≤ claims → total pod_size (world setup h).store.rows ≤ pods
         → IsFew h b (length ds * agent_calls claims pods + swept_at h) (pods_in (world setup h).store.rows)
     agents_round _ h b _ _ (Ends entries rest) agents few_claims few_pods = let none = none_done h entries in record { costs = omega (arith, rest); done = omega (arith, none) }
     agents_round _ h b _ _ (Turns {ds = ds} {after = after} {whole = whole} d ran middle rest idle seat runs more) agents few_claims few_pods =
@@ -134,7 +137,8 @@ module _ (setup : Setup) (lets : Lets) (past : List Entry) (left : ℕ) (allow :
 
     -- ---- the binder, the protection controllers and the agents
 
-    guards_round : (mosts : List ℕ) (agents : ℕ) (ds : List Drainer) (h : List Entry) (b : ℕ) (after : List Drainer) (whole : Bool) → IsRound lets past left ds h b after whole → GuardFirst mosts (roles_of ds) → length ds ≡ length mosts + agents
+    guards_round : (mosts : List ℕ) (agents : ℕ) (ds : List Drainer) (h : List Entry) (b : ℕ) (after : List Drainer) (whole : Bool)
+        → IsRound lets past left ds h b after whole → GuardFirst mosts (roles_of ds) → length ds ≡ length mosts + agents
         → claims_in (world setup h).store.rows ≤ claims → total pod_size (world setup h).store.rows ≤ pods
         → IsFew h b (guard_calls mosts + (agents * agent_calls claims pods + swept_at h)) (work_left setup (world setup h) + risen mosts + pods_in (world setup h).store.rows)
     guards_round [] agents ds h b after whole round so many few_claims few_pods =
@@ -163,9 +167,12 @@ module _ (setup : Setup) (lets : Lets) (past : List Entry) (left : ℕ) (allow :
 
     -- ---- ops before them
 
-    ops_round : (volumes faults agents : ℕ) (role : Role) (ds : List Drainer) (h : List Entry) (b : ℕ) (after : List Drainer) (whole : Bool) → IsRound lets past left ds h b after whole → StandSo (role ∷ roles_of ds) → length ds ≡ 4 + agents
-        → claims_in (world setup h).store.rows ≤ claims → total pod_size (world setup h).store.rows ≤ pods → volumes_in (world setup h).store.rows ≤ volumes → faults_left setup (world setup h).devices ≤ faults
-        → IsFew h b (ops_calls claims volumes (ops_times claims volumes faults) + (3 * 68 + (agents * agent_calls claims pods + swept_at h))) (work_left setup (world setup h) + claims + 271 + pods_in (world setup h).store.rows)
+    ops_round : (volumes faults agents : ℕ) (role : Role) (ds : List Drainer) (h : List Entry) (b : ℕ) (after : List Drainer) (whole : Bool)
+        → IsRound lets past left ds h b after whole → StandSo (role ∷ roles_of ds) → length ds ≡ 4 + agents
+        → claims_in (world setup h).store.rows ≤ claims → total pod_size (world setup h).store.rows ≤ pods
+        → volumes_in (world setup h).store.rows ≤ volumes → faults_left setup (world setup h).devices ≤ faults
+        → IsFew h b (ops_calls claims volumes (ops_times claims volumes faults) + (3 * 68 + (agents * agent_calls claims pods + swept_at h)))
+        (work_left setup (world setup h) + claims + 271 + pods_in (world setup h).store.rows)
     ops_round volumes faults agents role _ h b _ _ (Ends entries rest) so many few_claims few_pods few_volumes few_faults = absurd so
     ops_round volumes faults agents role _ h b _ _ (Turns {ds = ds} {after = after} {whole = whole} d ran middle rest idle seat runs more) so many few_claims few_pods few_volumes few_faults =
         let built : IsBuiltKind d.actor.role.kind = subst IsBuiltKind (sym so.1.0) tt in
@@ -186,9 +193,12 @@ module _ (setup : Setup) (lets : Lets) (past : List Entry) (left : ℕ) (allow :
 
   -- ---- the scheduler first
 
-  whole_round : (agents : ℕ) (ds : List Drainer) (h : List Entry) (b : ℕ) (after : List Drainer) (whole : Bool) → IsRound lets past left ds h b after whole → StandSo (roles_of ds) → length ds ≡ 5 + agents
-      → IsFew h b (round_calls agents (claims_in (world setup h).store.rows) (volumes_in (world setup h).store.rows) (total pod_size (world setup h).store.rows) (pods_in (world setup h).store.rows) (faults_left setup (world setup h).devices))
-      (work_left setup (world setup h) + 2 * claims_in (world setup h).store.rows + 4 * volumes_in (world setup h).store.rows + total pod_size (world setup h).store.rows + 272 + pods_in (world setup h).store.rows)
+  whole_round : (agents : ℕ) (ds : List Drainer) (h : List Entry) (b : ℕ) (after : List Drainer) (whole : Bool)
+      → IsRound lets past left ds h b after whole → StandSo (roles_of ds) → length ds ≡ 5 + agents
+      → IsFew h b (round_calls agents (claims_in (world setup h).store.rows) (volumes_in (world setup h).store.rows)
+      (total pod_size (world setup h).store.rows) (pods_in (world setup h).store.rows) (faults_left setup (world setup h).devices))
+      (work_left setup (world setup h) + 2 * claims_in (world setup h).store.rows + 4 * volumes_in (world setup h).store.rows + total pod_size
+      (world setup h).store.rows + 272 + pods_in (world setup h).store.rows)
   whole_round agents _ h b _ _ (Ends entries rest) so many = absurd so
   whole_round agents _ h b _ _ (Turns {ds = ds} {after = after} {whole = whole} d ran middle rest idle seat runs more) so many =
       let kind = first_kind (roles_of ds) so in
@@ -202,7 +212,9 @@ module _ (setup : Setup) (lets : Lets) (past : List Entry) (left : ℕ) (allow :
       let work = scheduler_work setup lets d.seat d.actor ran.actor h middle b rest idle built allow here holds runs kind in
       let stay = slots_add_no_pod setup lets d.seat d.actor ran.actor h middle b rest idle built here runs in
       let sweeps = swept_less (claims_in (world setup h).store.rows) (total pod_size (world setup h).store.rows) h middle stay in
-      let later = ops_round (claims_in (world setup h).store.rows) (total pod_size (world setup h).store.rows) (volumes_in (world setup h).store.rows) (faults_left setup (world setup h).devices) agents d.actor.role ds middle rest after whole more so (omega (arith, many)) kept.claims fewer.pods kept.volumes kept.faults in
+      let later = ops_round (claims_in (world setup h).store.rows) (total pod_size (world setup h).store.rows)
+      (volumes_in (world setup h).store.rows) (faults_left setup (world setup h).devices) agents d.actor.role ds middle rest after whole more so
+      (omega (arith, many)) kept.claims fewer.pods kept.volumes kept.faults in
       let costs_later = later.costs in
       let done_later = later.done in
       record { costs = omega (arith, n, now, sweeps, costs_later); done = omega (arith, n, writes, work, stay, done_later) }
@@ -223,6 +235,7 @@ every_round_is_short setup lets ds after h past b left whole allow roles run hol
     let stand = objects (world setup h).store.rows in
     let pods = pods_few (world setup h).store.rows in
     let most = left_is_bounded (world setup h).store.rows (world setup h).devices in
-    let number = stated (total (λ o. 1 + names_in o) (world setup h).store.rows) (claims_in (world setup h).store.rows) (volumes_in (world setup h).store.rows) (total pod_size (world setup h).store.rows) (pods_in (world setup h).store.rows) (faults_left setup (world setup h).devices) (writes_since setup h past)
+    let number = stated (total (λ o. 1 + names_in o) (world setup h).store.rows) (claims_in (world setup h).store.rows)
+    (volumes_in (world setup h).store.rows) (total pod_size (world setup h).store.rows) (pods_in (world setup h).store.rows) (faults_left setup (world setup h).devices) (writes_since setup h past)
     (length roles.nodes) counts (omega (arith, stand, small)) pods (omega (arith, many, few)) (omega (arith, done_all, most)) in
     omega (arith, costs_all, number)

@@ -2,8 +2,8 @@
 use Rattle.std.proofs.Common.{◌≡◌, ℕ, ◌+◌, ◌*◌, ◌-◌, ◌≤◌, List, Bool, None, length, refl, arith}
 use Rattle.std.specs.Prelude.{◌/◌}
 use Rattle.std.proofs.lemmas.Nat.{mul-le}
-use Rattle.kube_types.specs.declared.parts.Kind.{Kind}
-use Rattle.kube_types.specs.declared.objects.Object.{Object}
+use Rattle.kube_parts.specs.declared.parts.Kind.{Kind}
+use Rattle.kube_objects.specs.declared.objects.Object.{Object}
 use Rattle.call_types.specs.declared.entry.Entry.{Entry}
 use Rattle.call_types.specs.declared.request.SeatKind.{SeatKind}
 use Rattle.call_types.specs.declared.request.SeatKind.TheVariants as seats
@@ -62,13 +62,16 @@ again_more kind rows =
 
 -- of an actor with nothing under way
 pub costs_by_rows :
-    (setup : Setup) (lets : Lets) (seat : ℕ) (old after : ActorState) (h past : List Entry) (b left : ℕ) (idle : Bool) → IsBuiltKind old.role.kind → IsRunOf setup past → PassesReads lets → old.under ≡ None → Runs lets seat after past left idle (begun old) h b
-    → b ≤ left + (8 * writes_since setup h past + (objects_calls old.role.kind (world setup h).store.rows + (again_calls old.role.kind (world setup h).store.rows * (writes_since setup h past / 513) + 62)))
+    (setup : Setup) (lets : Lets) (seat : ℕ) (old after : ActorState) (h past : List Entry) (b left : ℕ) (idle : Bool) → IsBuiltKind old.role.kind
+    → IsRunOf setup past → PassesReads lets → old.under ≡ None → Runs lets seat after past left idle (begun old) h b
+    → b ≤ left + (8 * writes_since setup h past +
+    (objects_calls old.role.kind (world setup h).store.rows + (again_calls old.role.kind (world setup h).store.rows * (writes_since setup h past / 513) + 62)))
 costs_by_rows setup lets seat old after h past b left idle built run passes rests runs =
     let rows = rows_stand_in_order setup h in
     let bound = costs_from setup lets seat old after h past b left idle (world setup h).store.rows built run passes rests rows (kept_first old.role.kind (world setup h).store.rows) runs in
     let few = kinds_few old.role.kind (world setup h).store.rows in
-    let swept = mul-le (sweep_cost (world setup h).store.rows old.role.kind) (writes_since setup h past / 513) (again_calls old.role.kind (world setup h).store.rows) (writes_since setup h past / 513) (again_more old.role.kind (world setup h).store.rows) (omega arith) in
+    let swept = mul-le (sweep_cost (world setup h).store.rows old.role.kind) (writes_since setup h past / 513)
+    (again_calls old.role.kind (world setup h).store.rows) (writes_since setup h past / 513) (again_more old.role.kind (world setup h).store.rows) (omega arith) in
     omega (arith, bound, few, swept)
 
 pub slots_cost_by_rows : SlotsCostLess

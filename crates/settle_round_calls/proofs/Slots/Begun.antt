@@ -2,15 +2,15 @@
 -- another costs no more.
 use Rattle.std.proofs.Common.{◌≡◌, ◌∙◌, ℕ, ◌≤◌, List, Bool, true, false, true≢false, Option, Some, None, refl, sym, ap, subst, arith, if◌then◌else◌}
 use Rattle.std.specs.Prelude.{is_some, not, ◌&&◌}
-use Rattle.kube_types.specs.declared.key.Key.{Key}
+use Rattle.kube_objects.specs.declared.key.Key.{Key}
 use Rattle.kube_types.specs.declared.lookup.Live.TheVariants.{NotAsked}
-use Rattle.kube_types.specs.declared.names.Due.TheVariants as dues
-use Rattle.kube_types.specs.declared.objects.Claim.{Claim as ClaimData}
-use Rattle.kube_types.specs.declared.objects.Object.{Object}
-use Rattle.kube_types.specs.declared.objects.Object.TheVariants.{Class, Node, Volume, Claim, Pod}
-use Rattle.kube_types.specs.declared.objects.Volume.{Volume as VolumeData}
-use Rattle.kube_types.specs.Bindings.{is_delete, is_deleting, is_empty, is_ended, ref_uid}
-use Rattle.kube_types.specs.Keys.{kind_of, row_at}
+use Rattle.kube_parts.specs.declared.names.Due.TheVariants as dues
+use Rattle.kube_objects.specs.declared.objects.Claim.{Claim as ClaimData}
+use Rattle.kube_objects.specs.declared.objects.Object.{Object}
+use Rattle.kube_objects.specs.declared.objects.Object.TheVariants.{Class, Node, Volume, Claim, Pod}
+use Rattle.kube_objects.specs.declared.objects.Volume.{Volume as VolumeData}
+use Rattle.kube_objects.specs.Bindings.{is_delete, is_deleting, is_empty, is_ended, ref_uid}
+use Rattle.kube_objects.specs.Keys.{kind_of, row_at}
 use Rattle.call_types.specs.declared.reply.MountRow.{MountRow}
 use Rattle.call_types.specs.declared.request.SeatKind.{SeatKind}
 use Rattle.call_types.specs.declared.request.SeatKind.TheVariants as seats
@@ -141,7 +141,8 @@ agent_light (Node x) followed = omega arith
 agent_light (Volume x) followed = absurd (true≢false (sym followed))
 agent_light (Claim x) followed = absurd (true≢false (sym followed))
 
-pub begun_on_own : (kind : SeatKind) (node : List ℕ) (m : Memory) (rows : List Object) (key : Key) (task : Task) → IsFirstOf kind node m rows key (firsts.Begins task) → BeginsOnOwn kind (row_at key rows) task
+pub begun_on_own : (kind : SeatKind) (node : List ℕ) (m : Memory) (rows : List Object) (key : Key) (task : Task)
+    → IsFirstOf kind node m rows key (firsts.Begins task) → BeginsOnOwn kind (row_at key rows) task
 begun_on_own seats.Binder node m rows key (tasks.Binder machine) first = binder_begun rows (row_at key rows) machine first
 begun_on_own seats.Binder node m rows key _ first = absurd first
 begun_on_own seats.Ops node m rows key task first = ops_begun rows (row_at key rows) task first

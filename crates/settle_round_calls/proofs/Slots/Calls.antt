@@ -2,10 +2,10 @@
 -- that are still ahead, and pays for its event, for the pass that tells it and for the decision on it.
 use Rattle.std.proofs.Common.{◌≡◌, ◌⊎◌, ℕ, ◌+◌, ◌*◌, ◌-◌, ◌≤◌, ◌<◌, List, [], ◌∷◌, length, Bool, Option, Some, None, inl, inr, refl, ap, arith, if◌then◌else◌}
 use Rattle.std.specs.Prelude.{◌/◌, cond, nat_lt}
-use Rattle.kube_types.specs.declared.key.Key.{Key}
-use Rattle.kube_types.specs.declared.parts.Kind.{Kind}
-use Rattle.kube_types.specs.declared.objects.Object.{Object}
-use Rattle.kube_types.specs.Keys.{kind_of, same_kind}
+use Rattle.kube_objects.specs.declared.key.Key.{Key}
+use Rattle.kube_parts.specs.declared.parts.Kind.{Kind}
+use Rattle.kube_objects.specs.declared.objects.Object.{Object}
+use Rattle.kube_objects.specs.Keys.{kind_of, same_kind}
 use Rattle.call_types.specs.declared.entry.Entry.{Entry}
 use Rattle.call_types.specs.declared.request.SeatKind.{SeatKind}
 use Rattle.call_types.specs.declared.setup.Setup.{Setup}
@@ -62,7 +62,8 @@ sweep_is first kind = refl
 -- where a slot stands past its first pass: in a further pass, in which nothing is written, so that each kind behind it was read as it stands; or at
 -- the keys, with all kinds as they were read in the pass before
 pub data Stage (setup : Setup) (seat : ℕ) (s : ActorState) (h : List Entry) : Type 0 where
-  InPass : s.under ≡ None → ((place : ℕ) (kind : Kind) (from : ℕ) → place < s.pass.behind → kind_in_order s.role place ≡ Some kind → from_of seat h kind ≡ Some from → (world setup h).store.version ≤ from) → Stage setup seat s h
+  InPass : s.under ≡ None → ((place : ℕ) (kind : Kind) (from : ℕ) → place < s.pass.behind → kind_in_order s.role place ≡ Some kind → from_of seat h
+      kind ≡ Some from → (world setup h).store.version ≤ from) → Stage setup seat s h
   AtKeys : (read : ℕ) → passing s ≡ None → ((kind : Kind) → IsIn kind (kinds_of s.role.kind) → from_of seat h kind ≡ Some read) → read ≤ (world setup h).store.version
       → sum_over (λ k. pending k read (world setup h).log) (kinds_of s.role.kind) ≤ (world setup h).store.version - read → Stage setup seat s h
 
@@ -73,7 +74,8 @@ kinds_ahead setup first seat high s h (AtKeys read over kinds low few) = 7 * ((w
 
 -- with the writes that are still ahead, the rest and the pass
 abbrev pub slot_left : (setup : Setup) (first : List Object) (seat high : ℕ) (s : ActorState) (h : List Entry) → Stage setup seat s h → ℕ
-slot_left setup first seat high s h stage = 8 * (high - (world setup h).store.version) + (rest_left first s.role.kind (world setup h) s + (kinds_ahead setup first seat high s h stage + pass_left s.role.kind s.pass))
+slot_left setup first seat high s h stage =
+    8 * (high - (world setup h).store.version) + (rest_left first s.role.kind (world setup h) s + (kinds_ahead setup first seat high s h stage + pass_left s.role.kind s.pass))
 
 -- so much less than a number
 pub record IsLess (setup : Setup) (first : List Object) (seat high : ℕ) (s : ActorState) (h : List Entry) (fewer most_left : ℕ) : Type 0 where
@@ -121,14 +123,17 @@ module _ (setup : Setup) (kind : SeatKind) (read : ℕ) (e : Entry) (h : List En
           omega (arith, more, log)
   few_on (inl stays) few =
       let version = stays.version in
-      let log : sum_over (λ k. pending k read (world setup (e ∷ h)).log) (kinds_of kind) ≡ sum_over (λ k. pending k read (world setup h).log) (kinds_of kind) = ap (λ l. sum_over (λ k. pending k read l) (kinds_of kind)) stays.log in
+      let log : sum_over (λ k. pending k read (world setup (e ∷ h)).log) (kinds_of kind) ≡ sum_over (λ k. pending k read (world setup h).log)
+      (kinds_of kind) = ap (λ l. sum_over (λ k. pending k read l) (kinds_of kind)) stays.log in
       omega (arith, version, log, few)
 
-module _ (setup : Setup) (first : List Object) (kind : SeatKind) (high read : ℕ) (e : Entry) (h : List Entry) (short : (world setup (e ∷ h)).store.version ≤ high) (low : read ≤ (world setup h).store.version)
+module _ (setup : Setup) (first : List Object) (kind : SeatKind) (high read : ℕ) (e : Entry) (h : List Entry)
+    (short : (world setup (e ∷ h)).store.version ≤ high) (low : read ≤ (world setup h).store.version)
     (falls : (key : Key) → cost_in kind first (world setup (e ∷ h)).store.rows key ≤ cost_in kind first (world setup h).store.rows key) where
   -- a write is one of those ahead, and pays for what it brings
   pub call_pays : (work : Work) → done_by e.request e.reply ≤ 1 → Stays (world setup h) (world setup (e ∷ h)) e.request e.reply ⊎ Wrote (world setup h) (world setup (e ∷ h)) e.reply
-      → 8 * (high - (world setup (e ∷ h)).store.version) + work_cost (cost_in kind first (world setup (e ∷ h)).store.rows) work + 7 * ((world setup (e ∷ h)).store.version - read) + done_by e.request e.reply
+      → 8 * (high - (world setup (e ∷ h)).store.version) + work_cost (cost_in kind first (world setup (e ∷ h)).store.rows) work + 7 *
+      ((world setup (e ∷ h)).store.version - read) + done_by e.request e.reply
       ≤ 8 * (high - (world setup h).store.version) + work_cost (cost_in kind first (world setup h).store.rows) work + 7 * ((world setup h).store.version - read)
   call_pays work few (inr wrote) =
       let a = work_less (cost_in kind first (world setup h).store.rows) (cost_in kind first (world setup (e ∷ h)).store.rows) work falls in

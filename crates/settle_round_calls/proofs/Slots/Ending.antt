@@ -1,16 +1,16 @@
 -- No call of ops ends a volume: it writes phase Failed over a volume that has ended, and one that it makes has not.
 use Rattle.std.proofs.Common.{◌≡◌, ◌∙◌, ℕ, ◌+◌, ◌≤◌, List, true, false, Option, Some, refl, sym, ap, subst, arith, if◌then◌else◌}
-use Rattle.kube_types.specs.declared.key.Key.{Key}
-use Rattle.kube_types.specs.declared.parts.Kind.TheVariants as kinds
-use Rattle.kube_types.specs.declared.parts.VolumePhase.{VolumePhase}
-use Rattle.kube_types.specs.declared.parts.VolumePhase.TheVariants as phases
-use Rattle.kube_types.specs.declared.objects.Claim.{Claim as ClaimData}
-use Rattle.kube_types.specs.declared.objects.Object.{Object}
-use Rattle.kube_types.specs.declared.objects.Object.TheVariants.{Class, Node, Volume, Claim, Pod}
-use Rattle.kube_types.specs.declared.objects.Volume.{Volume as VolumeData}
-use Rattle.kube_types.specs.Bindings.{is_ended}
-use Rattle.kube_types.specs.Keys.{key_of, kind_index, meta_of, row_at}
-use Rattle.kube_types.proofs.KeyOrder.{row_at_key}
+use Rattle.kube_objects.specs.declared.key.Key.{Key}
+use Rattle.kube_parts.specs.declared.parts.Kind.TheVariants as kinds
+use Rattle.kube_parts.specs.declared.parts.VolumePhase.{VolumePhase}
+use Rattle.kube_parts.specs.declared.parts.VolumePhase.TheVariants as phases
+use Rattle.kube_objects.specs.declared.objects.Claim.{Claim as ClaimData}
+use Rattle.kube_objects.specs.declared.objects.Object.{Object}
+use Rattle.kube_objects.specs.declared.objects.Object.TheVariants.{Class, Node, Volume, Claim, Pod}
+use Rattle.kube_objects.specs.declared.objects.Volume.{Volume as VolumeData}
+use Rattle.kube_objects.specs.Bindings.{is_ended}
+use Rattle.kube_objects.specs.Keys.{key_of, kind_index, meta_of, row_at}
+use Rattle.kube_objects.proofs.KeyOrder.{row_at_key}
 use Rattle.call_types.specs.declared.entry.Entry.{Entry}
 use Rattle.call_types.specs.declared.request.NewStatus.TheVariants as statuses
 use Rattle.call_types.specs.declared.request.Request.{Request}
@@ -57,7 +57,8 @@ module _ (setup : Setup) (seat : ℕ) (h : List Entry) (history : IsHistory setu
   rows = (world setup h).store.rows
 
   -- phase Failed
-  fails : (key : Key) (phase : VolumePhase) (given : Option ℕ) → ToldObject (IsVolumeWith (λ v. IsWrittenAt given key.namespace key.name v.meta × PhaseMay (ops_phase phase) (own seat h) v)) (own seat h) → key.kind ≡ kinds.PersistentVolume
+  fails : (key : Key) (phase : VolumePhase) (given : Option ℕ)
+      → ToldObject (IsVolumeWith (λ v. IsWrittenAt given key.namespace key.name v.meta × PhaseMay (ops_phase phase) (own seat h) v)) (own seat h) → key.kind ≡ kinds.PersistentVolume
       → IsStatus (world setup h).store seats.Ops key (statuses.Volume phase) given o → own_calls seats.Ops o ≤ now_cost seats.Ops rows (key_of o)
   fails key phase given told of_volumes i = by t.0 t.1 t.2
     where
@@ -71,11 +72,14 @@ module _ (setup : Setup) (seat : ℕ) (h : List Entry) (history : IsHistory setu
       over phases.Bound v may = absurd may
       over phases.Released v may = absurd may
 
-      by : (x : Object) → ToldObject (λ y. y ≡ x) (own seat h) → IsVolumeWith (λ v. IsWrittenAt given key.namespace key.name v.meta × PhaseMay (ops_phase phase) (own seat h) v) x → own_calls seats.Ops o ≤ now_cost seats.Ops rows (key_of o)
+      by : (x : Object) → ToldObject (λ y. y ≡ x) (own seat h)
+          → IsVolumeWith (λ v. IsWrittenAt given key.namespace key.name v.meta × PhaseMay (ops_phase phase) (own seat h) v) x → own_calls seats.Ops o ≤ now_cost seats.Ops rows (key_of o)
       by (Volume v) it is =
           let keyed : key_of (Volume v) ≡ key = λ j. record { kind = (sym of_volumes) j; namespace = is.0.placed j; name = is.0.named j } in
-          let same : i.old ≡ Volume v = stands_it setup h (Volume v) i.old key (told_is_true setup h seat (Volume v) history it) keyed i.there (subst (λ g. is_other_version g (meta_of i.old).version ≡ false) is.0.version i.version) in
-          let there : now_cost seats.Ops rows (key_of o) ≡ own_calls seats.Ops (Volume v) = ap (weigh_if (own_calls seats.Ops)) ((status_next (world setup h).store seats.Ops key (statuses.Volume phase) given o i).there ∙ ap Some same) in
+          let same : i.old ≡ Volume v = stands_it setup h (Volume v) i.old key (told_is_true setup h seat (Volume v) history it) keyed i.there (subst
+          (λ g. is_other_version g (meta_of i.old).version ≡ false) is.0.version i.version) in
+          let there : now_cost seats.Ops rows (key_of o) ≡ own_calls seats.Ops (Volume v) =
+          ap (weigh_if (own_calls seats.Ops)) ((status_next (world setup h).store seats.Ops key (statuses.Volume phase) given o i).there ∙ ap Some same) in
           let three : own_calls seats.Ops (Volume v) ≡ 3 = ap (λ b. if b then 3 else 0) (over phase v is.1) in
           let few = ops_three o in
           omega (arith, there, three, few)

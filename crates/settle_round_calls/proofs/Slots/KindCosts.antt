@@ -3,14 +3,14 @@
 use Rattle.std.proofs.Common.{◌≡◌, ◌≢◌, ◌∙◌, ℕ, ◌+◌, ◌*◌, ◌≤◌, List, [], ◌∷◌, length, Bool, true, false, true≢false, Option, Some, None, inl, inr, refl, sym, ap, arith, if◌then◌else◌}
 use Rattle.std.specs.Prelude.{cond, filter, map, ◌||◌}
 use Rattle.std.specs.List.{list_any}
-use Rattle.kube_types.specs.declared.key.Key.{Key}
-use Rattle.kube_types.specs.declared.parts.Kind.{Kind}
-use Rattle.kube_types.specs.declared.parts.Kind.TheVariants as kinds
-use Rattle.kube_types.specs.declared.objects.Object.{Object}
-use Rattle.kube_types.specs.declared.objects.Object.TheVariants.{Volume}
-use Rattle.kube_types.specs.Keys.{AreRows, is_of_kind, key_of, kind_index, kind_of, row_at, rows_of, same_key, same_kind}
-use Rattle.kube_types.proofs.KeyOrder.{row_at_key}
-use Rattle.kube_types.proofs.SameKeys.{same_key-Decides, same_kind-Decides}
+use Rattle.kube_objects.specs.declared.key.Key.{Key}
+use Rattle.kube_parts.specs.declared.parts.Kind.{Kind}
+use Rattle.kube_parts.specs.declared.parts.Kind.TheVariants as kinds
+use Rattle.kube_objects.specs.declared.objects.Object.{Object}
+use Rattle.kube_objects.specs.declared.objects.Object.TheVariants.{Volume}
+use Rattle.kube_objects.specs.Keys.{AreRows, is_of_kind, key_of, kind_index, kind_of, row_at, rows_of, same_key, same_kind}
+use Rattle.kube_objects.proofs.KeyOrder.{row_at_key}
+use Rattle.kube_objects.proofs.SameKeys.{same_key-Decides, same_kind-Decides}
 use Rattle.call_types.specs.declared.request.SeatKind.{SeatKind}
 use Rattle.call_types.specs.declared.request.SeatKind.TheVariants as seats
 use Rattle.model_laws.proofs.Lists.{IsIn}
@@ -199,7 +199,8 @@ module _ (kind : SeatKind) (first rows : List Object) (before : AreRows first) (
 -- ---- the keys of a kind, and keys that differ
 
 -- volumes are followed where they cost something
-with_made : (kind : SeatKind) (f : Kind → ℕ) (n : ℕ) → sum_over (λ k. f k + (if same_kind k kinds.PersistentVolume then n * made_calls kind else 0)) (kinds_of kind) ≡ sum_over f (kinds_of kind) + n * made_calls kind
+with_made : (kind : SeatKind) (f : Kind → ℕ) (n : ℕ)
+    → sum_over (λ k. f k + (if same_kind k kinds.PersistentVolume then n * made_calls kind else 0)) (kinds_of kind) ≡ sum_over f (kinds_of kind) + n * made_calls kind
 with_made seats.User f n = omega arith
 with_made seats.Binder f n = omega arith
 with_made seats.Ops f n = omega arith
@@ -226,7 +227,8 @@ module _ (kind : SeatKind) (first rows : List Object) (before : AreRows first) (
           let less = sum_less (most kind first) (λ k. total (picked kind k) rows) (kinds_of kind) (λ k. stays_most kind first rows before order kept k) in
           omega (arith, few, own, less)
       by false =
-          let split = keys_sum (λ key. weigh_if (own_calls kind) (row_at key first)) (λ key. fresh_cost (made_calls kind) (is_fresh first key)) (stood_cost kind first) ks (λ key. at (row_at key first) (fresh_cost (made_calls kind) (is_fresh first key))) in
+          let split = keys_sum (λ key. weigh_if (own_calls kind) (row_at key first)) (λ key. fresh_cost (made_calls kind) (is_fresh first key))
+          (stood_cost kind first) ks (λ key. at (row_at key first) (fresh_cost (made_calls kind) (is_fresh first key))) in
           let few = distinct_keys (own_calls kind) ks first before once in
           let fresh = fresh_few (made_calls kind) (made_keys first) ks once in
           let all = kinds_cost kind first in

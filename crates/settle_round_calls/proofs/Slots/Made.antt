@@ -1,7 +1,7 @@
 -- What a call of an actor writes costs ops and an agent no more than what stood in its place, and a list, a watch of a whole kind and a call of the start write nothing.
 use Rattle.std.proofs.Common.{◌≡◌, ℕ, ◌≤◌, List, ◌∷◌, true, true≢false, sym, ap}
-use Rattle.kube_types.specs.declared.objects.Object.{Object}
-use Rattle.kube_types.specs.Keys.{key_of}
+use Rattle.kube_objects.specs.declared.objects.Object.{Object}
+use Rattle.kube_objects.specs.Keys.{key_of}
 use Rattle.call_types.specs.declared.edit.Edit.{Edit}
 use Rattle.call_types.specs.declared.entry.Entry.{Entry}
 use Rattle.call_types.specs.declared.reply.Reply.{Reply}
@@ -33,7 +33,8 @@ use Rattle.settle_round_calls.proofs.Slots.RoundCosts.{CallMoves, IsSame, Moved,
 
 -- ---- what it writes costs ops and an agent no more than what stood in its place
 
-now_light : (setup : Setup) (seat : ℕ) (h : List Entry) → IsHistory setup h → (kind : SeatKind) (r : Request) (o : Object) → is_now kind ≡ true → Licensed kind (own seat h) r → Writes (world setup h) kind r o → Comes (world setup h).store.rows o
+now_light : (setup : Setup) (seat : ℕ) (h : List Entry) → IsHistory setup h → (kind : SeatKind) (r : Request) (o : Object) → is_now kind ≡ true
+    → Licensed kind (own seat h) r → Writes (world setup h) kind r o → Comes (world setup h).store.rows o
     → own_calls kind o ≤ now_cost kind (world setup h).store.rows (key_of o)
 now_light setup seat h history seats.Ops r o now may writes come = ops_end_none setup seat h history o r may writes
 now_light setup seat h history seats.Agent r o now may writes come = agents_come (world setup h).store.rows o come
@@ -44,7 +45,8 @@ now_light setup seat h history seats.ClaimProtect r o now may writes come = absu
 now_light setup seat h history seats.VolumeProtect r o now may writes come = absurd (true≢false (sym now))
 
 -- what comes of a call
-pub call_moves : (setup : Setup) (seat : ℕ) (x : ActorState) (request : Request) (reply : Reply) (h : List Entry) → IsCalled setup seat x request reply h → IsBuiltKind x.role.kind → KnowsBehind setup seat x.role x.pass h → IsOrdered x
+pub call_moves : (setup : Setup) (seat : ℕ) (x : ActorState) (request : Request) (reply : Reply) (h : List Entry)
+    → IsCalled setup seat x request reply h → IsBuiltKind x.role.kind → KnowsBehind setup seat x.role x.pass h → IsOrdered x
     → CallMoves x.role.kind (world setup h).store.rows (world setup (told_entry seat x request reply ∷ h)).store.rows
 call_moves setup seat x request reply h called built knows ordered = by (call_writes setup seat x request reply h called built knows ordered)
   where
@@ -69,11 +71,15 @@ reads_none w kind _ o own i = absurd i
 
 -- so the store stays
 pub reads_stay : (setup : Setup) (seat : ℕ) (x : ActorState) (request : Request) (reply : Reply) (h : List Entry) → is_own_read request ≡ true
-    → ((world setup (told_entry seat x request reply ∷ h)).store.version ≡ (world setup h).store.version) × ((world setup (told_entry seat x request reply ∷ h)).store.rows ≡ (world setup h).store.rows)
+    → ((world setup (told_entry seat x request reply ∷ h)).store.version ≡ (world setup h).store.version)
+    × ((world setup (told_entry seat x request reply ∷ h)).store.rows ≡ (world setup h).store.rows)
 reads_stay setup seat x request reply h own_read = by (comes_to (world setup h) (effect setup (world setup h) x.role.kind request))
   where
     by : ComesTo (world setup h) (effect setup (world setup h) x.role.kind request)
-        → ((world setup (told_entry seat x request reply ∷ h)).store.version ≡ (world setup h).store.version) × ((world setup (told_entry seat x request reply ∷ h)).store.rows ≡ (world setup h).store.rows)
+        → ((world setup (told_entry seat x request reply ∷ h)).store.version ≡ (world setup h).store.version)
+        × ((world setup (told_entry seat x request reply ∷ h)).store.rows ≡ (world setup h).store.rows)
     by (Leaves same) = (ap (λ s. s.version) same, ap (λ s. s.rows) same)
     by (Wrote o written version moved) =
-        absurd (reads_none (world setup h) x.role.kind request o own_read (write_asked setup (world setup h) x.role.kind request o (effect setup (world setup h) x.role.kind request) (effect_form setup (world setup h) x.role.kind request (rows_stand_in_order setup h)) written))
+        absurd (reads_none (world setup h) x.role.kind request o own_read
+        (write_asked setup (world setup h) x.role.kind request o (effect setup (world setup h) x.role.kind request)
+        (effect_form setup (world setup h) x.role.kind request (rows_stand_in_order setup h)) written))

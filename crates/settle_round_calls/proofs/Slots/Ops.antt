@@ -1,9 +1,9 @@
 -- What a slot of the provisioner and reclaimer costs.
 use Rattle.std.proofs.Common.{◌≡◌, ◌∙◌, ℕ, ◌+◌, ◌*◌, ◌≤◌, List, [], ◌∷◌, Bool, true, false, None, refl, sym, ap, subst, arith, if◌then◌else◌}
 use Rattle.std.specs.Prelude.{◌/◌}
-use Rattle.kube_types.specs.declared.objects.Object.{Object}
-use Rattle.kube_types.specs.declared.objects.Object.TheVariants.{Class, Node, Volume, Claim, Pod}
-use Rattle.kube_types.specs.Bindings.{is_ended}
+use Rattle.kube_objects.specs.declared.objects.Object.{Object}
+use Rattle.kube_objects.specs.declared.objects.Object.TheVariants.{Class, Node, Volume, Claim, Pod}
+use Rattle.kube_objects.specs.Bindings.{is_ended}
 use Rattle.call_types.specs.declared.entry.Entry.{Entry}
 use Rattle.call_types.specs.declared.request.SeatKind.TheVariants as seats
 use Rattle.call_types.specs.declared.setup.Setup.{Setup}
@@ -56,17 +56,21 @@ ops_sweeps rows = let is = again_is seats.Ops rows in let objects = ops_objects 
 
 -- one that was told that its epoch is stale makes no call
 pub ops_costs_from :
-    (setup : Setup) (lets : Lets) (seat : ℕ) (old after : ActorState) (h past : List Entry) (b left : ℕ) (idle : Bool) → old.role.kind ≡ seats.Ops → IsRunOf setup past → PassesReads lets → (old.memory.stale ≡ false → old.under ≡ None)
+    (setup : Setup) (lets : Lets) (seat : ℕ) (old after : ActorState) (h past : List Entry) (b left : ℕ) (idle : Bool) → old.role.kind ≡ seats.Ops
+    → IsRunOf setup past → PassesReads lets → (old.memory.stale ≡ false → old.under ≡ None)
     → Runs lets seat after past left idle (begun old) h b
-    → b ≤ left + (8 * writes_since setup h past + (2 * claims_in (world setup h).store.rows + 3 * ended_in (world setup h).store.rows + 62) + ops_sweep_calls (world setup h).store.rows * (writes_since setup h past / 513))
+    → b ≤ left + (8 * writes_since setup h past +
+    (2 * claims_in (world setup h).store.rows + 3 * ended_in (world setup h).store.rows + 62) + ops_sweep_calls (world setup h).store.rows * (writes_since setup h past / 513))
 ops_costs_from setup lets seat old after h past b left idle kind run passes rests runs = by old.memory.stale refl
   where
     by : (stale : Bool) → old.memory.stale ≡ stale
-        → b ≤ left + (8 * writes_since setup h past + (2 * claims_in (world setup h).store.rows + 3 * ended_in (world setup h).store.rows + 62) + ops_sweep_calls (world setup h).store.rows * (writes_since setup h past / 513))
+        → b ≤ left + (8 * writes_since setup h past +
+        (2 * claims_in (world setup h).store.rows + 3 * ended_in (world setup h).store.rows + 62) + ops_sweep_calls (world setup h).store.rows * (writes_since setup h past / 513))
     by true stale = let same = (silent_run setup lets seat after past left idle run (begun old) h b runs stale).1 in omega (arith, same)
     by false fresh =
         let bound = costs_by_rows setup lets seat old after h past b left idle (subst IsBuiltKind (sym kind) tt) run passes (rests fresh) runs in
-        let objects : objects_calls old.role.kind (world setup h).store.rows ≡ 2 * claims_in (world setup h).store.rows + 3 * ended_in (world setup h).store.rows = ap (λ k. objects_calls k (world setup h).store.rows) kind ∙ ops_objects (world setup h).store.rows in
+        let objects : objects_calls old.role.kind (world setup h).store.rows ≡ 2 * claims_in (world setup h).store.rows + 3 * ended_in
+        (world setup h).store.rows = ap (λ k. objects_calls k (world setup h).store.rows) kind ∙ ops_objects (world setup h).store.rows in
         let again : again_calls old.role.kind (world setup h).store.rows * (writes_since setup h past / 513) ≡ ops_sweep_calls (world setup h).store.rows * (writes_since setup h past / 513) =
         ap (λ n. n * (writes_since setup h past / 513)) (ap (λ k. again_calls k (world setup h).store.rows) kind ∙ ops_sweeps (world setup h).store.rows) in
         omega (arith, bound, objects, again)

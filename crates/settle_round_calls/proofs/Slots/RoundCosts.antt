@@ -3,16 +3,16 @@
 use Rattle.std.proofs.Common.{◌≡◌, ◌≢◌, ◌∙◌, ◌⊎◌, ℕ, ◌+◌, ◌*◌, ◌≤◌, List, [], ◌∷◌, length, Bool, true, false, true≢false, Option, Some, None, inl, inr, refl, sym, ap, subst, arith, if◌then◌else◌}
 use Rattle.std.specs.Prelude.{◌||◌}
 use Rattle.std.specs.List.{list_any}
-use Rattle.kube_types.specs.declared.key.Key.{Key}
-use Rattle.kube_types.specs.declared.parts.Kind.{Kind}
-use Rattle.kube_types.specs.declared.parts.Kind.TheVariants as kinds
-use Rattle.kube_types.specs.declared.objects.Object.{Object}
-use Rattle.kube_types.specs.declared.objects.Object.TheVariants.{Class, Node, Volume, Claim, Pod}
-use Rattle.kube_types.specs.declared.objects.Volume.{Volume as VolumeData}
-use Rattle.kube_types.specs.Bindings.{is_ended}
-use Rattle.kube_types.specs.Keys.{AreRows, is_of_kind, key_of, kind_index, kind_of, row_at, same_key, same_kind}
-use Rattle.kube_types.proofs.KeyOrder.{row_at-put_row, row_at-put_row_other, row_at-without_row, row_at-without_row_other, row_at_key}
-use Rattle.kube_types.proofs.SameKeys.{key_tells, same_key-Decides, same_key_itself}
+use Rattle.kube_objects.specs.declared.key.Key.{Key}
+use Rattle.kube_parts.specs.declared.parts.Kind.{Kind}
+use Rattle.kube_parts.specs.declared.parts.Kind.TheVariants as kinds
+use Rattle.kube_objects.specs.declared.objects.Object.{Object}
+use Rattle.kube_objects.specs.declared.objects.Object.TheVariants.{Class, Node, Volume, Claim, Pod}
+use Rattle.kube_objects.specs.declared.objects.Volume.{Volume as VolumeData}
+use Rattle.kube_objects.specs.Bindings.{is_ended}
+use Rattle.kube_objects.specs.Keys.{AreRows, is_of_kind, key_of, kind_index, kind_of, row_at, same_key, same_kind}
+use Rattle.kube_objects.proofs.KeyOrder.{row_at-put_row, row_at-put_row_other, row_at-without_row, row_at-without_row_other, row_at_key}
+use Rattle.kube_objects.proofs.SameKeys.{key_tells, same_key-Decides, same_key_itself}
 use Rattle.call_types.specs.declared.request.SeatKind.{SeatKind}
 use Rattle.call_types.specs.declared.request.SeatKind.TheVariants as seats
 use Rattle.model_laws.proofs.Lists.{IsIn}
@@ -373,7 +373,8 @@ agents_come old o (IsOver was there few uid) =
 agents_come old o (IsFor c uid there has keyed none) = let z = agents_volume o (ap (λ (k : Key). kind_index k.kind) keyed) in omega (arith, z)
 
 -- an object that costs no more than what stood in its place is written
-pub moved_falls : (kind : SeatKind) (old new : List Object) → AreRows old → (o : Object) → own_calls kind o ≤ now_cost kind old (key_of o) → IsMoved old new o → (key : Key) → now_cost kind new key ≤ now_cost kind old key
+pub moved_falls : (kind : SeatKind) (old new : List Object) → AreRows old → (o : Object) → own_calls kind o ≤ now_cost kind old (key_of o)
+    → IsMoved old new o → (key : Key) → now_cost kind new key ≤ now_cost kind old key
 moved_falls kind old new order o come moved key = by moved (key_tells (key_of o) key)
   where
     by : IsMoved old new o → (key_of o ≡ key) ⊎ (key_of o ≢ key) → now_cost kind new key ≤ now_cost kind old key

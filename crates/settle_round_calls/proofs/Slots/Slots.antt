@@ -1,8 +1,8 @@
 -- A slot that begins with nothing under way makes few calls: its first pass writes nothing, and past it each call lowers what is still to come.
 use Rattle.std.proofs.Common.{◌≡◌, ◌∙◌, ℕ, ◌+◌, ◌*◌, ◌-◌, ◌≤◌, List, [], ◌∷◌, length, Bool, true, false, true≢false, None, inl, inr, refl, sym, ap, subst, arith, if◌then◌else◌}
 use Rattle.std.specs.Prelude.{◌/◌}
-use Rattle.kube_types.specs.declared.key.Key.{Key}
-use Rattle.kube_types.specs.declared.parts.Kind.{Kind}
+use Rattle.kube_objects.specs.declared.key.Key.{Key}
+use Rattle.kube_parts.specs.declared.parts.Kind.{Kind}
 use Rattle.call_types.specs.declared.entry.Entry.{Entry}
 use Rattle.call_types.specs.declared.reply.Reply.{Reply}
 use Rattle.call_types.specs.declared.request.Request.{Request}
@@ -45,8 +45,8 @@ use Rattle.settle_calls.proofs.Events.Sums.{of_each}
 use Rattle.settle_calls.proofs.Tasks.Works.{none_again, put_off_cost}
 use Rattle.binder_model.specs.Promises.{IsRunOf}
 use Rattle.binder_model.specs.World.{IsHistory, base as base_of, world}
-use Rattle.kube_types.specs.declared.objects.Object.{Object}
-use Rattle.kube_types.specs.Keys.{AreRows}
+use Rattle.kube_objects.specs.declared.objects.Object.{Object}
+use Rattle.kube_objects.specs.Keys.{AreRows}
 use Rattle.model_laws.proofs.Growing.{runs_are_histories}
 use Rattle.settle_calls.specs.Slots.Slots.{PassesReads, writes_since}
 use Rattle.settle_calls.proofs.Slots.HeldCalls.{HeldTask, held_called, held_task, own_read}
@@ -71,12 +71,14 @@ sum_each f g (k ∷ ks) each = let a = each k (inl refl) in let b = sum_each f g
 
 -- past the first pass
 
-module _ (setup : Setup) (lets : Lets) (passes : PassesReads lets) (seat : ℕ) (after : ActorState) (past : List Entry) (left : ℕ) (idle : Bool) (run : IsRunOf setup past) (first : List Object) (order : AreRows first) (base m : ℕ) (begins : base_of setup ≤ base) where
+module _ (setup : Setup) (lets : Lets) (passes : PassesReads lets) (seat : ℕ) (after : ActorState) (past : List Entry) (left : ℕ) (idle : Bool)
+    (run : IsRunOf setup past) (first : List Object) (order : AreRows first) (base m : ℕ) (begins : base_of setup ≤ base) where
   abbrev high : ℕ
   high = (world setup past).store.version
 
   -- a call that was answered, and what the slot may still cost behind it
-  module _ (x : ActorState) (request : Request) (reply : Reply) (h : List Entry) (given : IsCallGiven setup seat x request reply h) (at : Point setup x.role.kind base m high h) (reached : KindsHaveReached base seat x.role.kind h)
+  module _ (x : ActorState) (request : Request) (reply : Reply) (h : List Entry) (given : IsCallGiven setup seat x request reply h)
+      (at : Point setup x.role.kind base m high h) (reached : KindsHaveReached base seat x.role.kind h)
       (short : (world setup (told_entry seat x request reply ∷ h)).store.version ≤ high) (so : AreKept x.role.kind first (world setup h).store.rows)
       (falls : (key : Key) → cost_in x.role.kind first (world setup (told_entry seat x request reply ∷ h)).store.rows key ≤ cost_in x.role.kind first (world setup h).store.rows key) where
     -- in a pass nothing is written
@@ -114,22 +116,29 @@ module _ (setup : Setup) (lets : Lets) (passes : PassesReads lets) (seat : ℕ) 
               ≤ rest_left first x.role.kind (world setup h) x + (kinds_left setup first seat x.role.kind h + pass_left x.role.kind x.pass)
           fewer = falls_by caches (given_so x request given.ask)
 
-          rest : rest_left first (told_to x caches request reply).role.kind (world setup (told_entry seat x request reply ∷ h)) (told_to x caches request reply) ≡ rest_left first x.role.kind (world setup (told_entry seat x request reply ∷ h)) (told_to x caches request reply)
+          rest : rest_left first (told_to x caches request reply).role.kind (world setup (told_entry seat x request reply ∷ h))
+              (told_to x caches request reply) ≡ rest_left first x.role.kind (world setup (told_entry seat x request reply ∷ h)) (told_to x caches request reply)
           rest = ap (λ (r : Role). rest_left first r.kind (world setup (told_entry seat x request reply ∷ h)) (told_to x caches request reply)) role
 
-          kinds : kinds_left setup first seat (told_to x caches request reply).role.kind (told_entry seat x request reply ∷ h) ≡ kinds_left setup first seat x.role.kind (told_entry seat x request reply ∷ h)
+          kinds : kinds_left setup first seat (told_to x caches request reply).role.kind
+              (told_entry seat x request reply ∷ h) ≡ kinds_left setup first seat x.role.kind (told_entry seat x request reply ∷ h)
           kinds = ap (λ (r : Role). kinds_left setup first seat r.kind (told_entry seat x request reply ∷ h)) role
 
           pass : pass_left (told_to x caches request reply).role.kind (told_to x caches request reply).pass ≡ pass_left x.role.kind (told_to x caches request reply).pass
           pass = ap (λ (r : Role). pass_left r.kind (told_to x caches request reply).pass) role
 
-          sweeps : sweep_cost first (told_to x caches request reply).role.kind * ((high - (world setup (told_entry seat x request reply ∷ h)).store.version) / 513) ≡ sweep_cost first x.role.kind * ((high - (world setup h).store.version) / 513)
-          sweeps = ap (λ (r : Role). sweep_cost first r.kind * ((high - (world setup (told_entry seat x request reply ∷ h)).store.version) / 513)) role ∙ ap (λ n. sweep_cost first x.role.kind * ((high - n) / 513)) version
+          sweeps : sweep_cost first (told_to x caches request reply).role.kind *
+              ((high - (world setup (told_entry seat x request reply ∷ h)).store.version) / 513) ≡ sweep_cost first x.role.kind * ((high - (world setup h).store.version) / 513)
+          sweeps = ap (λ (r : Role). sweep_cost first r.kind * ((high - (world setup (told_entry seat x request reply ∷ h)).store.version) / 513))
+              role ∙ ap (λ n. sweep_cost first x.role.kind * ((high - n) / 513)) version
 
-          goes_on : ReachedBehind setup seat (world setup (told_entry seat x request reply ∷ h)).store.version (told_to x caches request reply).role (told_to x caches request reply).pass (told_entry seat x request reply ∷ h)
-          goes_on place kind from lt there is = let reaches = behind_on setup seat (world setup h).store.version x request reply h given (omega arith) behind caches place kind from lt there is in omega (arith, reaches, same)
+          goes_on : ReachedBehind setup seat (world setup (told_entry seat x request reply ∷ h)).store.version (told_to x caches request reply).role
+              (told_to x caches request reply).pass (told_entry seat x request reply ∷ h)
+          goes_on place kind from lt there is = let reaches =
+              behind_on setup seat (world setup h).store.version x request reply h given (omega arith) behind caches place kind from lt there is in omega (arith, reaches, same)
 
-    calls_pay : (caches : AllKnown) (stage : Stage setup seat x h) → IsLess setup first seat high (told_to x caches request reply) (told_entry seat x request reply ∷ h) 1 (slot_left setup first seat high x h stage)
+    calls_pay : (caches : AllKnown) (stage : Stage setup seat x h)
+        → IsLess setup first seat high (told_to x caches request reply) (told_entry seat x request reply ∷ h) 1 (slot_left setup first seat high x h stage)
     calls_pay caches (InPass none behind) = pass_pays none behind caches
     calls_pay caches (AtKeys read over kinds low few) = by (given_so x request given.ask)
       where
@@ -145,17 +154,23 @@ module _ (setup : Setup) (lets : Lets) (passes : PassesReads lets) (seat : ℕ) 
       let some_left = t.some in
       let under : under_left x.under ≡ task_left t.under.task = ap under_left t.there in
       let work = put_off_cost (cost_in x.role.kind first (world setup h).store.rows) t.under.key x.work in
-      subst (λ y. IsLess setup first seat high y h 1 (slot_left setup first seat high x h (AtKeys read over kinds low few))) (sym t.is) (record { stage = AtKeys read over kinds low few; less = omega (arith, some_left, under, work) })
+      subst (λ y. IsLess setup first seat high y h 1 (slot_left setup first seat high x h (AtKeys read over kinds low few))) (sym t.is)
+      (record { stage = AtKeys read over kinds low few; less = omega (arith, some_left, under, work) })
 
-  second_pass : (s : ActorState) (h : List Entry) (b : ℕ) → Runs lets seat after past left idle s h b → IsBuiltKind s.role.kind → Point setup s.role.kind base m (world setup past).store.version h → KindsHaveReached base seat s.role.kind h → KnowsBehind setup seat s.role s.pass h
+  second_pass : (s : ActorState) (h : List Entry) (b : ℕ) → Runs lets seat after past left idle s h b → IsBuiltKind s.role.kind
+      → Point setup s.role.kind base m (world setup past).store.version h → KindsHaveReached base seat s.role.kind h → KnowsBehind setup seat s.role s.pass h
       → IsOrdered s → AreKept s.role.kind first (world setup h).store.rows → (stage : Stage setup seat s h) → b ≤ left + slot_left setup first seat (world setup past).store.version s h stage
   second_pass s h b (IsSpent none state entries rest busy) built at reached knows ordered so stage = omega (arith, none)
   second_pass s h b (IsIdle some ready turn entries rest calm) built at reached knows ordered so stage = omega (arith, rest)
   second_pass s h b (Asks given next request reply some ready turn lets_it absorbs more) built at reached knows ordered so stage =
-      let kept = turn_costs setup first seat (world setup past).store.version s given request h so high_enough ready built whole.0 turn (λ over. sees setup seat s h whole.0 ready.stands.told knows over) stage in
-      let told = calls_pay given request reply h g given_point given_reached short given_kept (cost_falls given.role.kind first (world setup h).store.rows (world setup (told_entry seat given request reply ∷ h)).store.rows (rows_stand_in_order setup h) moves) next.caches kept.stage in
-      let less = subst (λ y. IsLess setup first seat (world setup past).store.version y (told_entry seat given request reply ∷ h) 1 (slot_left setup first seat (world setup past).store.version given h kept.stage)) (sym absorbs) told in
-      let ih = second_pass next (told_entry seat given request reply ∷ h) (b - 1) more next_built next_at next_reached (told_knows setup seat s given request reply h built ready turn whole knows next absorbs)
+      let kept = turn_costs setup first seat (world setup past).store.version s given request h so high_enough ready built whole.0 turn
+      (λ over. sees setup seat s h whole.0 ready.stands.told knows over) stage in
+      let told = calls_pay given request reply h g given_point given_reached short given_kept
+      (cost_falls given.role.kind first (world setup h).store.rows (world setup (told_entry seat given request reply ∷ h)).store.rows (rows_stand_in_order setup h) moves) next.caches kept.stage in
+      let less = subst (λ y. IsLess setup first seat (world setup past).store.version y (told_entry seat given request reply ∷ h) 1
+      (slot_left setup first seat (world setup past).store.version given h kept.stage)) (sym absorbs) told in
+      let ih = second_pass next (told_entry seat given request reply ∷ h) (b - 1) more next_built next_at next_reached
+      (told_knows setup seat s given request reply h built ready turn whole knows next absorbs)
       (subst IsOrdered (sym absorbs) (told_ordered setup seat given request reply h called next.caches turned)) next_kept less.stage in
       let now = kept.less in
       let then_ = less.less in
@@ -171,13 +186,15 @@ module _ (setup : Setup) (lets : Lets) (passes : PassesReads lets) (seat : ℕ) 
       g = given_at setup seat s given h request reply built ready turn whole
 
       called : IsCalled setup seat given request reply h
-      called = called_at setup lets seat after past left idle run s given h request reply built ready turn (run_at setup lets seat after past left idle run next (told_entry seat given request reply ∷ h) (b - 1) more)
+      called = called_at setup lets seat after past left idle run s given h request reply built ready turn
+          (run_at setup lets seat after past left idle run next (told_entry seat given request reply ∷ h) (b - 1) more)
 
       turned : IsOrdered given
       turned = turned_ordered s given request turn ordered
 
       moves : CallMoves given.role.kind (world setup h).store.rows (world setup (told_entry seat given request reply ∷ h)).store.rows
-      moves = call_moves setup seat given request reply h called (subst (λ (r : Role). IsBuiltKind r.kind) (sym (turn_role s given (Call request) turn)) built) (turned_knows setup seat s given (Call request) h turn knows) turned
+      moves = call_moves setup seat given request reply h called
+          (subst (λ (r : Role). IsBuiltKind r.kind) (sym (turn_role s given (Call request) turn)) built) (turned_knows setup seat s given (Call request) h turn knows) turned
 
       short : (world setup (told_entry seat given request reply ∷ h)).store.version ≤ (world setup past).store.version
       short = later setup lets seat after past left idle next _ _ more
@@ -209,15 +226,18 @@ module _ (setup : Setup) (lets : Lets) (passes : PassesReads lets) (seat : ℕ) 
 
       next_at : Point setup next.role.kind base m (world setup past).store.version (told_entry seat given request reply ∷ h)
       next_at = subst (λ k. Point setup k base m (world setup past).store.version (told_entry seat given request reply ∷ h)) (given_kind ∙ sym next_kind)
-          (point_on setup given.role.kind base m (world setup past).store.version (told_entry seat given request reply) h given_point short (light_of setup seat base given request reply h g at.begun) (world_moves setup (told_entry seat given request reply) h whole.1))
+          (point_on setup given.role.kind base m (world setup past).store.version (told_entry seat given request reply) h given_point short
+          (light_of setup seat base given request reply h g at.begun) (world_moves setup (told_entry seat given request reply) h whole.1))
 
       next_reached : KindsHaveReached base seat next.role.kind (told_entry seat given request reply ∷ h)
       next_reached kind from f is = reached_on setup seat base given request reply h g at.begun kind from (λ v e. reached kind v (ap (λ k. follows k kind) (sym next_kind) ∙ f) e) is
   second_pass s h b (IsHeld given next request some ready turn held absorbs more) built at reached knows ordered so stage =
-      let kept = turn_costs setup first seat (world setup past).store.version s given request h so short ready built before turn (λ over. sees setup seat s h before ready.stands.told knows over) stage in
+      let kept = turn_costs setup first seat (world setup past).store.version s given request h so short ready built before turn
+      (λ over. sees setup seat s h before ready.stands.told knows over) stage in
       let lost = held_pays given h t kept.stage in
       let less = subst (λ y. IsLess setup first seat (world setup past).store.version y h 1 (slot_left setup first seat (world setup past).store.version given h kept.stage)) (sym absorbs) lost in
-      let ih = second_pass next h (b - 1) more next_built (subst (λ k. Point setup k base m (world setup past).store.version h) (sym next_kind) at) (subst (λ k. KindsHaveReached base seat k h) (sym next_kind) reached) (lost_knows setup seat given next request h (turned_knows setup seat s given (Call request) h turn knows) absorbs)
+      let ih = second_pass next h (b - 1) more next_built (subst (λ k. Point setup k base m (world setup past).store.version h) (sym next_kind) at)
+      (subst (λ k. KindsHaveReached base seat k h) (sym next_kind) reached) (lost_knows setup seat given next request h (turned_knows setup seat s given (Call request) h turn knows) absorbs)
       (subst IsOrdered (sym absorbs) (lost_ordered given (turned_ordered s given request turn ordered))) (subst (λ k. AreKept k first (world setup h).store.rows) (sym next_kind) so) less.stage in
       let now = kept.less in
       let then_ = less.less in
@@ -236,7 +256,8 @@ module _ (setup : Setup) (lets : Lets) (passes : PassesReads lets) (seat : ℕ) 
       next_built = subst IsBuiltKind (sym next_kind) built
 
       t : HeldTask given
-      t = held_called given (own seat h) request (turn_stands s given (Call request) (own seat h) ready.rows ready.stands.told turn) (sym (gives_asked s given (Call request) turn)) (held_task lets given request h passes (sym (gives_asked s given (Call request) turn)) held)
+      t = held_called given (own seat h) request (turn_stands s given (Call request) (own seat h) ready.rows ready.stands.told turn)
+          (sym (gives_asked s given (Call request) turn)) (held_task lets given request h passes (sym (gives_asked s given (Call request) turn)) held)
 
   -- the first pass
 
@@ -249,7 +270,8 @@ module _ (setup : Setup) (lets : Lets) (passes : PassesReads lets) (seat : ℕ) 
   cost_first s h = first_cost setup seat s.role.kind base base s h
 
   -- past the pass the first cost covers what is still to come
-  covered : (s : ActorState) (h : List Entry) → IsReady seat s h → IsBuiltKind s.role.kind → IsHistory setup h → (world setup h).store.version ≡ base → ReachedBehind setup seat base s.role s.pass h → AreKept s.role.kind first (world setup h).store.rows → s.under ≡ None → unlisted s ≡ None → passing s ≡ None
+  covered : (s : ActorState) (h : List Entry) → IsReady seat s h → IsBuiltKind s.role.kind → IsHistory setup h → (world setup h).store.version ≡ base
+      → ReachedBehind setup seat base s.role s.pass h → AreKept s.role.kind first (world setup h).store.rows → s.under ≡ None → unlisted s ≡ None → passing s ≡ None
       → IsLess setup first seat (world setup past).store.version s h 0 (cost_first s h + after_cost s.role.kind)
   covered s h ready built history version behind so none listed over =
       let taken : taken_keys s.work ≡ [] = ready.stands.queue.taken ∙ ap under_keys none in
@@ -258,8 +280,11 @@ module _ (setup : Setup) (lets : Lets) (passes : PassesReads lets) (seat : ℕ) 
       let under = ap under_left none in
       let event = at_most_five s.pass.event in
       let few_kinds = within_five s.role.kind in
-      let writes : 8 * ((world setup past).store.version - (world setup h).store.version) ≡ 8 * ((world setup past).store.version - base) = ap (λ n. 8 * ((world setup past).store.version - n)) version in
-      let sweeps : sweep_cost first s.role.kind * (((world setup past).store.version - (world setup h).store.version) / 513) ≡ sweep_cost first s.role.kind * (((world setup past).store.version - base) / 513) = ap (λ n. sweep_cost first s.role.kind * (((world setup past).store.version - n) / 513)) version in
+      let writes : 8 * ((world setup past).store.version - (world setup h).store.version) ≡ 8 * ((world setup past).store.version - base) =
+      ap (λ n. 8 * ((world setup past).store.version - n)) version in
+      let sweeps : sweep_cost first s.role.kind *
+      (((world setup past).store.version - (world setup h).store.version) / 513) ≡ sweep_cost first s.role.kind *
+      (((world setup past).store.version - base) / 513) = ap (λ n. sweep_cost first s.role.kind * (((world setup past).store.version - n) / 513)) version in
       let told = nothing_told setup seat s h ready built history reached listed over in
       record {
         stage = AtKeys (world setup h).store.version over (all_read setup seat s h ready built history reached listed over) (omega arith) (omega (arith, told));
@@ -273,7 +298,9 @@ module _ (setup : Setup) (lets : Lets) (passes : PassesReads lets) (seat : ℕ) 
       reached : ReachedBehind setup seat (world setup h).store.version s.role s.pass h
       reached place kind from lt there is = let r = behind place kind from lt there is in omega (arith, r, version)
 
-  first_pass : (s : ActorState) (h : List Entry) (b : ℕ) → Runs lets seat after past left idle s h b → IsBuiltKind s.role.kind → s.under ≡ None → (world setup h).store.version ≡ base → Point setup s.role.kind base m (world setup past).store.version h → ReachedBehind setup seat base s.role s.pass h → KnowsBehind setup seat s.role s.pass h
+  first_pass : (s : ActorState) (h : List Entry) (b : ℕ) → Runs lets seat after past left idle s h b → IsBuiltKind s.role.kind → s.under ≡ None
+      → (world setup h).store.version ≡ base → Point setup s.role.kind base m (world setup past).store.version h
+      → ReachedBehind setup seat base s.role s.pass h → KnowsBehind setup seat s.role s.pass h
       → AreKept s.role.kind first (world setup h).store.rows → b ≤ left + (cost_first s h + after_cost s.role.kind)
   first_pass s h b (IsSpent none state entries rest busy) built rests version at behind knows so = omega (arith, none)
   first_pass s h b (IsIdle some ready turn entries rest calm) built rests version at behind knows so = omega (arith, rest)
@@ -306,19 +333,26 @@ module _ (setup : Setup) (lets : Lets) (passes : PassesReads lets) (seat : ℕ) 
 
       next_at : Point setup next.role.kind base m (world setup past).store.version (told_entry seat given request reply ∷ h)
       next_at = subst (λ k. Point setup k base m (world setup past).store.version (told_entry seat given request reply ∷ h)) (sym next_kind)
-          (point_on setup given.role.kind base m (world setup past).store.version (told_entry seat given request reply) h given_point short (light_of setup seat base given request reply h g at.begun) (world_moves setup (told_entry seat given request reply) h whole.1))
+          (point_on setup given.role.kind base m (world setup past).store.version (told_entry seat given request reply) h given_point short
+          (light_of setup seat base given request reply h g at.begun) (world_moves setup (told_entry seat given request reply) h whole.1))
 
       next_behind : s.pass ≡ given.pass → ReachedBehind setup seat base next.role next.pass (told_entry seat given request reply ∷ h)
       next_behind same = subst (λ (y : ActorState). ReachedBehind setup seat base y.role y.pass (told_entry seat given request reply ∷ h)) (sym absorbs)
-          (behind_on setup seat base given request reply h g at.begun (subst (λ (r : Role). ReachedBehind setup seat base r given.pass h) (sym given_role) (subst (λ p. ReachedBehind setup seat base s.role p h) same behind)) next.caches)
+          (behind_on setup seat base given request reply h g at.begun
+          (subst (λ (r : Role). ReachedBehind setup seat base r given.pass h) (sym given_role) (subst (λ p. ReachedBehind setup seat base s.role p h) same behind)) next.caches)
 
       by : TurnOf s given
-          → (IsBuiltKind next.role.kind → next.under ≡ None → (world setup (told_entry seat given request reply ∷ h)).store.version ≡ base → Point setup next.role.kind base m (world setup past).store.version (told_entry seat given request reply ∷ h) → ReachedBehind setup seat base next.role next.pass (told_entry seat given request reply ∷ h)
-          → KnowsBehind setup seat next.role next.pass (told_entry seat given request reply ∷ h) → AreKept next.role.kind first (world setup (told_entry seat given request reply ∷ h)).store.rows → b - 1 ≤ left + (cost_first next (told_entry seat given request reply ∷ h) + after_cost next.role.kind))
+          → (IsBuiltKind next.role.kind → next.under ≡ None → (world setup (told_entry seat given request reply ∷ h)).store.version ≡ base
+          → Point setup next.role.kind base m (world setup past).store.version (told_entry seat given request reply ∷ h)
+          → ReachedBehind setup seat base next.role next.pass (told_entry seat given request reply ∷ h)
+          → KnowsBehind setup seat next.role next.pass (told_entry seat given request reply ∷ h)
+          → AreKept next.role.kind first (world setup (told_entry seat given request reply ∷ h)).store.rows
+          → b - 1 ≤ left + (cost_first next (told_entry seat given request reply ∷ h) + after_cost next.role.kind))
           → b ≤ left + (cost_first s h + after_cost s.role.kind)
       by (IsPast eu el ep) more_of =
           let c = covered s h ready built whole.0 version behind so eu el ep in
-          let second = second_pass s h b (Asks given next request reply some ready turn lets_it absorbs more) built at (reached_all setup seat base s.role s.pass h behind ep) knows (NothingUnder eu) so c.stage in
+          let second = second_pass s h b (Asks given next request reply some ready turn lets_it absorbs more) built at
+          (reached_all setup seat base s.role s.pass h behind ep) knows (NothingUnder eu) so c.stage in
           let less = c.less in
           omega (arith, second, less)
       by (IsBefore gg e) more_of =
@@ -327,7 +361,10 @@ module _ (setup : Setup) (lets : Lets) (passes : PassesReads lets) (seat : ℕ) 
           let stay = reads_stay setup seat given request reply h (own_read given request given_none ask) in
           let next_none : next.under ≡ None = ap (λ (y : ActorState). y.under) absorbs ∙ none_told given request reply next.caches given_none ask in
           let next_version : (world setup (told_entry seat given request reply ∷ h)).store.version ≡ base = stay.0 ∙ version in
-          let ih = more_of (subst IsBuiltKind (sym (next_kind ∙ given_kind)) built) next_none next_version next_at (next_behind (ap (λ (y : ActorState). y.pass) (sym e))) (told_knows setup seat s given request reply h built ready turn whole knows next absorbs) (subst (λ k. AreKept k first (world setup (told_entry seat given request reply ∷ h)).store.rows) (sym (next_kind ∙ given_kind)) (subst (AreKept s.role.kind first) (sym stay.1) so)) in
+          let ih = more_of (subst IsBuiltKind (sym (next_kind ∙ given_kind)) built) next_none next_version next_at
+          (next_behind (ap (λ (y : ActorState). y.pass) (sym e)))
+          (told_knows setup seat s given request reply h built ready turn whole knows next absorbs)
+          (subst (λ k. AreKept k first (world setup (told_entry seat given request reply ∷ h)).store.rows) (sym (next_kind ∙ given_kind)) (subst (AreKept s.role.kind first) (sym stay.1) so)) in
           let pays = first_calls_pay setup seat base base given request reply h next.caches g (omega (arith, next_version)) in
           let same = ap (λ k. first_cost setup seat k base base next (told_entry seat given request reply ∷ h)) next_kind in
           let became = ap (λ y. first_cost setup seat given.role.kind base base y (told_entry seat given request reply ∷ h)) absorbs in
@@ -343,7 +380,8 @@ module _ (setup : Setup) (lets : Lets) (passes : PassesReads lets) (seat : ℕ) 
       by : TurnOf s given → b ≤ left + (cost_first s h + after_cost s.role.kind)
       by (IsPast eu el ep) =
           let c = covered s h ready built before version behind so eu el ep in
-          let second = second_pass s h b (IsHeld given next request some ready turn held absorbs more) built at (reached_all setup seat base s.role s.pass h behind ep) knows (NothingUnder eu) so c.stage in
+          let second = second_pass s h b (IsHeld given next request some ready turn held absorbs more) built at
+          (reached_all setup seat base s.role s.pass h behind ep) knows (NothingUnder eu) so c.stage in
           let less = c.less in
           omega (arith, second, less)
       by (IsBefore gg e) =
@@ -358,10 +396,13 @@ abbrev pub slot_most : List Object → SeatKind → ℕ → ℕ
 slot_most first kind writes = 8 * writes + (sum_over (most kind first) (kinds_of kind) + (sweep_cost first kind * (writes / 513) + 62))
 
 -- of an actor with nothing under way
-pub costs_from : (setup : Setup) (lets : Lets) (seat : ℕ) (old after : ActorState) (h past : List Entry) (b left : ℕ) (idle : Bool) (first : List Object) → IsBuiltKind old.role.kind → IsRunOf setup past → PassesReads lets → old.under ≡ None → AreRows first
+pub costs_from : (setup : Setup) (lets : Lets) (seat : ℕ) (old after : ActorState) (h past : List Entry) (b left : ℕ) (idle : Bool)
+    (first : List Object) → IsBuiltKind old.role.kind → IsRunOf setup past → PassesReads lets → old.under ≡ None → AreRows first
     → AreKept old.role.kind first (world setup h).store.rows → Runs lets seat after past left idle (begun old) h b → b ≤ left + slot_most first old.role.kind (writes_since setup h past)
 costs_from setup lets seat old after h past b left idle first built run passes rests order so runs =
-    let bound = first_pass setup lets passes seat after past left idle run first order (world setup h).store.version (total (calls_for old.role.kind) (world setup h).store.rows + 3 * writes_since setup h past) (first_low setup h) (begun old) h b runs built rests refl begun_point (λ place kind from lt. absurd (omega (arith, lt)))
+    let bound = first_pass setup lets passes seat after past left idle run first order (world setup h).store.version
+    (total (calls_for old.role.kind) (world setup h).store.rows + 3 * writes_since setup h past) (first_low setup h)
+    (begun old) h b runs built rests refl begun_point (λ place kind from lt. absurd (omega (arith, lt)))
     (begun_behind setup seat old h) so in
     let start = start_few old.role old.memory in
     let waits = of_each old.role.kind (λ k. wait_cost (world setup h).store.version (from_of seat h k)) 10 (λ k. wait_few (world setup h).store.version (from_of seat h k)) in
@@ -375,13 +416,16 @@ costs_from setup lets seat old after h past b left idle first built run passes r
     none_yet : (k : Kind) → 9 * pending k (world setup h).store.version (world setup h).log ≤ 0
     none_yet k = let n = none_pending k (world setup h).store.version (world setup h).store.version (world setup h).log (omega arith) (logs setup h 0) in omega (arith, n)
 
-    begun_point : Point setup old.role.kind (world setup h).store.version (total (calls_for old.role.kind) (world setup h).store.rows + 3 * writes_since setup h past) (world setup past).store.version h
+    begun_point : Point setup old.role.kind (world setup h).store.version
+        (total (calls_for old.role.kind) (world setup h).store.rows + 3 * writes_since setup h past) (world setup past).store.version h
     begun_point = record {
       begun = omega arith;
       light = λ y i lt. absurd (let top = at_most 0 (world setup h).store.version (world setup h).log y (logs setup h 0) i in omega (arith, top, lt));
       heavy = omega (arith, up);
     }
 
-pub slots_cost_less : (setup : Setup) (lets : Lets) (seat : ℕ) (old after : ActorState) (h past : List Entry) (b left : ℕ) (idle : Bool) (first : List Object) → IsBuiltKind old.role.kind → IsRunOf setup past → PassesReads lets → old.under ≡ None → AreRows first
+pub slots_cost_less : (setup : Setup) (lets : Lets) (seat : ℕ) (old after : ActorState) (h past : List Entry) (b left : ℕ) (idle : Bool)
+    (first : List Object) → IsBuiltKind old.role.kind → IsRunOf setup past → PassesReads lets → old.under ≡ None → AreRows first
     → AreKept old.role.kind first (world setup h).store.rows → Runs lets seat after past left idle (woken old) h b → b ≤ left + slot_most first old.role.kind (writes_since setup h past)
-slots_cost_less setup lets seat old after h past b left idle first built run passes rests order so runs = costs_from setup lets seat (woken old) after h past b left idle first built run passes rests order so runs
+slots_cost_less setup lets seat old after h past b left idle first built run passes rests order so runs =
+    costs_from setup lets seat (woken old) after h past b left idle first built run passes rests order so runs

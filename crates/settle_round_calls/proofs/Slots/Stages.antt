@@ -3,8 +3,8 @@ use Rattle.std.proofs.Common.{◌≡◌, ◌∙◌, ℕ, ◌+◌, ◌*◌, ◌-�
 use Rattle.std.specs.Prelude.{◌/◌, is_some, nat_lt}
 use Rattle.std.proofs.lemmas.Bool.Decides.{nat_tests}
 use Rattle.std.proofs.lemmas.Option.{slice_get_within}
-use Rattle.kube_types.specs.declared.parts.Kind.{Kind}
-use Rattle.kube_types.specs.declared.objects.Object.{Object}
+use Rattle.kube_parts.specs.declared.parts.Kind.{Kind}
+use Rattle.kube_objects.specs.declared.objects.Object.{Object}
 use Rattle.call_types.specs.declared.entry.Entry.{Entry}
 use Rattle.call_types.specs.declared.setup.Setup.{Setup}
 use Rattle.binder_model.specs.Reading.{following_of}
@@ -53,7 +53,8 @@ module _ (setup : Setup) (seat : ℕ) (s : ActorState) (h : List Entry) (ready :
       (caught setup h seat kind history on from (sym (from_same (following_of (own seat h) kind)) ∙ is)).0
 
   -- each kind was read as it stands where a pass is over
-  module _ (behind : (place : ℕ) (kind : Kind) (from : ℕ) → place < s.pass.behind → kind_in_order s.role place ≡ Some kind → from_of seat h kind ≡ Some from → (world setup h).store.version ≤ from) (listed : unlisted s ≡ None) (over : passing s ≡ None) where
+  module _ (behind : (place : ℕ) (kind : Kind) (from : ℕ) → place < s.pass.behind → kind_in_order s.role place ≡ Some kind
+      → from_of seat h kind ≡ Some from → (world setup h).store.version ≤ from) (listed : unlisted s ≡ None) (over : passing s ≡ None) where
     pub all_read : (kind : Kind) → IsIn kind (kinds_of s.role.kind) → from_of seat h kind ≡ Some (world setup h).store.version
     all_read kind followed = by (from_of seat h kind) refl
       where
@@ -73,7 +74,8 @@ module _ (setup : Setup) (seat : ℕ) (s : ActorState) (h : List Entry) (ready :
 
     -- and nothing of them is still to be told
     pub nothing_told : sum_over (λ k. pending k (world setup h).store.version (world setup h).log) (kinds_of s.role.kind) ≡ 0
-    nothing_told = sum_none (λ k. pending k (world setup h).store.version (world setup h).log) (kinds_of s.role.kind) (λ k. none_pending k (world setup h).store.version (world setup h).store.version (world setup h).log (omega arith) (logs setup h 0))
+    nothing_told = sum_none (λ k. pending k (world setup h).store.version (world setup h).log) (kinds_of s.role.kind)
+        (λ k. none_pending k (world setup h).store.version (world setup h).store.version (world setup h).log (omega arith) (logs setup h 0))
 
 -- the keys are decided with all kinds as they were read
 pub record IsAtKeys (setup : Setup) (first : List Object) (seat high : ℕ) (s : ActorState) (h : List Entry) (ahead : ℕ) : Type 0 where
@@ -84,7 +86,8 @@ pub record IsAtKeys (setup : Setup) (first : List Object) (seat high : ℕ) (s :
   pub few : sum_over (λ k. pending k read (world setup h).log) (kinds_of s.role.kind) ≤ (world setup h).store.version - read
   pub less : 7 * ((world setup h).store.version - read) + sweep_cost first s.role.kind * ((high - read) / 513) ≤ ahead
 
-pub keys_of : (setup : Setup) (first : List Object) (seat high : ℕ) (s : ActorState) (h : List Entry) → IsReady seat s h → IsBuiltKind s.role.kind → IsHistory setup h → unlisted s ≡ None → passing s ≡ None → (stage : Stage setup seat s h)
+pub keys_of : (setup : Setup) (first : List Object) (seat high : ℕ) (s : ActorState) (h : List Entry) → IsReady seat s h → IsBuiltKind s.role.kind
+    → IsHistory setup h → unlisted s ≡ None → passing s ≡ None → (stage : Stage setup seat s h)
     → IsAtKeys setup first seat high s h (kinds_ahead setup first seat high s h stage)
 keys_of setup first seat high s h ready built history listed over (AtKeys read past kinds low few) = record { read = read; over = past; kinds = kinds; low = low; few = few; less = omega arith }
 keys_of setup first seat high s h ready built history listed over (InPass none behind) =
@@ -105,22 +108,29 @@ pub pass_begins : (setup : Setup) (first : List Object) (seat high : ℕ) (s : A
     → kinds_left setup first seat s.role.kind h + sweep_cost first s.role.kind * ((high - (world setup h).store.version) / 513) ≤ ahead
 pass_begins setup first seat high s h ahead short at = by (nat_lt (at.read + 512) (world setup h).store.version) refl
   where
-    each : (gone : Bool) → nat_lt (at.read + 512) (world setup h).store.version ≡ gone → (k : Kind) → IsIn k (kinds_of s.role.kind) → kind_left s.role.kind (most s.role.kind first k) (world setup h) k (from_of seat h k) ≡ told_cost_or s.role.kind gone (most s.role.kind first k) (pending k at.read (world setup h).log)
-    each gone is k i = ap (kind_left s.role.kind (most s.role.kind first k) (world setup h) k) (at.kinds k i) ∙ ap (λ b. told_cost_or s.role.kind b (most s.role.kind first k) (pending k at.read (world setup h).log)) is
+    each : (gone : Bool) → nat_lt (at.read + 512) (world setup h).store.version ≡ gone → (k : Kind) → IsIn k (kinds_of s.role.kind)
+        → kind_left s.role.kind (most s.role.kind first k) (world setup h) k (from_of seat h k) ≡ told_cost_or s.role.kind gone (most s.role.kind first k) (pending k at.read (world setup h).log)
+    each gone is k i = ap (kind_left s.role.kind (most s.role.kind first k) (world setup h) k) (at.kinds k i)
+        ∙ ap (λ b. told_cost_or s.role.kind b (most s.role.kind first k) (pending k at.read (world setup h).log)) is
 
-    by : (gone : Bool) → nat_lt (at.read + 512) (world setup h).store.version ≡ gone → kinds_left setup first seat s.role.kind h + sweep_cost first s.role.kind * ((high - (world setup h).store.version) / 513) ≤ ahead
+    by : (gone : Bool) → nat_lt (at.read + 512) (world setup h).store.version ≡ gone
+        → kinds_left setup first seat s.role.kind h + sweep_cost first s.role.kind * ((high - (world setup h).store.version) / 513) ≤ ahead
     by true is =
         let far : at.read + 512 < (world setup h).store.version = grind (arith, nat_tests, is) in
-        let same = sum_same (λ k. kind_left s.role.kind (most s.role.kind first k) (world setup h) k (from_of seat h k)) (λ k. most s.role.kind first k + (2 + length (kinds_of s.role.kind))) (kinds_of s.role.kind) (each true is) in
+        let same = sum_same (λ k. kind_left s.role.kind (most s.role.kind first k) (world setup h) k (from_of seat h k))
+        (λ k. most s.role.kind first k + (2 + length (kinds_of s.role.kind))) (kinds_of s.role.kind) (each true is) in
         let all = sweep_is first s.role.kind in
-        let falls = mul_falls (sweep_cost first s.role.kind) ((high - (world setup h).store.version) / 513) ((high - at.read) / 513) (div_falls (high - (world setup h).store.version) (high - at.read) (omega (arith, far, short))) in
+        let falls = mul_falls (sweep_cost first s.role.kind) ((high - (world setup h).store.version) / 513) ((high - at.read) / 513)
+        (div_falls (high - (world setup h).store.version) (high - at.read) (omega (arith, far, short))) in
         let less = at.less in
         omega (arith, far, same, all, falls, less)
     by false is =
-        let same = sum_same (λ k. kind_left s.role.kind (most s.role.kind first k) (world setup h) k (from_of seat h k)) (λ k. 7 * pending k at.read (world setup h).log) (kinds_of s.role.kind) (each false is) in
+        let same = sum_same (λ k. kind_left s.role.kind (most s.role.kind first k) (world setup h) k (from_of seat h k))
+        (λ k. 7 * pending k at.read (world setup h).log) (kinds_of s.role.kind) (each false is) in
         let seven = seven_times (λ k. pending k at.read (world setup h).log) (kinds_of s.role.kind) in
         let low = at.low in
         let few = at.few in
-        let falls = mul_less (sweep_cost first s.role.kind) ((high - (world setup h).store.version) / 513) ((high - at.read) / 513) (div_less (high - (world setup h).store.version) (high - at.read) (omega (arith, low))) in
+        let falls = mul_less (sweep_cost first s.role.kind) ((high - (world setup h).store.version) / 513) ((high - at.read) / 513)
+        (div_less (high - (world setup h).store.version) (high - at.read) (omega (arith, low))) in
         let less = at.less in
         omega (arith, same, seven, few, falls, less)

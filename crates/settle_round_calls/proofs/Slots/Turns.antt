@@ -1,11 +1,11 @@
 -- Past its first pass a turn of an actor costs nothing: a decision begins no more than was reckoned for its key, and a new pass is paid for by the
 -- writes since the last one.
 use Rattle.std.proofs.Common.{◌≡◌, ◌∙◌, ℕ, ◌+◌, ◌-◌, ◌≤◌, List, [], length, Bool, true, false, Option, Some, None, inl, inr, refl, sym, ap, subst, arith, if◌then◌else◌}
-use Rattle.kube_types.specs.declared.key.Key.{Key}
-use Rattle.kube_types.specs.declared.parts.Kind.{Kind}
-use Rattle.kube_types.specs.declared.objects.Object.{Object}
-use Rattle.kube_types.specs.Keys.{kind_index, kind_of, row_at}
-use Rattle.kube_types.proofs.KeyOrder.{row_at_key}
+use Rattle.kube_objects.specs.declared.key.Key.{Key}
+use Rattle.kube_parts.specs.declared.parts.Kind.{Kind}
+use Rattle.kube_objects.specs.declared.objects.Object.{Object}
+use Rattle.kube_objects.specs.Keys.{kind_index, kind_of, row_at}
+use Rattle.kube_objects.proofs.KeyOrder.{row_at_key}
 use Rattle.call_types.specs.declared.entry.Entry.{Entry}
 use Rattle.call_types.specs.declared.request.Request.{Request}
 use Rattle.call_types.specs.declared.setup.Setup.{Setup}
@@ -45,7 +45,8 @@ use Rattle.settle_round_calls.proofs.Slots.Stages.{IsAtKeys, keys_of, pass_begin
 
 -- the turns
 
-module _ (role : Role) (memory : Memory) (rows : List Object) (first stored : List Object) (so : AreGiven first stored) (exact : (key : Key) → follows role.kind key.kind ≡ true → row_at key rows ≡ row_at key stored) where
+module _ (role : Role) (memory : Memory) (rows : List Object) (first stored : List Object) (so : AreGiven first stored)
+    (exact : (key : Key) → follows role.kind key.kind ≡ true → row_at key rows ≡ row_at key stored) where
   abbrev f : Key → ℕ
   f = cost_in role.kind first stored
 
@@ -55,9 +56,12 @@ module _ (role : Role) (memory : Memory) (rows : List Object) (first stored : Li
       let own : follows role.kind key.kind ≡ true = subst (λ (k : Key). follows role.kind k.kind ≡ true) (row_at_key key o rows there) followed in
       covers role.kind first stored so key o (sym (exact key own) ∙ there)
 
-  dropped_cost : (what : First) (key : Key) (w : Work) → oldest_of w.waiting ≡ Some key → taken_keys w ≡ [] → GivesNone role memory rows key what → work_cost (cost_in role.kind first stored) (dropped what key w) ≤ work_cost (cost_in role.kind first stored) w
-  dropped_cost firsts.Drops key w old none gives = let a = begun_cost (cost_in role.kind first stored) key w old in let b = finished_cost (cost_in role.kind first stored) key (begun w) in omega (arith, a, b)
-  dropped_cost (firsts.Begins task) key w old none gives = let a = begun_cost (cost_in role.kind first stored) key w old in let b = finished_cost (cost_in role.kind first stored) key (begun w) in omega (arith, a, b)
+  dropped_cost : (what : First) (key : Key) (w : Work) → oldest_of w.waiting ≡ Some key → taken_keys w ≡ [] → GivesNone role memory rows key what
+      → work_cost (cost_in role.kind first stored) (dropped what key w) ≤ work_cost (cost_in role.kind first stored) w
+  dropped_cost firsts.Drops key w old none gives = let a = begun_cost (cost_in role.kind first stored) key w old in let b =
+      finished_cost (cost_in role.kind first stored) key (begun w) in omega (arith, a, b)
+  dropped_cost (firsts.Begins task) key w old none gives = let a = begun_cost (cost_in role.kind first stored) key w old in let b =
+      finished_cost (cost_in role.kind first stored) key (begun w) in omega (arith, a, b)
   dropped_cost (firsts.Queues other) key w old none gives =
       let q = queued_on role memory rows key other gives.decided in
       let kinds = queued_kinds role memory rows key other gives.decided in
@@ -72,7 +76,8 @@ module _ (role : Role) (memory : Memory) (rows : List Object) (first stored : Li
       let c = finished_cost (cost_in role.kind first stored) key (added other (begun w)) in
       omega (arith, own, volume, less, more, a, b, c)
 
-  decided_cost : (after : Work) (under : Option Under) (w : Work) → Decides role memory rows after under w → taken_keys w ≡ [] → under_left under + work_cost (cost_in role.kind first stored) after ≤ work_cost (cost_in role.kind first stored) w
+  decided_cost : (after : Work) (under : Option Under) (w : Work) → Decides role memory rows after under w → taken_keys w ≡ []
+      → under_left under + work_cost (cost_in role.kind first stored) after ≤ work_cost (cost_in role.kind first stored) w
   decided_cost after under w (Nothing empty same none) e = let a = ap (work_cost (cost_in role.kind first stored)) same in let b = ap under_left none in omega (arith, a, b)
   decided_cost after under w (Begins u old gives same some) e =
       let b = begun_on_own role.kind role.node memory rows u.key u.task gives.decided in
@@ -88,11 +93,13 @@ module _ (role : Role) (memory : Memory) (rows : List Object) (first stored : Li
       omega (arith, a, b)
 
 -- a turn that gives a call costs nothing: it decides keys, or begins a pass
-pub turn_costs : (setup : Setup) (first : List Object) (seat high : ℕ) (s given : ActorState) (request : Request) (h : List Entry) → AreKept s.role.kind first (world setup h).store.rows → (world setup h).store.version ≤ high → IsReady seat s h → IsBuiltKind s.role.kind → IsHistory setup h
+pub turn_costs : (setup : Setup) (first : List Object) (seat high : ℕ) (s given : ActorState) (request : Request) (h : List Entry)
+    → AreKept s.role.kind first (world setup h).store.rows → (world setup h).store.version ≤ high → IsReady seat s h → IsBuiltKind s.role.kind → IsHistory setup h
     → IsTurn s given (Call request) → (passing s ≡ None → SeesStore setup s h) → (stage : Stage setup seat s h) → IsLess setup first seat high given h 0 (slot_left setup first seat high s h stage)
 turn_costs setup first seat high s given request h so short ready built history turn exact stage = by s.memory.stale s.under (start_call s.role s.memory) (unlisted s) (passing s) refl refl refl turn
   where
-    same : (x : ActorState) → given ≡ x → IsLess setup first seat high x h 0 (slot_left setup first seat high s h stage) → IsLess setup first seat high given h 0 (slot_left setup first seat high s h stage)
+    same : (x : ActorState) → given ≡ x → IsLess setup first seat high x h 0 (slot_left setup first seat high s h stage)
+        → IsLess setup first seat high given h 0 (slot_left setup first seat high s h stage)
     same x e less = subst (λ y. IsLess setup first seat high y h 0 (slot_left setup first seat high s h stage)) (sym e) less
 
     -- what is given changes nothing
@@ -100,7 +107,8 @@ turn_costs setup first seat high s given request h so short ready built history 
     still g (InPass none behind) = record { stage = InPass none behind; less = omega arith }
     still g (AtKeys read over kinds low few) = record { stage = AtKeys read over kinds low few; less = omega arith }
 
-    keys : (w : Work) (under : Option Under) → s.under ≡ None → IsAtKeys setup first seat high s h (kinds_ahead setup first seat high s h stage) → Decides s.role s.memory (all_objects s.caches) w under s.work → passing s ≡ None → AfterKeys s given (Call request) w under
+    keys : (w : Work) (under : Option Under) → s.under ≡ None → IsAtKeys setup first seat high s h (kinds_ahead setup first seat high s h stage)
+        → Decides s.role s.memory (all_objects s.caches) w under s.work → passing s ≡ None → AfterKeys s given (Call request) w under
         → IsLess setup first seat high given h 0 (slot_left setup first seat high s h stage)
     keys w (Some u) eu at d ep b =
         let none : taken_keys s.work ≡ [] = ready.stands.queue.taken ∙ ap under_keys eu in
@@ -111,13 +119,16 @@ turn_costs setup first seat high s given request h so short ready built history 
     keys w None eu at d ep (inl b) =
         let none : taken_keys s.work ≡ [] = ready.stands.queue.taken ∙ ap under_keys eu in
         let c = decided_cost s.role s.memory (all_objects s.caches) first (world setup h).store.rows so.given (exact ep) w None s.work d none in
-        let brought : pass_left s.role.kind s.pass ≡ (length (kinds_of s.role.kind) - s.pass.behind) + length (kinds_of s.role.kind) = ap (λ e. (length (kinds_of s.role.kind) - s.pass.behind) + (if e then length (kinds_of s.role.kind) else 0)) b.brought in
+        let brought : pass_left s.role.kind s.pass ≡ (length (kinds_of s.role.kind) - s.pass.behind) + length (kinds_of s.role.kind) =
+        ap (λ e. (length (kinds_of s.role.kind) - s.pass.behind) + (if e then length (kinds_of s.role.kind) else 0)) b.brought in
         let begins = pass_begins setup first seat high s h (kinds_ahead setup first seat high s h stage) short at in
         let z = ap under_left eu in
-        same (record s { work = w; pass = record { behind = 0; event = false }; given = Some (givens.Read b.kind) }) b.state (record { stage = InPass eu (λ place kind from lt. absurd (omega (arith, lt))); less = omega (arith, c, brought, begins, z) })
+        same (record s { work = w; pass = record { behind = 0; event = false }; given = Some (givens.Read b.kind) }) b.state
+        (record { stage = InPass eu (λ place kind from lt. absurd (omega (arith, lt))); less = omega (arith, c, brought, begins, z) })
     keys w None eu at d ep (inr b) = none_some (sym (ap call_in b.idle))
 
-    by : (stale : Bool) (u : Option Under) (start : Option Request) (l p : Option Kind) → s.under ≡ u → unlisted s ≡ l → passing s ≡ p → TurnBy s given (Call request) stale u start l p → IsLess setup first seat high given h 0 (slot_left setup first seat high s h stage)
+    by : (stale : Bool) (u : Option Under) (start : Option Request) (l p : Option Kind) → s.under ≡ u → unlisted s ≡ l → passing s ≡ p
+        → TurnBy s given (Call request) stale u start l p → IsLess setup first seat high given h 0 (slot_left setup first seat high s h stage)
     by true u start l p eu el ep t = none_some (sym (ap call_in t.idle))
     by false (Some u) start l p eu el ep t = same (record s { given = Some givens.Task }) t.state (still (Some givens.Task) stage)
     by false None (Some r) l p eu el ep t = same (record s { given = Some givens.Start }) t.state (still (Some givens.Start) stage)

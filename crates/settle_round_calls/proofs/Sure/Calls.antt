@@ -2,7 +2,7 @@
 use Rattle.std.proofs.Common.{◌≡◌, ◌∙◌, ◌⊎◌, ℕ, ◌+◌, ◌*◌, ◌-◌, ◌≤◌, List, ◌∷◌, length, true, true≢false, Option, Some, None, inl, inr, refl, sym, ap, subst, arith}
 use Rattle.std.specs.Prelude.{option_map}
 use Rattle.std.proofs.Math.Nat.{mul-add}
-use Rattle.kube_types.specs.declared.parts.Kind.{Kind}
+use Rattle.kube_parts.specs.declared.parts.Kind.{Kind}
 use Rattle.call_types.specs.declared.entry.Entry.{Entry}
 use Rattle.call_types.specs.declared.reply.Reply.{Reply}
 use Rattle.call_types.specs.declared.request.Request.{Request}
@@ -57,14 +57,16 @@ no_start seats.VolumeProtect node m request sure e = none_some e
 
 -- ---- a call
 
-module _ (setup : Setup) (seat base high : ℕ) (x : ActorState) (request : Request) (reply : Reply) (h : List Entry) (given : IsCallGiven setup seat x request reply h) (sure : begins_to_last x.role.kind ≡ true) (may : Licensed x.role.kind (own seat h) request)
+module _ (setup : Setup) (seat base high : ℕ) (x : ActorState) (request : Request) (reply : Reply) (h : List Entry)
+    (given : IsCallGiven setup seat x request reply h) (sure : begins_to_last x.role.kind ≡ true) (may : Licensed x.role.kind (own seat h) request)
     (begins : base_of setup ≤ base) (reached : KindsHaveReached base seat x.role.kind h) (short : (world setup (told_entry seat x request reply ∷ h)).store.version ≤ high) where
   moves : Stays (world setup h) (world setup (told_entry seat x request reply ∷ h)) request reply ⊎ Wrote (world setup h) (world setup (told_entry seat x request reply ∷ h)) reply
   moves = world_moves setup (told_entry seat x request reply) h given.history.1
 
   -- ---- while keys are decided
 
-  module _ (caches : AllKnown) (eg : x.given ≡ Some givens.Task) (t : TaskCalled x request reply) (read : ℕ) (over : passing x ≡ None) (kinds : (kind : Kind) → IsIn kind (kinds_of x.role.kind) → from_of seat h kind ≡ Some read) (low : read ≤ (world setup h).store.version)
+  module _ (caches : AllKnown) (eg : x.given ≡ Some givens.Task) (t : TaskCalled x request reply) (read : ℕ) (over : passing x ≡ None)
+      (kinds : (kind : Kind) → IsIn kind (kinds_of x.role.kind) → from_of seat h kind ≡ Some read) (low : read ≤ (world setup h).store.version)
       (few : sum_over (λ k. pending k read (world setup h).log) (kinds_of x.role.kind) ≤ (world setup h).store.version - read) where
     -- what the answer makes of the actor
     abbrev next : ActorState
@@ -82,12 +84,14 @@ module _ (setup : Setup) (seat base high : ℕ) (x : ActorState) (request : Requ
 
     -- a write is one of those that are ahead: it pays for the pass that tells it, for a further call, and for the slack of the next task
     wrote_pays : Wrote (world setup h) (world setup (told_entry seat x request reply ∷ h)) reply
-        → 8 * (high - (world setup (told_entry seat x request reply ∷ h)).store.version) + (length (kinds_of x.role.kind) * ((world setup (told_entry seat x request reply ∷ h)).store.version - read) + (key_calls x.role.kind + 1))
+        → 8 * (high - (world setup (told_entry seat x request reply ∷ h)).store.version) +
+        (length (kinds_of x.role.kind) * ((world setup (told_entry seat x request reply ∷ h)).store.version - read) + (key_calls x.role.kind + 1))
         ≤ 8 * (high - (world setup h).store.version) + length (kinds_of x.role.kind) * ((world setup h).store.version - read)
     wrote_pays wrote =
         let version = wrote.version in
         let since : (world setup (told_entry seat x request reply ∷ h)).store.version - read ≡ ((world setup h).store.version - read) + 1 = omega (arith, version, low) in
-        let times : length (kinds_of x.role.kind) * ((world setup (told_entry seat x request reply ∷ h)).store.version - read) ≡ length (kinds_of x.role.kind) * (((world setup h).store.version - read) + 1) = ap (λ n. length (kinds_of x.role.kind) * n) since in
+        let times : length (kinds_of x.role.kind) * ((world setup (told_entry seat x request reply ∷ h)).store.version - read) ≡ length
+        (kinds_of x.role.kind) * (((world setup h).store.version - read) + 1) = ap (λ n. length (kinds_of x.role.kind) * n) since in
         let more = mul-add (length (kinds_of x.role.kind)) ((world setup h).store.version - read) 1 in
         let once : length (kinds_of x.role.kind) * 1 ≡ length (kinds_of x.role.kind) = omega arith in
         let seven = event_calls x.role.kind in
@@ -125,7 +129,8 @@ module _ (setup : Setup) (seat base high : ℕ) (x : ActorState) (request : Requ
     -- one that has written already
     later : (u : Under) → x.under ≡ Some u → Stays (world setup h) (world setup (told_entry seat x request reply ∷ h)) request reply
         → IsLess setup seat high next (told_entry seat x request reply ∷ h) 1
-        (8 * (high - (world setup h).store.version) + (length (kinds_of x.role.kind) * ((world setup h).store.version - read) + (pass_left x.role.kind x.pass + (key_calls x.role.kind + task_left u.task))))
+        (8 * (high - (world setup h).store.version) +
+        (length (kinds_of x.role.kind) * ((world setup h).store.version - read) + (pass_left x.role.kind x.pass + (key_calls x.role.kind + task_left u.task))))
     later u there stays =
         let same = stays_same stays in
         let none = stays.none in
@@ -135,7 +140,8 @@ module _ (setup : Setup) (seat base high : ℕ) (x : ActorState) (request : Requ
         record { stage = stage; owing = goes_on.owing; less = omega (arith, same, none, goes, on, of_it) }
 
     -- one that is still to write
-    earlier : (u n : Under) → x.under ≡ Some u → under_after u (reply_to (effect setup (world setup h) x.role.kind u.call)) ≡ Some n → WillLast setup all_pass seat x.role.kind (own_entry setup seat x.role.kind h u.call ∷ h) n
+    earlier : (u n : Under) → x.under ≡ Some u → under_after u (reply_to (effect setup (world setup h) x.role.kind u.call)) ≡ Some n
+        → WillLast setup all_pass seat x.role.kind (own_entry setup seat x.role.kind h u.call ∷ h) n
         → Stays (world setup h) (world setup (told_entry seat x request reply ∷ h)) request reply
         → IsLess setup seat high next (told_entry seat x request reply ∷ h) 1
         (8 * (high - (world setup h).store.version) + (length (kinds_of x.role.kind) * ((world setup h).store.version - read) + (pass_left x.role.kind x.pass + task_left u.task)))
@@ -148,7 +154,8 @@ module _ (setup : Setup) (seat base high : ℕ) (x : ActorState) (request : Requ
         let answered : reply ≡ reply_to (effect setup (world setup h) x.role.kind u.call) = given.history.1 ∙ ap (λ r. reply_to (effect setup (world setup h) x.role.kind r)) (sym asked) in
         let after : under_after t.under reply ≡ Some n = ap (λ v. under_after v reply) of_it ∙ (ap (under_after u) answered ∙ follows) in
         let entry : own_entry setup seat x.role.kind h u.call ≡ told_entry seat x request reply =
-        ap (λ a. record { seat = seat; kind = x.role.kind; request = u.call; reply = a; told = true }) (sym answered) ∙ ap (λ r. record { seat = seat; kind = x.role.kind; request = r; reply = reply; told = true }) asked in
+        ap (λ a. record { seat = seat; kind = x.role.kind; request = u.call; reply = a; told = true }) (sym answered)
+        ∙ ap (λ r. record { seat = seat; kind = x.role.kind; request = r; reply = reply; told = true }) asked in
         let left = ap under_left after in
         let was : task_left t.under.task ≡ task_left u.task = ap (λ (v : Under). task_left v.task) of_it in
         record { stage = stage; owing = WillWrite n after (subst (λ e. WillLast setup all_pass seat x.role.kind (e ∷ h) n) entry more); less = omega (arith, same, none, goes, left, was) }
@@ -166,10 +173,12 @@ module _ (setup : Setup) (seat base high : ℕ) (x : ActorState) (request : Requ
     of_it : (u : Under) → x.under ≡ Some u → task_left t.under.task ≤ task_left u.task
     of_it u there = let same : task_left t.under.task ≡ task_left u.task = ap under_left (sym t.there ∙ there) in omega (arith, same)
 
-    task_pays : (owing : Owing setup seat x h) → IsLess setup seat high (told_to x caches request reply) (told_entry seat x request reply ∷ h) 1 (sure_left setup seat high x h (AtKeys read over kinds low few) owing)
+    task_pays : (owing : Owing setup seat x h)
+        → IsLess setup seat high (told_to x caches request reply) (told_entry seat x request reply ∷ h) 1 (sure_left setup seat high x h (AtKeys read over kinds low few) owing)
     task_pays owing = subst (λ y. IsLess setup seat high y (told_entry seat x request reply ∷ h) 1 (sure_left setup seat high x h (AtKeys read over kinds low few) owing)) (sym is) (by owing moves)
       where
-        by : (o : Owing setup seat x h) → Stays (world setup h) (world setup (told_entry seat x request reply ∷ h)) request reply ⊎ Wrote (world setup h) (world setup (told_entry seat x request reply ∷ h)) reply
+        by : (o : Owing setup seat x h) → Stays (world setup h) (world setup (told_entry seat x request reply ∷ h)) request reply
+            ⊎ Wrote (world setup h) (world setup (told_entry seat x request reply ∷ h)) reply
             → IsLess setup seat high next (told_entry seat x request reply ∷ h) 1 (sure_left setup seat high x h (AtKeys read over kinds low few) o)
         by (IsFree none) m = none_some (sym none ∙ t.there)
         by (WillWrite u there lasts) (inl stays) = lasting_writes_it u there lasts stays
@@ -197,12 +206,18 @@ module _ (setup : Setup) (seat base high : ℕ) (x : ActorState) (request : Requ
     free (WillWrite u there lasts) = none_some (sym none ∙ there)
     free (HasWritten u there) = none_some (sym none ∙ there)
 
-    pass_pays : (caches : AllKnown) (kind : Kind) → x.given ≡ Some (givens.Read kind) → (owing : Owing setup seat x h) → IsLess setup seat high (told_to x caches request reply) (told_entry seat x request reply ∷ h) 1 (sure_left setup seat high x h (InPass none behind) owing)
+    pass_pays : (caches : AllKnown) (kind : Kind) → x.given ≡ Some (givens.Read kind) → (owing : Owing setup seat x h)
+        → IsLess setup seat high (told_to x caches request reply) (told_entry seat x request reply ∷ h) 1 (sure_left setup seat high x h (InPass none behind) owing)
     pass_pays caches kind eg owing =
         let fewer = read_falls setup seat base x request reply h given begins reached caches kind eg in
         let same = version in
         let of_it = free owing in
-        record { stage = InPass (none_told x request reply caches none given.ask) still; owing = IsFree (none_told x request reply caches none given.ask); less = omega (arith, fewer, same, of_it, asks, pass, keys) }
+        record {
+          stage = InPass (none_told x request reply caches none given.ask) still;
+          owing =
+              IsFree (none_told x request reply caches none given.ask);
+          less = omega (arith, fewer, same, of_it, asks, pass, keys);
+        }
       where
         role : (told_to x caches request reply).role ≡ x.role
         role = answer_role x caches request (Told reply)
@@ -216,10 +231,13 @@ module _ (setup : Setup) (seat base high : ℕ) (x : ActorState) (request : Requ
         keys : key_calls (told_to x caches request reply).role.kind ≡ key_calls x.role.kind
         keys = ap (λ (r : Role). key_calls r.kind) role
 
-        still : ReachedBehind setup seat (world setup (told_entry seat x request reply ∷ h)).store.version (told_to x caches request reply).role (told_to x caches request reply).pass (told_entry seat x request reply ∷ h)
-        still place kind from lt there is = let reaches = behind_on setup seat (world setup h).store.version x request reply h given (omega arith) behind caches place kind from lt there is in let same = version in omega (arith, reaches, same)
+        still : ReachedBehind setup seat (world setup (told_entry seat x request reply ∷ h)).store.version (told_to x caches request reply).role
+            (told_to x caches request reply).pass (told_entry seat x request reply ∷ h)
+        still place kind from lt there is = let reaches =
+            behind_on setup seat (world setup h).store.version x request reply h given (omega arith) behind caches place kind from lt there is in let same = version in omega (arith, reaches, same)
 
-  pub calls_pay : (caches : AllKnown) (stage : Stage setup seat x h) (owing : Owing setup seat x h) → IsLess setup seat high (told_to x caches request reply) (told_entry seat x request reply ∷ h) 1 (sure_left setup seat high x h stage owing)
+  pub calls_pay : (caches : AllKnown) (stage : Stage setup seat x h) (owing : Owing setup seat x h)
+      → IsLess setup seat high (told_to x caches request reply) (told_entry seat x request reply ∷ h) 1 (sure_left setup seat high x h stage owing)
   calls_pay caches (InPass none behind) owing = by (given_so x request given.ask)
     where
       by : GivenSo x → IsLess setup seat high (told_to x caches request reply) (told_entry seat x request reply ∷ h) 1 (sure_left setup seat high x h (InPass none behind) owing)

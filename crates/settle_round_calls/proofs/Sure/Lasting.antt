@@ -1,6 +1,6 @@
 -- What such an actor calls for goes to the store, so a call of it that lasts is a write that was done.
 use Rattle.std.proofs.Common.{◌≡◌, ◌∙◌, ◌⊎◌, ◌+◌, List, Bool, true, false, true≢false, Some, inl, inr, refl, sym, ap, subst}
-use Rattle.kube_types.specs.declared.objects.Object.{Object}
+use Rattle.kube_objects.specs.declared.objects.Object.{Object}
 use Rattle.call_types.specs.declared.entry.Entry.{Entry}
 use Rattle.call_types.specs.declared.request.Request.{Request}
 use Rattle.call_types.specs.declared.request.Request.TheVariants as requests
@@ -105,7 +105,8 @@ written_rises w (OnStore (Removes x)) o written = refl
 written_rises w (OnDevices a) o written = none_some written
 written_rises w (SetsMoment at) o written = none_some written
 
-pub lasting_rises : (setup : Setup) (w : World) (kind : SeatKind) (mine : List Entry) (request : Request) → begins_to_last kind ≡ true → Licensed kind mine request → Lasts setup w kind request → (world_after w (effect setup w kind request)).store.version ≡ w.store.version + 1
+pub lasting_rises : (setup : Setup) (w : World) (kind : SeatKind) (mine : List Entry) (request : Request) → begins_to_last kind ≡ true
+    → Licensed kind mine request → Lasts setup w kind request → (world_after w (effect setup w kind request)).store.version ≡ w.store.version + 1
 lasting_rises setup w kind mine request sure may lasts = by (is_aside request) refl
   where
     stored : (x : Outcome) × ((effect setup w kind request ≡ OnStore x) × IsCalm w.store.rows x) → (world_after w (effect setup w kind request)).store.version ≡ w.store.version + 1

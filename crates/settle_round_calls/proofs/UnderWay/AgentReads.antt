@@ -4,14 +4,14 @@ use Rattle.std.proofs.Common.{◌≡◌, ◌∙◌, ℕ, ◌+◌, ◌*◌, ◌�
 use Rattle.std.specs.Prelude.{◌&&◌, ◌||◌, bytes_eq, cond, option_map}
 use Rattle.std.specs.Ordering.{is_eq}
 use Rattle.std.proofs.lemmas.Slice.Eq.{bytes_eq-Decides}
-use Rattle.kube_types.specs.declared.key.Key.{Key}
-use Rattle.kube_types.specs.declared.objects.Claim.{Claim as ClaimData}
-use Rattle.kube_types.specs.declared.objects.Object.{Object}
-use Rattle.kube_types.specs.declared.objects.Object.TheVariants.{Class, Node, Volume, Claim, Pod}
-use Rattle.kube_types.specs.declared.uid.Uid.{Uid}
-use Rattle.kube_types.specs.Bindings.{carries, has_name}
-use Rattle.kube_types.specs.Keys.{key_cmp, key_of, row_at}
-use Rattle.kube_types.proofs.KeyOrder.{row_at_key}
+use Rattle.kube_objects.specs.declared.key.Key.{Key}
+use Rattle.kube_objects.specs.declared.objects.Claim.{Claim as ClaimData}
+use Rattle.kube_objects.specs.declared.objects.Object.{Object}
+use Rattle.kube_objects.specs.declared.objects.Object.TheVariants.{Class, Node, Volume, Claim, Pod}
+use Rattle.kube_parts.specs.declared.uid.Uid.{Uid}
+use Rattle.kube_objects.specs.Bindings.{carries, has_name}
+use Rattle.kube_objects.specs.Keys.{key_cmp, key_of, row_at}
+use Rattle.kube_objects.proofs.KeyOrder.{row_at_key}
 use Rattle.call_types.specs.declared.reply.Reply.{Reply}
 use Rattle.call_types.specs.declared.reply.Reply.TheVariants as replies
 use Rattle.call_types.specs.declared.request.Request.{Request}
@@ -82,7 +82,9 @@ names_more (x ∷ ready) r = ap (λ ns. x.claim ∷ ns) (names_more ready r)
 
 module _ (namespace name : List ℕ) (names : List (List ℕ)) where
   less : (o : Object) → unread namespace (names ++ name ∷ []) o ≤ unread namespace names o
-  less (Claim c) = subst (λ b. unless (bytes_eq c.meta.namespace namespace && b) 1 ≤ unless (bytes_eq c.meta.namespace namespace && has_name c.meta.name names) 1) (sym (named_more c.meta.name name names)) (by (bytes_eq c.meta.namespace namespace) (has_name c.meta.name names) (bytes_eq name c.meta.name))
+  less (Claim c) = subst (λ b. unless (bytes_eq c.meta.namespace namespace && b) 1 ≤ unless
+      (bytes_eq c.meta.namespace namespace && has_name c.meta.name names) 1) (sym (named_more c.meta.name name names))
+      (by (bytes_eq c.meta.namespace namespace) (has_name c.meta.name names) (bytes_eq name c.meta.name))
     where
       by : (a b d : Bool) → unless (a && (b || d)) 1 ≤ unless (a && b) 1
       by true true d = omega arith
@@ -113,7 +115,8 @@ module _ (namespace name : List ℕ) (names : List (List ℕ)) where
       by true true d ha hb hd = absurd (true≢false hb)
       by true false false ha hb hd = absurd (true≢false (sym hd))
 
-  found_less : (rows : List Object) (c : ClaimData) → row_at (claim_key namespace name) rows ≡ Some (Claim c) → has_name name names ≡ false → unread_in namespace (names ++ name ∷ []) rows + 1 ≤ unread_in namespace names rows
+  found_less : (rows : List Object) (c : ClaimData) → row_at (claim_key namespace name) rows ≡ Some (Claim c) → has_name name names ≡ false
+      → unread_in namespace (names ++ name ∷ []) rows + 1 ≤ unread_in namespace names rows
   found_less [] c there none = none_some there
   found_less (x ∷ xs) c there none = by (is_eq (key_cmp (key_of x) (claim_key namespace name))) there (λ later. found_less xs c later none)
     where
@@ -121,7 +124,9 @@ module _ (namespace name : List ℕ) (names : List (List ℕ)) where
           → (row_at (claim_key namespace name) xs ≡ Some (Claim c) → unread_in namespace (names ++ name ∷ []) xs + 1 ≤ unread_in namespace names xs)
           → unread_in namespace (names ++ name ∷ []) (x ∷ xs) + 1 ≤ unread_in namespace names (x ∷ xs)
       by true is rest =
-          let first : unread namespace (names ++ name ∷ []) x + 1 ≤ unread namespace names x = subst (λ o. unread namespace (names ++ name ∷ []) o + 1 ≤ unread namespace names o) (sym (one x (Claim c) is)) (one_less c (row_at_key (claim_key namespace name) (Claim c) (x ∷ xs) there) none) in
+          let first : unread namespace (names ++ name ∷ []) x + 1 ≤ unread namespace names x =
+          subst (λ o. unread namespace (names ++ name ∷ []) o + 1 ≤ unread namespace names o) (sym (one x (Claim c) is))
+          (one_less c (row_at_key (claim_key namespace name) (Claim c) (x ∷ xs) there) none) in
           let others = all_less xs in
           omega (arith, first, others)
       by false is rest =
@@ -211,7 +216,8 @@ module _ (rows : List Object) (op : AgentOp) where
           reads true e = omega arith
           reads false e = low (has_name n (names_of (op.ready ++ r ∷ []))) (ready_named n (op.ready ++ r ∷ []) ∙ e)
 
-      by : (x : Option ReadyClaim) → ready_by (steps.ReadsVolume name c) reply ≡ x → calls_left rows (tasks.Agent (agent_after op (steps.ReadsVolume name c) x reply)) + 1 ≤ left_at (steps.ReadsVolume name c)
+      by : (x : Option ReadyClaim) → ready_by (steps.ReadsVolume name c) reply ≡ x
+          → calls_left rows (tasks.Agent (agent_after op (steps.ReadsVolume name c) x reply)) + 1 ≤ left_at (steps.ReadsVolume name c)
       by None e = omega arith
       by (Some r) e = next r (named_so name c reply r e) _
 
@@ -233,7 +239,8 @@ agent_goes rows later op (steps.ReadsClaim name) request reply call read =
     subst (λ os. left_at os op (after_claim name op.ready reply) + 1 ≤ left_at rows op (steps.ReadsClaim name)) (sym r.0) (claim_goes rows op name reply r.1)
 agent_goes rows later op (steps.ReadsVolume name c) request reply call read =
     let r = read _ (sym (one _ request call)) in
-    subst (λ os. calls_left os (tasks.Agent (agent_after op (steps.ReadsVolume name c) (ready_by (steps.ReadsVolume name c) reply) reply)) + 1 ≤ left_at rows op (steps.ReadsVolume name c)) (sym r.0) (volume_goes rows op name c reply)
+    subst (λ os. calls_left os (tasks.Agent (agent_after op (steps.ReadsVolume name c) (ready_by (steps.ReadsVolume name c) reply) reply)) + 1 ≤
+    left_at rows op (steps.ReadsVolume name c)) (sym r.0) (volume_goes rows op name c reply)
 agent_goes rows later op steps.MountsPod request (replies.Refused refusal) call read = omega arith
 agent_goes rows later op steps.MountsPod request _ call read = omega arith
 agent_goes rows later op steps.Unmounts request (replies.Mounted mounts) call read = omega arith

@@ -3,16 +3,16 @@ use Rattle.std.proofs.Common.{◌≡◌, ◌∙◌, ℕ, ◌+◌, ◌≤◌, Lis
 use Rattle.std.specs.Prelude.{◌&&◌, ◌||◌, bytes_eq, is_none, is_some, not}
 use Rattle.std.proofs.lemmas.Bool.{and_from}
 use Rattle.std.proofs.lemmas.Slice.Eq.{bytes_eq-Decides}
-use Rattle.kube_types.specs.declared.uid.Uid.{Uid}
-use Rattle.kube_types.specs.declared.parts.ClaimPhase.TheVariants as claims
-use Rattle.kube_types.specs.declared.parts.VolumePhase.TheVariants as volumes
-use Rattle.kube_types.specs.declared.objects.Claim.{Claim as ClaimData}
-use Rattle.kube_types.specs.declared.objects.Ref.{Ref}
-use Rattle.kube_types.specs.declared.objects.Volume.{Volume as VolumeData}
-use Rattle.kube_types.specs.declared.objects.Object.{Object}
-use Rattle.kube_types.specs.declared.objects.Object.TheVariants.{Class, Node, Volume, Claim, Pod}
-use Rattle.kube_types.specs.Bindings.{bind_completed, bound_by_controller, carries, is_bound, is_completed, is_empty, is_ended, is_for, is_protected_volume, refers_carrying, yes}
-use Rattle.kube_types.specs.Keys.{key_of}
+use Rattle.kube_parts.specs.declared.uid.Uid.{Uid}
+use Rattle.kube_parts.specs.declared.parts.ClaimPhase.TheVariants as claims
+use Rattle.kube_parts.specs.declared.parts.VolumePhase.TheVariants as volumes
+use Rattle.kube_objects.specs.declared.objects.Claim.{Claim as ClaimData}
+use Rattle.kube_objects.specs.declared.objects.Ref.{Ref}
+use Rattle.kube_objects.specs.declared.objects.Volume.{Volume as VolumeData}
+use Rattle.kube_objects.specs.declared.objects.Object.{Object}
+use Rattle.kube_objects.specs.declared.objects.Object.TheVariants.{Class, Node, Volume, Claim, Pod}
+use Rattle.kube_objects.specs.Bindings.{bind_completed, bound_by_controller, carries, is_bound, is_completed, is_empty, is_ended, is_for, is_protected_volume, refers_carrying, yes}
+use Rattle.kube_objects.specs.Keys.{key_of}
 use Rattle.call_types.specs.declared.entry.Entry.{Entry}
 use Rattle.call_types.specs.declared.reply.Reply.TheVariants as replies
 use Rattle.call_types.specs.declared.request.Request.{Request}
@@ -20,7 +20,20 @@ use Rattle.call_types.specs.declared.request.NewStatus.TheVariants as statuses
 use Rattle.call_types.specs.declared.request.SeatKind.{SeatKind}
 use Rattle.call_types.specs.declared.setup.Setup.{Setup}
 use Rattle.binder_model.specs.Answers.{with_status}
-use Rattle.binder_model.specs.BindWrites.{annotated_meta_if, claim_write, completed_with, is_completed_with, next_write, ref_to, shows_bound, taken_for, write_bound, write_claim_status, write_completion, write_reference}
+use Rattle.binder_model.specs.BindWrites.{
+  annotated_meta_if,
+  claim_write,
+  completed_with,
+  is_completed_with,
+  next_write,
+  ref_to,
+  shows_bound,
+  taken_for,
+  write_bound,
+  write_claim_status,
+  write_completion,
+  write_reference,
+}
 use Rattle.binder_model.specs.ObjectKeys.{claim_key, volume_key}
 use Rattle.binder_model.specs.Same.{same_amount, same_modes}
 use Rattle.binder_model.specs.Store.{at_version, updated_object, with_meta, with_status_of}
@@ -56,7 +69,9 @@ unfolding next_write claim_write
 stage v c call e = by (carries v c) (is_ended v.phase) (is_bound v.phase) (is_protected_volume v) (is_completed_with c v) (shows_bound c v) refl refl refl refl e
   where
     by : (carrying ended bound guarded completed shown : Bool) → carries v c ≡ carrying → is_bound v.phase ≡ bound → is_completed_with c v ≡ completed → shows_bound c v ≡ shown
-        → (if not carrying then (if ended then None else Some (write_reference v c)) else if not bound then (if ended || not guarded then None else Some (write_bound v)) else if not completed then Some (write_completion v c) else if not shown then Some (write_claim_status v c) else None) ≡ Some call
+        → (if not carrying then (if ended then None else Some (write_reference v c)) else if not bound then
+        (if ended || not guarded then None else Some (write_bound v)) else if not completed then Some
+        (write_completion v c) else if not shown then Some (write_claim_status v c) else None) ≡ Some call
         → Stage v c call
     by false true bound guarded completed shown ec eb ed es n = none_some n
     by false false bound guarded completed shown ec eb ed es n = First ec (sym (one _ call n))
@@ -83,7 +98,8 @@ next_of v c call e = by c.meta.uid v.meta.namespace refl refl e
     of false is = none_some is
 
     by : (u : Option Uid) (n : List ℕ) → c.meta.uid ≡ u → v.meta.namespace ≡ n
-        → (if is_some u && is_empty n && (is_none v.claim_ref || is_for v c) && (is_empty c.volume_name || bytes_eq c.volume_name v.meta.name) then next_write v c else None) ≡ Some call → IsNextOf v c call
+        → (if is_some u && is_empty n && (is_none v.claim_ref || is_for v c) &&
+        (is_empty c.volume_name || bytes_eq c.volume_name v.meta.name) then next_write v c else None) ≡ Some call → IsNextOf v c call
     by None n eu en is = none_some is
     by (Some uid) (x ∷ xs) eu en is = none_some is
     by (Some uid) [] eu en is = record { uid = uid; has = eu; bare = en; at = stage v c call (of _ is) }
@@ -157,7 +173,8 @@ abbrev ref_in : Object → Option Ref
 ref_in (Volume v) = v.claim_ref
 ref_in o = None
 
-taken_ref : (v : VolumeData) (c : ClaimData) (old : Object) (n : ℕ) → (ref_in (updated_object old (Volume (taken_for v c)) n) ≡ Some (ref_to c)) × (claim_in (updated_object old (Volume (taken_for v c)) n) ≡ None)
+taken_ref : (v : VolumeData) (c : ClaimData) (old : Object) (n : ℕ) → (ref_in (updated_object old (Volume (taken_for v c)) n) ≡ Some (ref_to c))
+    × (claim_in (updated_object old (Volume (taken_for v c)) n) ≡ None)
 unfolding updated_object with_meta with_status_of taken_for
 taken_ref v c (Volume x) n = (refl, refl)
 taken_ref v c (Claim x) n = (refl, refl)
@@ -173,9 +190,11 @@ done_is : (c x : ClaimData) (old : Object) (n : ℕ) → old ≡ Claim c → upd
 unfolding updated_object with_meta with_status_of
 done_is c x old n same = ap (λ o. updated_object o (Claim x) n) same
 
-shown_is : (v : VolumeData) (c : ClaimData) (old new : Object) (n : ℕ) → old ≡ Claim c → with_status (statuses.Claim claims.Bound v.modes (Some v.amount)) old ≡ Some new → at_version new n ≡ Claim (with_claim_status c claims.Bound v.modes (Some v.amount) n)
+shown_is : (v : VolumeData) (c : ClaimData) (old new : Object) (n : ℕ) → old ≡ Claim c
+    → with_status (statuses.Claim claims.Bound v.modes (Some v.amount)) old ≡ Some new → at_version new n ≡ Claim (with_claim_status c claims.Bound v.modes (Some v.amount) n)
 unfolding with_status at_version with_meta
-shown_is v c old new n same fits = ap (λ o. at_version o n) (sym (one (Claim (record c { phase = claims.Bound; got_modes = v.modes; got = Some v.amount })) new (ap (with_status (statuses.Claim claims.Bound v.modes (Some v.amount))) (sym same) ∙ fits)))
+shown_is v c old new n same fits = ap (λ o. at_version o n) (sym
+    (one (Claim (record c { phase = claims.Bound; got_modes = v.modes; got = Some v.amount })) new (ap (with_status (statuses.Claim claims.Bound v.modes (Some v.amount))) (sym same) ∙ fits)))
 
 done_key : (v : VolumeData) (c : ClaimData) → key_of (Claim c) ≡ key_of (Claim (completed_with c v))
 unfolding completed_with
@@ -194,12 +213,14 @@ module _ (v : VolumeData) (c : ClaimData) (n : ℕ) where
 
   done_completed : is_completed_with done_claim v ≡ true
   unfolding completed_with
-  done_completed = and_from (is_completed done_claim) (bytes_eq v.meta.name v.meta.name) (ap is_some (value_put bind_completed yes (annotated_meta_if (is_empty c.volume_name) bound_by_controller c.meta).annotations)) ((bytes_eq-Decides v.meta.name v.meta.name).1 refl)
+  done_completed = and_from (is_completed done_claim) (bytes_eq v.meta.name v.meta.name)
+      (ap is_some (value_put bind_completed yes (annotated_meta_if (is_empty c.volume_name) bound_by_controller c.meta).annotations)) ((bytes_eq-Decides v.meta.name v.meta.name).1 refl)
 
 -- ---- what a write leaves of the binding
 
 -- the volume or the claim as it was answered takes the place of the one that was written
-next_left : (v : VolumeData) (c : ClaimData) (o : Object) (k : ℕ) → ((w : VolumeData) → volume_in o ≡ Some w → binds_left w c ≤ k) → ((d : ClaimData) → claim_in o ≡ Some d → binds_left v d ≤ k) → machine_if (moved (Binds v c) (replies.Done o)) ≤ k
+next_left : (v : VolumeData) (c : ClaimData) (o : Object) (k : ℕ) → ((w : VolumeData) → volume_in o ≡ Some w → binds_left w c ≤ k)
+    → ((d : ClaimData) → claim_in o ≡ Some d → binds_left v d ≤ k) → machine_if (moved (Binds v c) (replies.Done o)) ≤ k
 unfolding moved
 next_left v c (Volume w) k volume claim = volume w refl
 next_left v c (Claim d) k volume claim = claim d refl
@@ -214,7 +235,8 @@ ref_of (Class x) w e = none_some e
 ref_of (Node x) w e = none_some e
 ref_of (Pod x) w e = none_some e
 
-module _ (setup : Setup) (seat : ℕ) (h : List Entry) (history : IsHistory setup h) (kind : SeatKind) (v : VolumeData) (c : ClaimData) (o : Object) (volume : ToldThis v (own seat h)) (claim : ToldThisClaim c (own seat h)) where
+module _ (setup : Setup) (seat : ℕ) (h : List Entry) (history : IsHistory setup h) (kind : SeatKind) (v : VolumeData) (c : ClaimData) (o : Object)
+    (volume : ToldThis v (own seat h)) (claim : ToldThisClaim c (own seat h)) where
   is_volume : (x : Object) → IsVolumeWith (λ u. u ≡ v) x → x ≡ Volume v
   is_volume (Volume u) e = ap (λ y. Volume y) e
   is_volume (Class x) e = absurd e
@@ -245,7 +267,8 @@ module _ (setup : Setup) (seat : ℕ) (h : List Entry) (history : IsHistory setu
   first uid has free u =
       let made = taken_ref v c u.old n in
       let few = next_left v c o 3
-      (λ w e. left_three (carries w c) (is_bound w.phase) (is_completed_with c w) (shows_bound c w) (ap (λ r. refers_carrying r c) (sym (ref_of o w e) ∙ (ap ref_in u.is ∙ made.0)) ∙ refers_to c uid has))
+      (λ w e. left_three (carries w c) (is_bound w.phase) (is_completed_with c w) (shows_bound c w)
+      (ap (λ r. refers_carrying r c) (sym (ref_of o w e) ∙ (ap ref_in u.is ∙ made.0)) ∙ refers_to c uid has))
       (λ d e. none_some (sym (ap claim_in u.is ∙ made.1) ∙ e)) in
       let all = is_four (carries v c) (is_bound v.phase) (is_completed_with c v) (shows_bound c v) free in
       omega (arith, few, all)
@@ -255,7 +278,8 @@ module _ (setup : Setup) (seat : ℕ) (h : List Entry) (history : IsHistory setu
       let keyed : key_of (Volume v) ≡ volume_key v.meta.name = rw bare refl in
       let is : o ≡ Volume (phased v volumes.Bound n) = i.is ∙ bound_is v i.old i.new n (stands_it setup h (Volume v) i.old (volume_key v.meta.name) volume_stood keyed i.there i.version) i.fits in
       let few = next_left v c o 2
-      (λ w e. subst (λ x. binds_left x c ≤ 2) (one (phased v volumes.Bound n) w (sym (ap volume_in is) ∙ e)) (left_two (carries v c) true (is_completed_with c (phased v volumes.Bound n)) (shows_bound c (phased v volumes.Bound n)) carried refl))
+      (λ w e. subst (λ x. binds_left x c ≤ 2) (one (phased v volumes.Bound n) w (sym (ap volume_in is) ∙ e))
+      (left_two (carries v c) true (is_completed_with c (phased v volumes.Bound n)) (shows_bound c (phased v volumes.Bound n)) carried refl))
       (λ d e. none_some (sym (ap claim_in is) ∙ e)) in
       let all = is_three (carries v c) (is_bound v.phase) (is_completed_with c v) (shows_bound c v) carried open_ in
       omega (arith, few, all)
@@ -263,22 +287,26 @@ module _ (setup : Setup) (seat : ℕ) (h : List Entry) (history : IsHistory setu
   third : carries v c ≡ true → is_bound v.phase ≡ true → is_completed_with c v ≡ false → Fewer (write_completion v c)
   third carried bound open_ u =
       let keyed = done_key v c in
-      let is : o ≡ Claim (rewritten_claim c (completed_with c v) n) = u.is ∙ done_is c (completed_with c v) u.old n (stands_it setup h (Claim c) u.old (key_of (Claim (completed_with c v))) claim_stood keyed u.there u.version) in
+      let is : o ≡ Claim (rewritten_claim c (completed_with c v) n) = u.is
+      ∙ done_is c (completed_with c v) u.old n (stands_it setup h (Claim c) u.old (key_of (Claim (completed_with c v))) claim_stood keyed u.there u.version) in
       let few = next_left v c o 1
       (λ w e. none_some (sym (ap volume_in is) ∙ e))
       (λ d e. subst (λ x. binds_left v x ≤ 1) (one (rewritten_claim c (completed_with c v) n) d (sym (ap claim_in is) ∙ e))
-      (left_one (carries v (rewritten_claim c (completed_with c v) n)) (is_bound v.phase) (is_completed_with (rewritten_claim c (completed_with c v) n) v) (shows_bound (rewritten_claim c (completed_with c v) n) v) (done_carried v c n ∙ carried) bound (done_completed v c n))) in
+      (left_one (carries v (rewritten_claim c (completed_with c v) n)) (is_bound v.phase)
+      (is_completed_with (rewritten_claim c (completed_with c v) n) v) (shows_bound (rewritten_claim c (completed_with c v) n) v) (done_carried v c n ∙ carried) bound (done_completed v c n))) in
       let all = is_two (carries v c) (is_bound v.phase) (is_completed_with c v) (shows_bound c v) carried bound open_ in
       omega (arith, few, all)
 
   fourth : carries v c ≡ true → is_bound v.phase ≡ true → is_completed_with c v ≡ true → shows_bound c v ≡ false → Fewer (write_claim_status v c)
   fourth carried bound completed open_ i =
-      let is : o ≡ Claim (with_claim_status c claims.Bound v.modes (Some v.amount) n) = i.is ∙ shown_is v c i.old i.new n (stands_it setup h (Claim c) i.old (claim_key c.meta.namespace c.meta.name) claim_stood refl i.there i.version) i.fits in
+      let is : o ≡ Claim (with_claim_status c claims.Bound v.modes (Some v.amount) n) = i.is
+      ∙ shown_is v c i.old i.new n (stands_it setup h (Claim c) i.old (claim_key c.meta.namespace c.meta.name) claim_stood refl i.there i.version) i.fits in
       let shows = and_from (same_modes v.modes v.modes) (same_amount v.amount v.amount) ((same_modes-Decides v.modes v.modes).1 refl) ((same_amount-Decides v.amount v.amount).1 refl) in
       let few = next_left v c o 0
       (λ w e. none_some (sym (ap volume_in is) ∙ e))
       (λ d e. subst (λ x. binds_left v x ≤ 0) (one (with_claim_status c claims.Bound v.modes (Some v.amount) n) d (sym (ap claim_in is) ∙ e))
-      (left_none (carries v (with_claim_status c claims.Bound v.modes (Some v.amount) n)) (is_bound v.phase) (is_completed_with (with_claim_status c claims.Bound v.modes (Some v.amount) n) v) (shows_bound (with_claim_status c claims.Bound v.modes (Some v.amount) n) v)
+      (left_none (carries v (with_claim_status c claims.Bound v.modes (Some v.amount) n)) (is_bound v.phase)
+      (is_completed_with (with_claim_status c claims.Bound v.modes (Some v.amount) n) v) (shows_bound (with_claim_status c claims.Bound v.modes (Some v.amount) n) v)
       (carries_alike v c (with_claim_status c claims.Bound v.modes (Some v.amount) n) refl refl refl ∙ carried) bound completed shows)) in
       let all = is_one (carries v c) (is_bound v.phase) (is_completed_with c v) (shows_bound c v) carried bound completed open_ in
       omega (arith, few, all)

@@ -1,13 +1,13 @@
 -- What is under way ends, call by call: each answer leaves it fewer calls and writes.
 use Rattle.std.proofs.Common.{◌≡◌, ◌∙◌, ◌⊎◌, ℕ, ◌+◌, ◌*◌, ◌≤◌, List, [], ◌∷◌, Bool, true, false, Option, Some, None, inl, inr, refl, sym, ap, subst, arith, if◌then◌else◌}
 use Rattle.std.specs.Prelude.{nat_lt, option_map}
-use Rattle.kube_types.specs.declared.key.Key.{Key}
-use Rattle.kube_types.specs.declared.objects.Claim.{Claim as ClaimData}
-use Rattle.kube_types.specs.declared.objects.Volume.{Volume as VolumeData}
-use Rattle.kube_types.specs.declared.objects.Object.{Object}
-use Rattle.kube_types.specs.declared.objects.Object.TheVariants.{Class, Node, Volume, Claim, Pod}
-use Rattle.kube_types.specs.Bindings.{carries, has_name, is_bound}
-use Rattle.kube_types.specs.Keys.{put_row}
+use Rattle.kube_objects.specs.declared.key.Key.{Key}
+use Rattle.kube_objects.specs.declared.objects.Claim.{Claim as ClaimData}
+use Rattle.kube_objects.specs.declared.objects.Volume.{Volume as VolumeData}
+use Rattle.kube_objects.specs.declared.objects.Object.{Object}
+use Rattle.kube_objects.specs.declared.objects.Object.TheVariants.{Class, Node, Volume, Claim, Pod}
+use Rattle.kube_objects.specs.Bindings.{carries, has_name, is_bound}
+use Rattle.kube_objects.specs.Keys.{put_row}
 use Rattle.call_types.specs.declared.entry.Entry.{Entry}
 use Rattle.call_types.specs.declared.reply.Reply.{Reply}
 use Rattle.call_types.specs.declared.reply.Reply.TheVariants as replies
@@ -61,7 +61,26 @@ use Rattle.settle_round_calls.specs.UnderWay.Ends.{AndGoesOn, AreFew, EndsThere,
 use Rattle.settle_round_calls.specs.UnderWay.Reads.{calls_left, names_of, reads_left, under_calls, unread_in}
 use Rattle.settle_round_calls.proofs.UnderWay.AgentReads.{calls_end, few}
 use Rattle.settle_round_calls.proofs.UnderWay.Binding.{binds_done, binds_some, binds_wrote}
-use Rattle.settle_round_calls.proofs.UnderWay.Counts.{agent_ends, binds_left, erase_ends, guard_ends, low_claim, low_volume, machine_if, machine_stays, machine_writes, machine_wrote, provision_ends, task_volumes, task_writes, under_by, volume_ends, volume_few, with_few, with_none}
+use Rattle.settle_round_calls.proofs.UnderWay.Counts.{
+  agent_ends,
+  binds_left,
+  erase_ends,
+  guard_ends,
+  low_claim,
+  low_volume,
+  machine_if,
+  machine_stays,
+  machine_writes,
+  machine_wrote,
+  provision_ends,
+  task_volumes,
+  task_writes,
+  under_by,
+  volume_ends,
+  volume_few,
+  with_few,
+  with_none,
+}
 use Rattle.settle_round_calls.proofs.UnderWay.Scheduling.{LeavesFewer, TaskIsOld, kept_old, schedule_ends, schedule_wrote, task_old}
 use Rattle.settle_round_calls.proofs.UnderWay.Walk.{Ended, Further, Made, Moves, There, none_made, walk}
 
@@ -107,7 +126,8 @@ record LeavesNoMore (base : ℕ) (old new : List Object) (t : Task) (x : Option 
   writes : under_by (task_writes base new) x ≤ task_writes base old t
   volumes : under_by (task_volumes base new) x ≤ task_volumes base old t
 
-binds_stay : (v : VolumeData) (c : ClaimData) (request : Request) (reply : Reply) → call_of (Binds v c) ≡ Some request → done_by request reply ≡ 0 → machine_if (moved (Binds v c) reply) ≤ binds_left v c
+binds_stay : (v : VolumeData) (c : ClaimData) (request : Request) (reply : Reply) → call_of (Binds v c) ≡ Some request → done_by request reply ≡ 0
+    → machine_if (moved (Binds v c) reply) ≤ binds_left v c
 unfolding moved
 binds_stay v c request (replies.Done (Volume w)) call none = let d = binds_done v c request (Volume w) call in absurd (omega (arith, d, none))
 binds_stay v c request (replies.Done (Claim w)) call none = let d = binds_done v c request (Claim w) call in absurd (omega (arith, d, none))
@@ -125,20 +145,40 @@ binder_stays (ReadsClaim v) request reply call none = machine_stays (ReadsClaim 
 binder_stays (ReadsVolume c) request reply call none = machine_stays (ReadsVolume c) reply refl
 
 module _ (base : ℕ) (rows : List Object) (key : Key) where
-  machine_under : (x : Option Machine) (k : ℕ) → machine_if x ≤ k → (under_by (task_writes base rows) (with_task key (option_map (λ m. tasks.Binder m) x)) ≤ k) × (under_by (task_volumes base rows) (with_task key (option_map (λ m. tasks.Binder m) x)) ≤ k)
+  machine_under : (x : Option Machine) (k : ℕ) → machine_if x ≤ k
+      → (under_by (task_writes base rows) (with_task key (option_map (λ m. tasks.Binder m) x)) ≤ k) × (under_by (task_volumes base rows) (with_task key (option_map (λ m. tasks.Binder m) x)) ≤ k)
   machine_under None k low = (omega arith, omega arith)
   machine_under (Some m) k low =
       let a = with_few (task_writes base rows) key (tasks.Binder m) (task_call (tasks.Binder m)) in
       let b = with_few (task_volumes base rows) key (tasks.Binder m) (task_call (tasks.Binder m)) in
       (omega (arith, a, low), omega (arith, b, low))
 
-  stays_few : (old : List Object) → rows ≡ old → (t : Task) (request : Request) (reply : Reply) → task_call t ≡ Some request → done_by request reply ≡ 0 → LeavesNoMore base old rows t (with_task key (task_moved t reply))
-  stays_few old same (tasks.Binder m) request reply call none = let h = machine_under (moved m reply) (machine_writes m) (binder_stays m request reply call none) in record { writes = h.0; volumes = h.1 }
-  stays_few old same (tasks.ClaimProtect op) request reply call none = record { writes = with_few (task_writes base rows) key (tasks.ClaimProtect (claim_moved op reply)) _; volumes = with_few (task_volumes base rows) key (tasks.ClaimProtect (claim_moved op reply)) _ }
-  stays_few old same (tasks.VolumeProtect op) request reply call none = record { writes = with_few (task_writes base rows) key (tasks.VolumeProtect (volume_moved op reply)) _; volumes = with_few (task_volumes base rows) key (tasks.VolumeProtect (volume_moved op reply)) _ }
-  stays_few old same (tasks.Agent op) request reply call none = record { writes = with_few (task_writes base rows) key (tasks.Agent (agent_moved op reply)) _; volumes = with_few (task_volumes base rows) key (tasks.Agent (agent_moved op reply)) _ }
-  stays_few old same (tasks.Provision op) request reply call none = record { writes = with_few (task_writes base rows) key (tasks.Provision (provision_moved op reply)) _; volumes = with_few (task_volumes base rows) key (tasks.Provision (provision_moved op reply)) _ }
-  stays_few old same (tasks.Erase op) request reply call none = record { writes = with_few (task_writes base rows) key (tasks.Erase (erase_moved op reply)) _; volumes = with_few (task_volumes base rows) key (tasks.Erase (erase_moved op reply)) _ }
+  stays_few : (old : List Object) → rows ≡ old → (t : Task) (request : Request) (reply : Reply) → task_call t ≡ Some request
+      → done_by request reply ≡ 0 → LeavesNoMore base old rows t (with_task key (task_moved t reply))
+  stays_few old same (tasks.Binder m) request reply call none = let h =
+      machine_under (moved m reply) (machine_writes m) (binder_stays m request reply call none) in record { writes = h.0; volumes = h.1 }
+  stays_few old same (tasks.ClaimProtect op) request reply call none =
+      record {
+        writes = with_few (task_writes base rows) key (tasks.ClaimProtect (claim_moved op reply)) _;
+        volumes =
+            with_few (task_volumes base rows) key (tasks.ClaimProtect (claim_moved op reply)) _;
+      }
+  stays_few old same (tasks.VolumeProtect op) request reply call none =
+      record {
+        writes = with_few (task_writes base rows) key (tasks.VolumeProtect (volume_moved op reply)) _;
+        volumes =
+            with_few (task_volumes base rows) key (tasks.VolumeProtect (volume_moved op reply)) _;
+      }
+  stays_few old same (tasks.Agent op) request reply call none =
+      record { writes = with_few (task_writes base rows) key (tasks.Agent (agent_moved op reply)) _; volumes = with_few (task_volumes base rows) key (tasks.Agent (agent_moved op reply)) _ }
+  stays_few old same (tasks.Provision op) request reply call none =
+      record {
+        writes = with_few (task_writes base rows) key (tasks.Provision (provision_moved op reply)) _;
+        volumes =
+            with_few (task_volumes base rows) key (tasks.Provision (provision_moved op reply)) _;
+      }
+  stays_few old same (tasks.Erase op) request reply call none =
+      record { writes = with_few (task_writes base rows) key (tasks.Erase (erase_moved op reply)) _; volumes = with_few (task_volumes base rows) key (tasks.Erase (erase_moved op reply)) _ }
   stays_few old same (tasks.Schedule op) request reply call none =
       let a = with_few (task_writes base rows) key (tasks.Schedule (schedule_moved op reply)) (task_call (tasks.Schedule (schedule_moved op reply))) in
       let b = with_few (task_volumes base rows) key (tasks.Schedule (schedule_moved op reply)) (task_call (tasks.Schedule (schedule_moved op reply))) in
@@ -161,7 +201,8 @@ volume_left _ o = refl
 
 module _ (base : ℕ) (old rows : List Object) (key : Key) (request : Request) where
   -- a task of one write has ended
-  ended : (t next : Task) (reply : Reply) → 1 ≤ task_writes base old t → volume_write request reply ≤ task_volumes base old t → task_call next ≡ None → LeavesFewer base old rows t request reply (with_call key next (task_call next))
+  ended : (t next : Task) (reply : Reply) → 1 ≤ task_writes base old t → volume_write request reply ≤ task_volumes base old t → task_call next ≡ None
+      → LeavesFewer base old rows t request reply (with_call key next (task_call next))
   ended t next reply some volumes none =
       let a = with_none (task_writes base rows) key next (task_call next) none in
       let b = with_none (task_volumes base rows) key next (task_call next) none in
@@ -170,7 +211,8 @@ module _ (base : ℕ) (old rows : List Object) (key : Key) (request : Request) w
   volume_one : (reply : Reply) → volume_write request reply ≤ 1
   volume_one reply = let a = volume_few request reply in let b = done_few request reply in omega (arith, a, b)
 
-  binder_few : (m : Machine) (reply : Reply) → machine_if (moved m reply) + 1 ≤ machine_writes m → LeavesFewer base old rows (tasks.Binder m) request reply (with_task key (task_moved (tasks.Binder m) reply))
+  binder_few : (m : Machine) (reply : Reply) → machine_if (moved m reply) + 1 ≤ machine_writes m
+      → LeavesFewer base old rows (tasks.Binder m) request reply (with_task key (task_moved (tasks.Binder m) reply))
   binder_few m reply low = by (moved m reply) low
     where
       by : (x : Option Machine) → machine_if x + 1 ≤ machine_writes m → LeavesFewer base old rows (tasks.Binder m) request reply (with_task key (option_map (λ k. tasks.Binder k) x))
@@ -199,12 +241,18 @@ module _ (base : ℕ) (old rows : List Object) (key : Key) (request : Request) w
   -- the object has left
   left_few : (t : Task) (o : Object) → task_call t ≡ Some request → LeavesFewer base old rows t request (replies.Left o) (with_task key (task_moved t (replies.Left o)))
   left_few (tasks.Binder m) o call = binder_few m (replies.Left o) (binder_left m o call)
-  left_few (tasks.ClaimProtect op) o call = ended (tasks.ClaimProtect op) (tasks.ClaimProtect (claim_moved op (replies.Left o))) (replies.Left o) (omega arith) (volume_one (replies.Left o)) (guard_ends (replies.Left o) refl op)
-  left_few (tasks.VolumeProtect op) o call = ended (tasks.VolumeProtect op) (tasks.VolumeProtect (volume_moved op (replies.Left o))) (replies.Left o) (omega arith) (volume_one (replies.Left o)) (volume_ends (replies.Left o) refl op)
-  left_few (tasks.Agent op) o call = ended (tasks.Agent op) (tasks.Agent (agent_moved op (replies.Left o))) (replies.Left o) (omega arith) (volume_one (replies.Left o)) (agent_ends (replies.Left o) refl op)
-  left_few (tasks.Provision op) o call = ended (tasks.Provision op) (tasks.Provision (provision_moved op (replies.Left o))) (replies.Left o) (omega arith) (volume_one (replies.Left o)) (provision_ends (replies.Left o) refl op)
-  left_few (tasks.Erase op) o call = ended (tasks.Erase op) (tasks.Erase (erase_moved op (replies.Left o))) (replies.Left o) (omega arith) (volume_one (replies.Left o)) (erase_ends (replies.Left o) refl op)
-  left_few (tasks.Schedule op) o call = let z = volume_left request o in ended (tasks.Schedule op) (tasks.Schedule (schedule_moved op (replies.Left o))) (replies.Left o) (omega arith) (omega (arith, z)) (schedule_ends op (replies.Left o) refl)
+  left_few (tasks.ClaimProtect op) o call =
+      ended (tasks.ClaimProtect op) (tasks.ClaimProtect (claim_moved op (replies.Left o))) (replies.Left o) (omega arith) (volume_one (replies.Left o)) (guard_ends (replies.Left o) refl op)
+  left_few (tasks.VolumeProtect op) o call =
+      ended (tasks.VolumeProtect op) (tasks.VolumeProtect (volume_moved op (replies.Left o))) (replies.Left o) (omega arith) (volume_one (replies.Left o)) (volume_ends (replies.Left o) refl op)
+  left_few (tasks.Agent op) o call = ended (tasks.Agent op) (tasks.Agent (agent_moved op (replies.Left o))) (replies.Left o) (omega arith)
+      (volume_one (replies.Left o)) (agent_ends (replies.Left o) refl op)
+  left_few (tasks.Provision op) o call = ended (tasks.Provision op) (tasks.Provision (provision_moved op (replies.Left o))) (replies.Left o) (omega
+      arith) (volume_one (replies.Left o)) (provision_ends (replies.Left o) refl op)
+  left_few (tasks.Erase op) o call = ended (tasks.Erase op) (tasks.Erase (erase_moved op (replies.Left o))) (replies.Left o) (omega arith)
+      (volume_one (replies.Left o)) (erase_ends (replies.Left o) refl op)
+  left_few (tasks.Schedule op) o call = let z = volume_left request o in
+      ended (tasks.Schedule op) (tasks.Schedule (schedule_moved op (replies.Left o))) (replies.Left o) (omega arith) (omega (arith, z)) (schedule_ends op (replies.Left o) refl)
 
 -- what was answered as done was written
 abbrev done_object : Reply → Option Object
@@ -220,7 +268,8 @@ written_is w (OnDevices a) o version e = absurd (omega (arith, version))
 written_is w (SetsMoment at) o version e = absurd (omega (arith, version))
 
 -- an object stands as it was written
-module _ (setup : Setup) (seat base : ℕ) (h : List Entry) (history : IsHistory setup h) (begun : base ≤ (world setup h).store.version) (kind : SeatKind) (key : Key) (request : Request) (o : Object) (rows : List Object) (put : rows ≡ put_row o (world setup h).store.rows)
+module _ (setup : Setup) (seat base : ℕ) (h : List Entry) (history : IsHistory setup h) (begun : base ≤ (world setup h).store.version)
+    (kind : SeatKind) (key : Key) (request : Request) (o : Object) (rows : List Object) (put : rows ≡ put_row o (world setup h).store.rows)
     (writes : Writes (world setup h) kind request o) where
   binder_done : (m : Machine) → TaskKeeps (tasks.Binder m) (own seat h) → call_of m ≡ Some request → machine_if (moved m (replies.Done o)) + 1 ≤ machine_writes m
   binder_done (Binds v c) keeps call = binds_wrote setup seat h history kind v c o keeps.0 keeps.1 request call writes
@@ -238,11 +287,21 @@ module _ (setup : Setup) (seat base : ℕ) (h : List Entry) (history : IsHistory
 
   put_few : (t : Task) → TaskKeeps t (own seat h) → TaskIsOld base t → task_call t ≡ Some request → LeavesFewer base old rows t request (replies.Done o) (with_task key (task_moved t (replies.Done o)))
   put_few (tasks.Binder m) keeps told call = binder_few base old rows key request m (replies.Done o) (binder_done m keeps call)
-  put_few (tasks.ClaimProtect op) keeps told call = ended base old rows key request (tasks.ClaimProtect op) (tasks.ClaimProtect (claim_moved op (replies.Done o))) (replies.Done o) (omega arith) (volume_one base old rows key request (replies.Done o)) (guard_ends (replies.Done o) refl op)
-  put_few (tasks.VolumeProtect op) keeps told call = ended base old rows key request (tasks.VolumeProtect op) (tasks.VolumeProtect (volume_moved op (replies.Done o))) (replies.Done o) (omega arith) (volume_one base old rows key request (replies.Done o)) (volume_ends (replies.Done o) refl op)
-  put_few (tasks.Agent op) keeps told call = ended base old rows key request (tasks.Agent op) (tasks.Agent (agent_moved op (replies.Done o))) (replies.Done o) (omega arith) (volume_one base old rows key request (replies.Done o)) (agent_ends (replies.Done o) refl op)
-  put_few (tasks.Provision op) keeps told call = ended base old rows key request (tasks.Provision op) (tasks.Provision (provision_moved op (replies.Done o))) (replies.Done o) (omega arith) (volume_one base old rows key request (replies.Done o)) (provision_ends (replies.Done o) refl op)
-  put_few (tasks.Erase op) keeps told call = ended base old rows key request (tasks.Erase op) (tasks.Erase (erase_moved op (replies.Done o))) (replies.Done o) (omega arith) (volume_one base old rows key request (replies.Done o)) (erase_ends (replies.Done o) refl op)
+  put_few (tasks.ClaimProtect op) keeps told call =
+      ended base old rows key request (tasks.ClaimProtect op) (tasks.ClaimProtect (claim_moved op (replies.Done o))) (replies.Done o) (omega arith)
+      (volume_one base old rows key request (replies.Done o)) (guard_ends (replies.Done o) refl op)
+  put_few (tasks.VolumeProtect op) keeps told call =
+      ended base old rows key request (tasks.VolumeProtect op) (tasks.VolumeProtect (volume_moved op (replies.Done o))) (replies.Done o)
+      (omega arith) (volume_one base old rows key request (replies.Done o)) (volume_ends (replies.Done o) refl op)
+  put_few (tasks.Agent op) keeps told call =
+      ended base old rows key request (tasks.Agent op) (tasks.Agent (agent_moved op (replies.Done o))) (replies.Done o) (omega arith)
+      (volume_one base old rows key request (replies.Done o)) (agent_ends (replies.Done o) refl op)
+  put_few (tasks.Provision op) keeps told call =
+      ended base old rows key request (tasks.Provision op) (tasks.Provision (provision_moved op (replies.Done o))) (replies.Done o) (omega arith)
+      (volume_one base old rows key request (replies.Done o)) (provision_ends (replies.Done o) refl op)
+  put_few (tasks.Erase op) keeps told call =
+      ended base old rows key request (tasks.Erase op) (tasks.Erase (erase_moved op (replies.Done o))) (replies.Done o) (omega arith)
+      (volume_one base old rows key request (replies.Done o)) (erase_ends (replies.Done o) refl op)
   put_few (tasks.Schedule op) keeps told call = schedule_wrote base (world setup h) (rows_stand_in_order setup h) begun kind key op request o rows put writes told call
 
 -- ---- one call
@@ -257,7 +316,8 @@ module _ (setup : Setup) (seat : ℕ) (role : Role) (base : ℕ) where
   abbrev volumes_left : List Object → Option Under → ℕ
   volumes_left rows x = under_by (task_volumes base rows) x
 
-  each : (e : Entry) (h : List Entry) (u : Under) → IsRunOf setup (e ∷ h) → e.request ≡ u.call → e.kind ≡ role.kind → KeepsUnder role u (own seat h) → Keeps h u → Moves setup Keeps under_calls writes_left volumes_left e h u
+  each : (e : Entry) (h : List Entry) (u : Under) → IsRunOf setup (e ∷ h) → e.request ≡ u.call → e.kind ≡ role.kind → KeepsUnder role u (own seat h)
+      → Keeps h u → Moves setup Keeps under_calls writes_left volumes_left e h u
   each e h u run asks kind way keeps = by (world_moves setup e h history.1)
     where
       history : IsHistory setup (e ∷ h)
@@ -267,12 +327,14 @@ module _ (setup : Setup) (seat : ℕ) (role : Role) (base : ℕ) where
       call = way.call ∙ ap Some (sym asks)
 
       count : under_calls (world setup (e ∷ h)).store.rows (under_after u e.reply) + 1 ≤ calls_left (world setup h).store.rows u.task + done_by e.request e.reply
-      count = subst (λ r. under_calls (world setup (e ∷ h)).store.rows (under_after u e.reply) + 1 ≤ calls_left (world setup h).store.rows u.task + done_by r e.reply) (sym asks) (calls_end setup e h u history asks way.call)
+      count = subst (λ r. under_calls (world setup (e ∷ h)).store.rows (under_after u e.reply) + 1 ≤ calls_left
+          (world setup h).store.rows u.task + done_by r e.reply) (sym asks) (calls_end setup e h u history asks way.call)
 
       goes_on : (world setup h).store.version ≤ (world setup (e ∷ h)).store.version → (n : Under) → under_after u e.reply ≡ Some n → Keeps (e ∷ h) n
       goes_on up n is = let low = keeps.0 in (omega (arith, low, up), kept_old base u n e.reply keeps.1 is)
 
-      wrote : LeavesFewer base (world setup h).store.rows (world setup (e ∷ h)).store.rows u.task e.request e.reply (under_after u e.reply) → (world setup (e ∷ h)).store.version ≡ (world setup h).store.version + 1 → Moves setup Keeps under_calls writes_left volumes_left e h u
+      wrote : LeavesFewer base (world setup h).store.rows (world setup (e ∷ h)).store.rows u.task e.request e.reply (under_after u e.reply)
+          → (world setup (e ∷ h)).store.version ≡ (world setup h).store.version + 1 → Moves setup Keeps under_calls writes_left volumes_left e h u
       wrote fewer version =
           let a = fewer.writes in
           let b = fewer.volumes in
@@ -293,7 +355,8 @@ module _ (setup : Setup) (seat : ℕ) (role : Role) (base : ℕ) where
       by (inr w) = elim w.rows [
         | inl done ↦ wrote (subst (λ (r : Reply). LeavesFewer base (world setup h).store.rows (world setup (e ∷ h)).store.rows u.task e.request r (with_task u.key (task_moved u.task r))) (sym done.0)
             (put_few setup seat base h history.0 keeps.0 e.kind u.key e.request w.event.object (world setup (e ∷ h)).store.rows done.1
-            (write_asked setup (world setup h) e.kind e.request w.event.object (effect setup (world setup h) e.kind e.request) (effect_form setup (world setup h) e.kind e.request (rows_stand_in_order setup h))
+            (write_asked setup (world setup h) e.kind e.request w.event.object (effect setup (world setup h) e.kind e.request)
+            (effect_form setup (world setup h) e.kind e.request (rows_stand_in_order setup h))
             (written_is (world setup h) (effect setup (world setup h) e.kind e.request) w.event.object w.version (sym history.1 ∙ done.0)))
             u.task way.keeps keeps.1 call)) w.version
         | inr gone ↦ wrote (subst (λ (r : Reply). LeavesFewer base (world setup h).store.rows (world setup (e ∷ h)).store.rows u.task e.request r (with_task u.key (task_moved u.task r))) (sym gone.0)
@@ -345,7 +408,8 @@ record IsFew (base : ℕ) (rows : List Object) (kind : SeatKind) (x : Option Und
   writes : under_by (task_writes base rows) x ≤ leftover_writes kind rows
   volumes : under_by (task_volumes base rows) x ≤ leftover_volumes kind rows
 
-task_few : (base : ℕ) (rows : List Object) (u : Under) (t : Task) → u.task ≡ t → calls_left rows t ≤ leftover_calls (task_kind t) rows → (task_writes base rows t ≤ leftover_writes (task_kind t) rows) × (task_volumes base rows t ≤ leftover_volumes (task_kind t) rows) → IsFew base rows (task_kind t) (Some u)
+task_few : (base : ℕ) (rows : List Object) (u : Under) (t : Task) → u.task ≡ t → calls_left rows t ≤ leftover_calls (task_kind t) rows
+    → (task_writes base rows t ≤ leftover_writes (task_kind t) rows) × (task_volumes base rows t ≤ leftover_volumes (task_kind t) rows) → IsFew base rows (task_kind t) (Some u)
 task_few base rows u t is calls rest =
     record {
       calls = subst (λ y. calls_left rows y ≤ leftover_calls (task_kind t) rows) (sym is) calls;
@@ -377,14 +441,16 @@ is_few base rows kind (Some u) of_kind = subst (λ k. IsFew base rows k (Some u)
 
 -- ---- the run
 
-module _ (setup : Setup) (lets : Lets) (seat : ℕ) (s after_ : ActorState) (h past : List Entry) (b left : ℕ) (idle : Bool) (run : IsRunOf setup past) (runs : Runs lets seat after_ past left idle s h b) where
+module _ (setup : Setup) (lets : Lets) (seat : ℕ) (s after_ : ActorState) (h past : List Entry) (b left : ℕ) (idle : Bool) (run : IsRunOf setup past)
+    (runs : Runs lets seat after_ past left idle s h b) where
   abbrev base : ℕ
   base = (world setup h).store.version
 
   abbrev rows : List Object
   rows = (world setup h).store.rows
 
-  few_of : (entries : List Entry) (budget : ℕ) (calls writes volumes : ℕ) → calls ≤ leftover_calls s.role.kind rows → writes ≤ leftover_writes s.role.kind rows → volumes ≤ leftover_volumes s.role.kind rows → Made setup seat s.role.kind calls writes volumes h entries b budget
+  few_of : (entries : List Entry) (budget : ℕ) (calls writes volumes : ℕ) → calls ≤ leftover_calls s.role.kind rows
+      → writes ≤ leftover_writes s.role.kind rows → volumes ≤ leftover_volumes s.role.kind rows → Made setup seat s.role.kind calls writes volumes h entries b budget
       → AreFew setup seat s.role.kind h entries b budget
   few_of entries budget calls writes volumes low_calls low_writes low_volumes m =
       let n = counted setup m.newer h entries m.are in
@@ -402,10 +468,12 @@ module _ (setup : Setup) (lets : Lets) (seat : ℕ) (s after_ : ActorState) (h p
       }
 
   at_once : past ≡ h → left ≡ b → HasEnded setup lets seat after_ past left idle s h b
-  at_once same rest = EndsThere (few_of past left 0 0 0 (omega arith) (omega arith) (omega arith) (none_made setup seat s.role.kind 0 0 0 h past b left same (omega (arith, rest)) (omega (arith, rest))))
+  at_once same rest = EndsThere (few_of past left 0 0 0 (omega arith) (omega arith) (omega arith)
+      (none_made setup seat s.role.kind 0 0 0 h past b left same (omega (arith, rest)) (omega (arith, rest))))
 
   whole : IsReady seat s h → HasEnded setup lets seat after_ past left idle s h b
-  whole ready = by (walk setup lets seat after_ past left idle run s.role (Keeps setup seat s.role base) under_calls (writes_left setup seat s.role base) (volumes_left setup seat s.role base) calls_some (each setup seat s.role base) s h b runs refl begun)
+  whole ready = by (walk setup lets seat after_ past left idle run s.role (Keeps setup seat s.role base) under_calls
+      (writes_left setup seat s.role base) (volumes_left setup seat s.role base) calls_some (each setup seat s.role base) s h b runs refl begun)
     where
       way : (u : Under) → s.under ≡ Some u → KeepsUnder s.role u (own seat h)
       way u e = keeps_under s.role u (own seat h) (stood s (own seat h) ready.stands.told) (subst (λ y. AnyIsUnderWay s.role y (own seat h)) e ready.stands.told.settle_round_calls)
@@ -416,12 +484,28 @@ module _ (setup : Setup) (lets : Lets) (seat : ℕ) (s after_ : ActorState) (h p
       is : IsFew base rows s.role.kind s.under
       is = is_few base rows s.role.kind s.under (λ u e. (way u e).of_kind)
 
-      by : Ended setup lets seat after_ past left idle run s.role (Keeps setup seat s.role base) under_calls (writes_left setup seat s.role base) (volumes_left setup seat s.role base) s h b → HasEnded setup lets seat after_ past left idle s h b
+      by : Ended setup lets seat after_ past left idle run s.role (Keeps setup seat s.role base) under_calls (writes_left setup seat s.role base)
+          (volumes_left setup seat s.role base) s h b → HasEnded setup lets seat after_ past left idle s h b
       by (There m) = EndsThere (few_of past left _ _ _ is.calls is.writes is.volumes m)
-      by (Further state entries budget more none pass role m) = AndGoesOn (record { state = state; entries = entries; budget = budget; runs = more; none = none; pass = pass; role = role; few = few_of entries budget _ _ _ is.calls is.writes is.volumes m })
+      by (Further state entries budget more none pass role m) =
+          AndGoesOn (record {
+            state = state;
+            entries = entries;
+            budget = budget;
+            runs = more;
+            none = none;
+            pass = pass;
+            role = role;
+            few =
+                few_of entries budget _ _ _ is.calls is.writes is.volumes m;
+          })
 
 pub leftovers_end : LeftoversEnd
-leftovers_end setup lets seat s after_ h past b left idle built run (IsSpent none state entries rest busy) = at_once setup lets seat s after_ h past b left idle run (IsSpent none state entries rest busy) entries rest
-leftovers_end setup lets seat s after_ h past b left idle built run (IsIdle some ready turn entries rest calm) = at_once setup lets seat s after_ h past b left idle run (IsIdle some ready turn entries rest calm) entries rest
-leftovers_end setup lets seat s after_ h past b left idle built run (Asks given next request reply some ready turn lets_it absorbs more) = whole setup lets seat s after_ h past b left idle run (Asks given next request reply some ready turn lets_it absorbs more) ready
-leftovers_end setup lets seat s after_ h past b left idle built run (IsHeld given next request some ready turn held absorbs more) = whole setup lets seat s after_ h past b left idle run (IsHeld given next request some ready turn held absorbs more) ready
+leftovers_end setup lets seat s after_ h past b left idle built run (IsSpent none state entries rest busy) =
+    at_once setup lets seat s after_ h past b left idle run (IsSpent none state entries rest busy) entries rest
+leftovers_end setup lets seat s after_ h past b left idle built run (IsIdle some ready turn entries rest calm) =
+    at_once setup lets seat s after_ h past b left idle run (IsIdle some ready turn entries rest calm) entries rest
+leftovers_end setup lets seat s after_ h past b left idle built run (Asks given next request reply some ready turn lets_it absorbs more) =
+    whole setup lets seat s after_ h past b left idle run (Asks given next request reply some ready turn lets_it absorbs more) ready
+leftovers_end setup lets seat s after_ h past b left idle built run (IsHeld given next request some ready turn held absorbs more) =
+    whole setup lets seat s after_ h past b left idle run (IsHeld given next request some ready turn held absorbs more) ready

@@ -4,15 +4,15 @@ use Rattle.std.specs.Prelude.{◌==◌, ◌&&◌, nat_lt, option_map, slice_get,
 use Rattle.std.specs.List.{AllByRecursion}
 use Rattle.std.proofs.lemmas.Bool.{not-false}
 use Rattle.std.proofs.lemmas.Bool.Decides.{nat_tests}
-use Rattle.kube_types.specs.declared.key.Key.{Key}
-use Rattle.kube_types.specs.declared.parts.Kind.{Kind}
-use Rattle.kube_types.specs.declared.parts.Kind.TheVariants as kinds
-use Rattle.kube_types.specs.declared.objects.Claim.{Claim as ClaimData}
-use Rattle.kube_types.specs.declared.objects.Volume.{Volume as VolumeData}
-use Rattle.kube_types.specs.declared.objects.Object.{Object}
-use Rattle.kube_types.specs.declared.objects.Object.TheVariants.{Class, Node, Volume, Claim, Pod}
-use Rattle.kube_types.specs.Keys.{AreRows, key_of, meta_of, put_row, row_at}
-use Rattle.kube_types.proofs.KeyOrder.{row_at_key}
+use Rattle.kube_objects.specs.declared.key.Key.{Key}
+use Rattle.kube_parts.specs.declared.parts.Kind.{Kind}
+use Rattle.kube_parts.specs.declared.parts.Kind.TheVariants as kinds
+use Rattle.kube_objects.specs.declared.objects.Claim.{Claim as ClaimData}
+use Rattle.kube_objects.specs.declared.objects.Volume.{Volume as VolumeData}
+use Rattle.kube_objects.specs.declared.objects.Object.{Object}
+use Rattle.kube_objects.specs.declared.objects.Object.TheVariants.{Class, Node, Volume, Claim, Pod}
+use Rattle.kube_objects.specs.Keys.{AreRows, key_of, meta_of, put_row, row_at}
+use Rattle.kube_objects.proofs.KeyOrder.{row_at_key}
 use Rattle.call_types.specs.declared.entry.Entry.{Entry}
 use Rattle.call_types.specs.declared.reply.Reply.{Reply}
 use Rattle.call_types.specs.declared.reply.Reply.TheVariants as replies
@@ -243,7 +243,8 @@ module _ (base : ℕ) where
   new_claim (Node x) lt = refl
   new_claim (Pod x) lt = refl
 
-module _ (base : ℕ) (w : World) (order : AreRows w.store.rows) (begun : base ≤ w.store.version) (kind : SeatKind) (new : Object) (n : ℕ) (o : Object) (rows : List Object) (put : rows ≡ put_row o w.store.rows) (u : IsUpdate w.store kind new (Some n) o) (low : n ≤ base) where
+module _ (base : ℕ) (w : World) (order : AreRows w.store.rows) (begun : base ≤ w.store.version) (kind : SeatKind) (new : Object) (n : ℕ) (o : Object)
+    (rows : List Object) (put : rows ≡ put_row o w.store.rows) (u : IsUpdate w.store kind new (Some n) o) (low : n ≤ base) where
   there : row_at (key_of o) w.store.rows ≡ Some u.old
   there = (updated_next w.store kind new (Some n) o u).there
 
@@ -332,7 +333,8 @@ pub record LeavesFewer (base : ℕ) (old new : List Object) (t : Task) (request 
   pub writes : under_by (task_writes base new) x + 1 ≤ task_writes base old t
   pub volumes : volume_write request reply + under_by (task_volumes base new) x ≤ task_volumes base old t
 
-pub schedule_wrote : (base : ℕ) (w : World) → AreRows w.store.rows → base ≤ w.store.version → (kind : SeatKind) (key : Key) (op : ScheduleOp) (request : Request) (o : Object) (rows : List Object) → rows ≡ put_row o w.store.rows → Writes w kind request o
+pub schedule_wrote : (base : ℕ) (w : World) → AreRows w.store.rows → base ≤ w.store.version
+    → (kind : SeatKind) (key : Key) (op : ScheduleOp) (request : Request) (o : Object) (rows : List Object) → rows ≡ put_row o w.store.rows → Writes w kind request o
     → StepIsOld base op.step op.writes → schedule_call op ≡ Some request
     → LeavesFewer base w.store.rows rows (tasks.Schedule op) request (replies.Done o) (with_task key (task_moved (tasks.Schedule op) (replies.Done o)))
 schedule_wrote base w order begun kind key op request o rows put writes old call = by request (call_is base op request old call) writes

@@ -1,6 +1,6 @@
 -- What is under way is made, call by call, until it ends, is lost, or the budget is spent.
 use Rattle.std.proofs.Common.{◌≡◌, ◌∙◌, ℕ, ◌+◌, ◌-◌, ◌<◌, ◌≤◌, List, [], ◌∷◌, ◌++◌, append_assoc, length, length-append, Bool, true, false, true≢false, Option, Some, None, refl, sym, ap, subst, arith}
-use Rattle.kube_types.specs.declared.objects.Object.{Object}
+use Rattle.kube_objects.specs.declared.objects.Object.{Object}
 use Rattle.call_types.specs.declared.entry.Entry.{Entry}
 use Rattle.call_types.specs.declared.reply.Reply.{Reply}
 use Rattle.call_types.specs.declared.request.Request.{Request}
@@ -42,7 +42,8 @@ pub record Made (setup : Setup) (seat : ℕ) (kind : SeatKind) (calls writes vol
   pub few_writes : (world setup entries).store.version ≤ (world setup h).store.version + writes
   pub few_volumes : volume_writes newer ≤ volumes
 
-pub none_made : (setup : Setup) (seat : ℕ) (kind : SeatKind) (calls writes volumes : ℕ) (h entries : List Entry) (b budget : ℕ) → entries ≡ h → budget ≤ b → b ≤ budget + calls → Made setup seat kind calls writes volumes h entries b budget
+pub none_made : (setup : Setup) (seat : ℕ) (kind : SeatKind) (calls writes volumes : ℕ) (h entries : List Entry) (b budget : ℕ) → entries ≡ h
+    → budget ≤ b → b ≤ budget + calls → Made setup seat kind calls writes volumes h entries b budget
 none_made setup seat kind calls writes volumes h entries b budget same low few =
     let v : (world setup entries).store.version ≡ (world setup h).store.version = ap (λ es. (world setup es).store.version) same in
     record { newer = []; are = same; by = tt; called = omega (arith, low); few_calls = omega (arith, v, few); few_writes = omega (arith, v); few_volumes = omega arith }
@@ -56,9 +57,11 @@ volumes_last [] e = omega arith
 volumes_last (x ∷ newer) e = let rest = volumes_last newer e in omega (arith, rest)
 
 -- and one more before them
-pub one_more : (setup : Setup) (seat : ℕ) (kind : SeatKind) (calls more_calls writes more_writes volumes more_volumes : ℕ) (e : Entry) (h entries : List Entry) (b budget : ℕ) → 0 < b → IsBy seat kind e
+pub one_more : (setup : Setup) (seat : ℕ) (kind : SeatKind) (calls more_calls writes more_writes volumes more_volumes : ℕ) (e : Entry)
+    (h entries : List Entry) (b budget : ℕ) → 0 < b → IsBy seat kind e
     → calls + 1 + (world setup h).store.version ≤ more_calls + (world setup (e ∷ h)).store.version → (world setup (e ∷ h)).store.version + writes ≤ (world setup h).store.version + more_writes
-    → volume_write e.request e.reply + volumes ≤ more_volumes → Made setup seat kind calls writes volumes (e ∷ h) entries (b - 1) budget → Made setup seat kind more_calls more_writes more_volumes h entries b budget
+    → volume_write e.request e.reply + volumes ≤ more_volumes → Made setup seat kind calls writes volumes (e ∷ h) entries (b - 1) budget
+    → Made setup seat kind more_calls more_writes more_volumes h entries b budget
 one_more setup seat kind calls more_calls writes more_writes volumes more_volumes e h entries b budget some is fewer_calls fewer_writes fewer_volumes m =
     let count = length-append m.newer (e ∷ []) in
     let called = m.called in
@@ -79,7 +82,8 @@ one_more setup seat kind calls more_calls writes more_writes volumes more_volume
 -- ---- what an answer leaves
 
 -- what it leaves under way makes fewer calls, but for a write, and fewer writes
-pub record Moves (setup : Setup) (Keeps : List Entry → Under → Type 0) (calls : List Object → Option Under → ℕ) (writes volumes : List Object → Option Under → ℕ) (e : Entry) (h : List Entry) (u : Under) : Type 0 where
+pub record Moves (setup : Setup) (Keeps : List Entry → Under → Type 0) (calls : List Object → Option Under → ℕ)
+    (writes volumes : List Object → Option Under → ℕ) (e : Entry) (h : List Entry) (u : Under) : Type 0 where
   pub kept : (n : Under) → under_after u e.reply ≡ Some n → Keeps (e ∷ h) n
   pub fewer_calls : calls (world setup (e ∷ h)).store.rows (under_after u e.reply) + 1 + (world setup h).store.version ≤ calls (world setup h).store.rows (Some u) + (world setup (e ∷ h)).store.version
   pub fewer_writes : (world setup (e ∷ h)).store.version + writes (world setup (e ∷ h)).store.rows (under_after u e.reply) ≤ (world setup h).store.version + writes (world setup h).store.rows (Some u)
@@ -87,7 +91,8 @@ pub record Moves (setup : Setup) (Keeps : List Entry → Under → Type 0) (call
 
 -- the pass stands while a task's call is answered or lost
 module _ (given : ActorState) (request : Request) (reply : Reply) where
-  told_pass : (caches : AllKnown) (g : Option Given) (x : Option Under) → g ≡ Some givens.Task → (given_told (record (learned given caches request reply) { under = x }) request reply g).pass ≡ given.pass
+  told_pass : (caches : AllKnown) (g : Option Given) (x : Option Under) → g ≡ Some givens.Task
+      → (given_told (record (learned given caches request reply) { under = x }) request reply g).pass ≡ given.pass
   told_pass caches g None eg = rw eg refl
   told_pass caches g (Some u) eg = rw eg refl
 
@@ -100,18 +105,22 @@ lost_pass given g (Some u) eg = rw eg refl
 module _ (setup : Setup) (lets : Lets) (seat : ℕ) (after : ActorState) (past : List Entry) (left : ℕ) (idle : Bool) (run : IsRunOf setup past) (role : Role)
     (Keeps : List Entry → Under → Type 0) (calls : List Object → Option Under → ℕ) (writes volumes : List Object → Option Under → ℕ) where
   abbrev MadeFrom : ActorState → (h entries : List Entry) (b budget : ℕ) → Type 0
-  MadeFrom s h entries b budget = Made setup seat role.kind (calls (world setup h).store.rows s.under) (writes (world setup h).store.rows s.under) (volumes (world setup h).store.rows s.under) h entries b budget
+  MadeFrom s h entries b budget = Made setup seat role.kind (calls (world setup h).store.rows s.under) (writes (world setup h).store.rows s.under)
+      (volumes (world setup h).store.rows s.under) h entries b budget
 
   pub data Ended (s : ActorState) (h : List Entry) (b : ℕ) : Type 0 where
     There : MadeFrom s h past b left → Ended s h b
-    Further : (state : ActorState) (entries : List Entry) (budget : ℕ) → Runs lets seat after past left idle state entries budget → (state.memory.stale ≡ false → state.under ≡ None) → state.pass ≡ s.pass → state.role ≡ s.role → MadeFrom s h entries b budget → Ended s h b
+    Further : (state : ActorState) (entries : List Entry) (budget : ℕ) → Runs lets seat after past left idle state entries budget
+        → (state.memory.stale ≡ false → state.under ≡ None) → state.pass ≡ s.pass → state.role ≡ s.role → MadeFrom s h entries b budget → Ended s h b
 
   module _ (some : (rows : List Object) (u : Under) → task_call u.task ≡ Some u.call → 1 ≤ calls rows (Some u))
-      (each : (e : Entry) (h : List Entry) (u : Under) → IsRunOf setup (e ∷ h) → e.request ≡ u.call → e.kind ≡ role.kind → KeepsUnder role u (own seat h) → Keeps h u → Moves setup Keeps calls writes volumes e h u) where
+      (each : (e : Entry) (h : List Entry) (u : Under) → IsRunOf setup (e ∷ h) → e.request ≡ u.call → e.kind ≡ role.kind
+      → KeepsUnder role u (own seat h) → Keeps h u → Moves setup Keeps calls writes volumes e h u) where
     pub walk : (s : ActorState) (h : List Entry) (b : ℕ) → Runs lets seat after past left idle s h b → s.role ≡ role → ((u : Under) → s.under ≡ Some u → Keeps h u) → Ended s h b
     walk s h b (IsSpent none state entries rest busy) is keeps = There (none_made setup seat role.kind _ _ _ h past b left entries (omega (arith, rest)) (omega (arith, rest)))
     walk s h b (IsIdle enough ready turn entries rest calm) is keeps = There (none_made setup seat role.kind _ _ _ h past b left entries (omega (arith, rest)) (omega (arith, rest)))
-    walk s h b (Asks given next request reply enough ready turn lets_it absorbs more) is keeps = by s.memory.stale s.under refl refl turn (λ r k. walk next (told_entry seat given request reply ∷ h) (b - 1) more r k)
+    walk s h b (Asks given next request reply enough ready turn lets_it absorbs more) is keeps =
+        by s.memory.stale s.under refl refl turn (λ r k. walk next (told_entry seat given request reply ∷ h) (b - 1) more r k)
       where
         stays : (s.memory.stale ≡ false → s.under ≡ None) → Ended s h b
         stays none = Further s h b (Asks given next request reply enough ready turn lets_it absorbs more) none refl refl (none_made setup seat role.kind _ _ _ h h b b refl (omega arith) (omega arith))
@@ -144,7 +153,8 @@ module _ (setup : Setup) (lets : Lets) (seat : ℕ) (after : ActorState) (past :
             kind_is = ap (λ (r : Role). r.kind) (turn_role s given (Call request) turn ∙ is)
 
             way : KeepsUnder role u (own seat h)
-            way = subst (λ r. KeepsUnder r u (own seat h)) is (keeps_under s.role u (own seat h) (stood s (own seat h) ready.stands.told) (subst (λ y. AnyIsUnderWay s.role y (own seat h)) ex ready.stands.told.settle_round_calls))
+            way = subst (λ r. KeepsUnder r u (own seat h)) is
+                (keeps_under s.role u (own seat h) (stood s (own seat h) ready.stands.told) (subst (λ y. AnyIsUnderWay s.role y (own seat h)) ex ready.stands.told.settle_round_calls))
 
             moves : Moves setup Keeps calls writes volumes e h u
             moves = each e h u (run_at setup lets seat after past left idle run next (e ∷ h) (b - 1) more) (one request u.call (ap call_in t.call)) kind_is way (keeps u ex)
@@ -160,7 +170,8 @@ module _ (setup : Setup) (lets : Lets) (seat : ℕ) (after : ActorState) (past :
                 let fewer_calls = moves.fewer_calls in
                 let fewer_writes = moves.fewer_writes in
                 let fewer_volumes = moves.fewer_volumes in
-                one_more setup seat role.kind _ _ _ _ _ _ e h entries b budget enough (record { of_seat = refl; of_kind = kind_is; told = refl }) (omega (arith, c, c0, fewer_calls)) (omega (arith, w, w0, fewer_writes)) (omega (arith, v, v0, fewer_volumes)) m
+                one_more setup seat role.kind _ _ _ _ _ _ e h entries b budget enough (record { of_seat = refl; of_kind = kind_is; told = refl })
+                (omega (arith, c, c0, fewer_calls)) (omega (arith, w, w0, fewer_writes)) (omega (arith, v, v0, fewer_volumes)) m
 
             joined : Ended next (e ∷ h) (b - 1) → Ended s h b
             joined (There m) = There (more_made past left m)
@@ -173,7 +184,8 @@ module _ (setup : Setup) (lets : Lets) (seat : ℕ) (after : ActorState) (past :
         by : (stale : Bool) (x : Option Under) → s.memory.stale ≡ stale → s.under ≡ x → TurnBy s given (Call request) stale x (start_call s.role s.memory) (unlisted s) (passing s) → Ended s h b
         by true x stale ex t = stays (λ fresh. absurd (true≢false (sym stale ∙ fresh)))
         by false None stale ex t = stays (λ fresh. ex)
-        by false (Some u) stale ex t = Further next h (b - 1) more (λ fresh. none) pass (still_role s given next (Call request) request Lost turn absorbs) (none_made setup seat role.kind _ _ _ h h b (b - 1) refl (omega arith) (omega (arith, enough, at_least, c0)))
+        by false (Some u) stale ex t = Further next h (b - 1) more (λ fresh. none) pass (still_role s given next (Call request) request Lost turn
+            absorbs) (none_made setup seat role.kind _ _ _ h h b (b - 1) refl (omega arith) (omega (arith, enough, at_least, c0)))
           where
             task : given.given ≡ Some givens.Task
             task = ap (λ (y : ActorState). y.given) t.state

@@ -46,8 +46,10 @@ swept_calls setup w = sweep_calls (claims_in w.store.rows) (volumes_in w.store.r
 -- is held back counts as a call
 abbrev pub RoundsCostLess : Type 0
 RoundsCostLess =
-    (setup : Setup) (lets : Lets) (ds after : List Drainer) (h past : List Entry) (b left : ℕ) (whole : Bool) → AreRoles (roles_of ds) → AreAtRest ds → IsRunOf setup past → HoldsMountsAlone lets → IsRound lets past left ds h b after whole
-    → b ≤ left + (less_calls (length ds) (claims_in (world setup h).store.rows) (volumes_in (world setup h).store.rows) (pods_size (world setup h)) (writes_since setup h past) + swept_calls setup (world setup h))
+    (setup : Setup) (lets : Lets) (ds after : List Drainer) (h past : List Entry) (b left : ℕ) (whole : Bool) → AreRoles (roles_of ds) → AreAtRest ds
+    → IsRunOf setup past → HoldsMountsAlone lets → IsRound lets past left ds h b after whole
+    → b ≤ left + (less_calls (length ds) (claims_in (world setup h).store.rows) (volumes_in (world setup h).store.rows) (pods_size (world setup h))
+    (writes_since setup h past) + swept_calls setup (world setup h))
 
 -- ---- by the sizes
 
@@ -66,7 +68,8 @@ SmallWorldsHaveShortRounds = (w : World) → size_of_world w ≤ 512 → HasShor
 -- ---- drains
 
 -- each round of the drain that begins so is short
-abbrev pub EachRoundIsShort : (lets : Lets) (setup : Setup) (after : List Drainer) (past : List Entry) (left : ℕ) (ds : List Drainer) (h : List Entry) (b : ℕ) → Drains lets setup after past left ds h b → Type 0
+abbrev pub EachRoundIsShort : (lets : Lets) (setup : Setup) (after : List Drainer) (past : List Entry) (left : ℕ) (ds : List Drainer)
+    (h : List Entry) (b : ℕ) → Drains lets setup after past left ds h b → Type 0
 EachRoundIsShort lets setup after past left ds h b (NothingDue settled same entries rest) = ⊤
 EachRoundIsShort lets setup after past left ds h b (IsSpent first due none same entries rest) = ⊤
 EachRoundIsShort lets setup after past left ds h b (Goes first due some between middle rest whole round more) =

@@ -17,11 +17,13 @@ use Rattle.settle_round_calls.specs.Rest.ShortRounds.{EachRoundIsShort, HasShort
 -- a round of at most 13 actors, those of a drain with at most eight agents, that begins in a world of at most 8,192 objects, with whatever under way
 abbrev pub EveryRoundIsShort : Type 0
 EveryRoundIsShort =
-    (setup : Setup) (lets : Lets) (ds after : List Drainer) (h past : List Entry) (b left : ℕ) (whole : Bool) → ImportsAllow setup → AreRoles (roles_of ds) → IsRunOf setup past → HoldsMountsAlone lets → IsRound lets past left ds h b after whole
+    (setup : Setup) (lets : Lets) (ds after : List Drainer) (h past : List Entry) (b left : ℕ) (whole : Bool) → ImportsAllow setup
+    → AreRoles (roles_of ds) → IsRunOf setup past → HoldsMountsAlone lets → IsRound lets past left ds h b after whole
     → length ds ≤ 13 → AreAlwaysInOrder setup past → HasShortRounds (world setup h) → b ≤ left + stated_calls setup (world setup h)
 
 -- so is each round of a drain, the first too
 abbrev pub EveryDrainedRoundIsShort : Type 0
 EveryDrainedRoundIsShort =
-    (setup : Setup) (lets : Lets) (ds after : List Drainer) (h past : List Entry) (b left : ℕ) → ImportsAllow setup → MayDrain setup h ds → IsRunOf setup past → HoldsMountsAlone lets → AreAlwaysInOrder setup past → length ds ≤ 13
+    (setup : Setup) (lets : Lets) (ds after : List Drainer) (h past : List Entry) (b left : ℕ) → ImportsAllow setup → MayDrain setup h ds
+    → IsRunOf setup past → HoldsMountsAlone lets → AreAlwaysInOrder setup past → length ds ≤ 13
     → (drained : Drains lets setup after past left ds h b) → EachRoundIsShort lets setup after past left ds h b drained

@@ -1,9 +1,9 @@
 -- How many calls a slot makes at most, by what each object costs an actor of this role and by the writes of the slot.
 -- A choice of this project.
 use Rattle.std.specs.Prelude.{ℕ, ◌≡◌, ◌≤◌, ◌+◌, ◌*◌, ◌-◌, ◌/◌, Bool, false, List, [], ◌∷◌, None, length, if◌then◌else◌}
-use Rattle.kube_types.specs.declared.objects.Object.{Object}
-use Rattle.kube_types.specs.declared.objects.Object.TheVariants.{Volume}
-use Rattle.kube_types.specs.Bindings.{is_ended}
+use Rattle.kube_objects.specs.declared.objects.Object.{Object}
+use Rattle.kube_objects.specs.declared.objects.Object.TheVariants.{Volume}
+use Rattle.kube_objects.specs.Bindings.{is_ended}
 use Rattle.call_types.specs.declared.entry.Entry.{Entry}
 use Rattle.call_types.specs.declared.request.SeatKind.{SeatKind}
 use Rattle.call_types.specs.declared.request.SeatKind.TheVariants as seats
@@ -29,8 +29,10 @@ again_calls kind rows = (objects_calls kind rows + length (kinds_of kind) * (2 +
 -- eight calls for each write, and what the objects cost with which it begins; of an actor that has nothing under way
 abbrev pub SlotsCostLess : Type 0
 SlotsCostLess =
-    (setup : Setup) (lets : Lets) (seat : ℕ) (old after : ActorState) (h past : List Entry) (b left : ℕ) (idle : Bool) → IsBuiltKind old.role.kind → IsRunOf setup past → PassesReads lets → old.under ≡ None → Runs lets seat after past left idle (woken old) h b
-    → b ≤ left + (8 * writes_since setup h past + (objects_calls old.role.kind (world setup h).store.rows + (again_calls old.role.kind (world setup h).store.rows * (writes_since setup h past / 513) + 62)))
+    (setup : Setup) (lets : Lets) (seat : ℕ) (old after : ActorState) (h past : List Entry) (b left : ℕ) (idle : Bool) → IsBuiltKind old.role.kind
+    → IsRunOf setup past → PassesReads lets → old.under ≡ None → Runs lets seat after past left idle (woken old) h b
+    → b ≤ left + (8 * writes_since setup h past +
+    (objects_calls old.role.kind (world setup h).store.rows + (again_calls old.role.kind (world setup h).store.rows * (writes_since setup h past / 513) + 62)))
 
 -- ---- the provisioner and reclaimer
 
@@ -47,6 +49,8 @@ ops_sweep_calls rows = (2 * claims_in rows + 3 * ended_in rows + 24) - 7 * 513
 -- so a claim costs it two with which its slot begins, and a volume three that has ended then; another nothing, nor one that it makes
 abbrev pub OpsSlotsCostLess : Type 0
 OpsSlotsCostLess =
-    (setup : Setup) (lets : Lets) (seat : ℕ) (old after : ActorState) (h past : List Entry) (b left : ℕ) (idle : Bool) → old.role.kind ≡ seats.Ops → IsRunOf setup past → PassesReads lets → (old.memory.stale ≡ false → old.under ≡ None)
+    (setup : Setup) (lets : Lets) (seat : ℕ) (old after : ActorState) (h past : List Entry) (b left : ℕ) (idle : Bool) → old.role.kind ≡ seats.Ops
+    → IsRunOf setup past → PassesReads lets → (old.memory.stale ≡ false → old.under ≡ None)
     → Runs lets seat after past left idle (woken old) h b
-    → b ≤ left + (8 * writes_since setup h past + (2 * claims_in (world setup h).store.rows + 3 * ended_in (world setup h).store.rows + 62) + ops_sweep_calls (world setup h).store.rows * (writes_since setup h past / 513))
+    → b ≤ left + (8 * writes_since setup h past +
+    (2 * claims_in (world setup h).store.rows + 3 * ended_in (world setup h).store.rows + 62) + ops_sweep_calls (world setup h).store.rows * (writes_since setup h past / 513))

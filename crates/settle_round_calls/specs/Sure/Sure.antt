@@ -15,5 +15,6 @@ use Rattle.settle_due.specs.Begun.Begun.{begins_to_last}
 -- off. Premise: it begins with nothing under way. Such an actor asks for no Mount, so no call of it is held back
 abbrev pub SureSlotsCostWrites : Type 0
 SureSlotsCostWrites =
-    (setup : Setup) (lets : Lets) (seat : ℕ) (old after : ActorState) (h past : List Entry) (b left : ℕ) (idle : Bool) → begins_to_last old.role.kind ≡ true → IsRunOf setup past → HoldsMountsAlone lets → (old.memory.stale ≡ false → old.under ≡ None)
+    (setup : Setup) (lets : Lets) (seat : ℕ) (old after : ActorState) (h past : List Entry) (b left : ℕ) (idle : Bool)
+    → begins_to_last old.role.kind ≡ true → IsRunOf setup past → HoldsMountsAlone lets → (old.memory.stale ≡ false → old.under ≡ None)
     → Runs lets seat after past left idle (woken old) h b → b ≤ left + (8 * writes_since setup h past + 65)

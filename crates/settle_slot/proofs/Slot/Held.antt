@@ -31,6 +31,7 @@ others_mount_none seats.User mine (requests.Mount node epoch pod claims) built o
 others_mount_none _ mine _ built other may = refl
 
 -- so what another gives reaches the world
-pub others_pass : (lets : Lets) (seat : ℕ) (s given : ActorState) (request : Request) (h : List Entry) → HoldsMountsAlone lets → IsBuiltKind s.role.kind → s.role.kind ≢ seats.Agent → IsReady seat s h → IsTurn s given (Call request) → lets h request ≡ true
+pub others_pass : (lets : Lets) (seat : ℕ) (s given : ActorState) (request : Request) (h : List Entry) → HoldsMountsAlone lets
+    → IsBuiltKind s.role.kind → s.role.kind ≢ seats.Agent → IsReady seat s h → IsTurn s given (Call request) → lets h request ≡ true
 others_pass lets seat s given request h holds built other ready turn =
     holds h request (others_mount_none s.role.kind (own seat h) request built other (answer_licensed s given (Call request) (own seat h) built ready.rows ready.stands.told turn))

@@ -2,7 +2,7 @@
 use Rattle.std.proofs.Common.{◌≡◌, ◌∙◌, ◌⊎◌, ℕ, ◌+◌, ◌<◌, List, [], ◌∷◌, length, Bool, true, false, Option, Some, None, inl, inr, refl, sym, ap, subst, arith, if◌then◌else◌}
 use Rattle.std.specs.Prelude.{◌==◌, ◌&&◌, not, nat_lt}
 use Rattle.std.proofs.lemmas.Bool.Decides.{nat_tests}
-use Rattle.kube_types.specs.declared.parts.Kind.{Kind}
+use Rattle.kube_parts.specs.declared.parts.Kind.{Kind}
 use Rattle.call_types.specs.declared.entry.Entry.{Entry}
 use Rattle.call_types.specs.declared.reply.Reply.{Reply}
 use Rattle.call_types.specs.declared.reply.Reply.TheVariants as replies
@@ -65,7 +65,8 @@ sees setup seat s h history stands knows over key f =
     stands.caches.rows key ∙ known_is_exact setup h seat key history (knows p.place key.kind (omega (arith, within, past)) p.at key refl)
 
 -- one call, whose answer was told
-module _ (setup : Setup) (seat : ℕ) (role : Role) (pass : Pass) (h : List Entry) (e : Entry) (history : IsHistory setup (e ∷ h)) (mine : e.seat ≡ seat) (told : e.told ≡ true) (knows : KnowsBehind setup seat role pass h) where
+module _ (setup : Setup) (seat : ℕ) (role : Role) (pass : Pass) (h : List Entry) (e : Entry) (history : IsHistory setup (e ∷ h))
+    (mine : e.seat ≡ seat) (told : e.told ≡ true) (knows : KnowsBehind setup seat role pass h) where
   kept : KnowsBehind setup seat role pass (e ∷ h)
   kept place kind lt at = knowledge_stays setup e h seat kind history mine told (knows place kind lt at)
 
@@ -82,7 +83,8 @@ module _ (setup : Setup) (seat : ℕ) (role : Role) (pass : Pass) (h : List Entr
           → place < (if p && not full then pass.behind + 1 else pass.behind) → KnowsKind setup (e ∷ h) seat k
       by place k at true false is_passing_ full lt = elim (at_or_before place pass.behind lt) [
         | inl before ↦ kept place k before at
-        | inr here ↦ subst (λ x. KnowsKind setup (e ∷ h) seat x) (sym (this_kind place k at here is_passing_)) (watches_make_known setup e h seat kind from events history starts mine told asks answered full)
+        | inr here ↦ subst (λ x. KnowsKind setup (e ∷ h) seat x) (sym (this_kind place k at here is_passing_))
+            (watches_make_known setup e h seat kind from events history starts mine told asks answered full)
       ]
       by place k at true true is_passing_ full lt = kept place k lt at
       by place k at false full is_passing_ is_full lt = kept place k lt at
@@ -95,13 +97,15 @@ module _ (setup : Setup) (seat : ℕ) (role : Role) (pass : Pass) (h : List Entr
     where
       by : (a : Ask) → e.request ≡ read_request kind a → KnowsBehind setup seat role (pass_after pass (is_passing (kind_in_order role pass.behind) kind) e.request e.reply) (e ∷ h)
       by asks.List at = subst (λ r. KnowsBehind setup seat role (pass_after pass (is_passing (kind_in_order role pass.behind) kind) r e.reply) (e ∷ h)) (sym at) kept
-      by (asks.Watch from) at = subst (λ r. KnowsBehind setup seat role (pass_after pass (is_passing (kind_in_order role pass.behind) kind) r e.reply) (e ∷ h)) (sym at) (watched kind from at (starts from at) e.reply refl)
+      by (asks.Watch from) at = subst (λ r. KnowsBehind setup seat role
+          (pass_after pass (is_passing (kind_in_order role pass.behind) kind) r e.reply) (e ∷ h)) (sym at) (watched kind from at (starts from at) e.reply refl)
 
 pass_of : ActorState → Pass
 pass_of s = s.pass
 
 -- a turn leaves what is known behind the pass, since it keeps the pass or begins one
-pub turned_knows : (setup : Setup) (seat : ℕ) (s given : ActorState) (answer : Next) (h : List Entry) → IsTurn s given answer → KnowsBehind setup seat s.role s.pass h → KnowsBehind setup seat given.role given.pass h
+pub turned_knows : (setup : Setup) (seat : ℕ) (s given : ActorState) (answer : Next) (h : List Entry) → IsTurn s given answer
+    → KnowsBehind setup seat s.role s.pass h → KnowsBehind setup seat given.role given.pass h
 turned_knows setup seat s given answer h turn knows = subst (λ r. KnowsBehind setup seat r given.pass h) (sym (turn_role s given answer turn)) (by (turn_pass s given answer turn))
   where
     by : PassAfter s given → KnowsBehind setup seat s.role given.pass h
@@ -109,7 +113,8 @@ turned_knows setup seat s given answer h turn knows = subst (λ r. KnowsBehind s
     by (Renewed brought is) = subst (λ p. KnowsBehind setup seat s.role p h) (sym is) (λ place kind lt at. absurd (omega (arith, lt)))
 
 -- what a call that was told makes of it
-module _ (setup : Setup) (seat : ℕ) (s given : ActorState) (request : Request) (reply : Reply) (h : List Entry) (built : IsBuiltKind s.role.kind) (ready : IsReady seat s h) (turn : IsTurn s given (Call request))
+module _ (setup : Setup) (seat : ℕ) (s given : ActorState) (request : Request) (reply : Reply) (h : List Entry) (built : IsBuiltKind s.role.kind)
+    (ready : IsReady seat s h) (turn : IsTurn s given (Call request))
     (history : IsHistory setup (told_entry seat given request reply ∷ h)) (knows : KnowsBehind setup seat s.role s.pass h) where
   abbrev entry : Entry
   entry = told_entry seat given request reply
@@ -120,7 +125,11 @@ module _ (setup : Setup) (seat : ℕ) (s given : ActorState) (request : Request)
   starts : (kind : Kind) (from : ℕ) → request ≡ requests.Watch kind from → WatchesFrom kind (own seat (entry ∷ h))
   starts kind from is =
       let may : Licensed s.role.kind (own seat h) request = answer_licensed s given (Call request) (own seat h) built ready.rows ready.stands.told turn in
-      subst (WatchesFrom kind) (sym front) (watches_from s.role.kind (own seat h) kind built ready.stands.told.licensed, λ start at. watch_licensed s.role.kind (own seat h) kind start built (subst (Licensed s.role.kind (own seat h)) at may))
+      subst (WatchesFrom kind) (sym front) (
+        watches_from s.role.kind (own seat h) kind built ready.stands.told.licensed,
+        λ start at. watch_licensed
+            s.role.kind (own seat h) kind start built (subst (Licensed s.role.kind (own seat h)) at may),
+      )
 
   given_knows : KnowsBehind setup seat given.role given.pass h
   given_knows = turned_knows setup seat s given (Call request) h turn knows
@@ -146,13 +155,15 @@ module _ (setup : Setup) (seat : ℕ) (s given : ActorState) (request : Request)
   pub told_knows : (next : ActorState) → next ≡ absorbed given next.caches request (Told reply) → KnowsBehind setup seat next.role next.pass (entry ∷ h)
   told_knows next is =
       let role : next.role ≡ given.role = ap (λ (t : ActorState). t.role) is ∙ answer_role given next.caches request (Told reply) in
-      subst (λ r. KnowsBehind setup seat r next.pass (entry ∷ h)) (sym role) (subst (λ p. KnowsBehind setup seat given.role p (entry ∷ h)) (sym (ap pass_is is)) (by_given next.caches given.given refl))
+      subst (λ r. KnowsBehind setup seat r next.pass (entry ∷ h)) (sym role)
+      (subst (λ p. KnowsBehind setup seat given.role p (entry ∷ h)) (sym (ap pass_is is)) (by_given next.caches given.given refl))
     where
       pass_is : ActorState → Pass
       pass_is x = x.pass
 
 -- and one that was lost
-pub lost_knows : (setup : Setup) (seat : ℕ) (given next : ActorState) (request : Request) (h : List Entry) → KnowsBehind setup seat given.role given.pass h → next ≡ absorbed given next.caches request Lost → KnowsBehind setup seat next.role next.pass h
+pub lost_knows : (setup : Setup) (seat : ℕ) (given next : ActorState) (request : Request) (h : List Entry)
+    → KnowsBehind setup seat given.role given.pass h → next ≡ absorbed given next.caches request Lost → KnowsBehind setup seat next.role next.pass h
 lost_knows setup seat given next request h knows is =
     let role : next.role ≡ given.role = ap (λ (t : ActorState). t.role) is ∙ answer_role given next.caches request Lost in
     let pass : next.pass ≡ given.pass = ap (λ (t : ActorState). t.pass) is ∙ by given.given in

@@ -1,13 +1,41 @@
 -- A slot that ends idle decides each key that waits, where it sees the store as it is; so a key on which the actor acts leaves an
 -- entry that lasts.
-use Rattle.std.proofs.Common.{◌≡◌, ◌∙◌, ℕ, zero, suc, ◌-◌, List, [], ◌∷◌, ◌++◌, append_assoc, Bool, true, false, true≢false, Option, Some, None, inl, inr, refl, sym, ap, subst, arith, ◌≢◌, if◌then◌else◌}
+use Rattle.std.proofs.Common.{
+  ◌≡◌,
+  ◌∙◌,
+  ℕ,
+  zero,
+  suc,
+  ◌-◌,
+  List,
+  [],
+  ◌∷◌,
+  ◌++◌,
+  append_assoc,
+  Bool,
+  true,
+  false,
+  true≢false,
+  Option,
+  Some,
+  None,
+  inl,
+  inr,
+  refl,
+  sym,
+  ap,
+  subst,
+  arith,
+  ◌≢◌,
+  if◌then◌else◌,
+}
 use Rattle.std.specs.Prelude.{slice_get, ⊤}
 use Rattle.std.specs.List.{list_any}
-use Rattle.kube_types.specs.declared.key.Key.{Key}
-use Rattle.kube_types.specs.declared.parts.Kind.{Kind}
-use Rattle.kube_types.specs.Keys.{row_at, same_key}
+use Rattle.kube_objects.specs.declared.key.Key.{Key}
+use Rattle.kube_parts.specs.declared.parts.Kind.{Kind}
+use Rattle.kube_objects.specs.Keys.{row_at, same_key}
 use Rattle.call_types.specs.declared.entry.Entry.{Entry}
-use Rattle.kube_types.specs.declared.objects.Object.{Object}
+use Rattle.kube_objects.specs.declared.objects.Object.{Object}
 use Rattle.call_types.specs.declared.reply.Reply.{Reply}
 use Rattle.call_types.specs.declared.request.Request.{Request}
 use Rattle.call_types.specs.declared.request.SeatKind.{SeatKind}
@@ -54,13 +82,17 @@ older setup [] past history = history
 older setup (e ∷ newer) past history = older setup newer past history.0
 
 -- what a run began with is a part of what it ended with
-pub run_older : (setup : Setup) (lets : Lets) (seat : ℕ) (after : ActorState) (past : List Entry) (left : ℕ) (idle : Bool) (s : ActorState) (h : List Entry) (b : ℕ) → Runs lets seat after past left idle s h b → IsHistory setup past → IsHistory setup h
-run_older setup lets seat after past left idle s h b run history = let g = run_grows lets seat after past left idle s h b run in older setup g.longer.added h (subst (IsHistory setup) g.longer.are history)
+pub run_older : (setup : Setup) (lets : Lets) (seat : ℕ) (after : ActorState) (past : List Entry) (left : ℕ) (idle : Bool) (s : ActorState)
+    (h : List Entry) (b : ℕ) → Runs lets seat after past left idle s h b → IsHistory setup past → IsHistory setup h
+run_older setup lets seat after past left idle s h b run history = let g = run_grows lets seat after past left idle s h b run in
+    older setup g.longer.added h (subst (IsHistory setup) g.longer.are history)
 
 -- the kinds behind the pass are known wherever a run comes to
 module _ (setup : Setup) (lets : Lets) (seat : ℕ) (after : ActorState) (past : List Entry) (left : ℕ) (idle : Bool) (history : IsHistory setup past) where
-  runs_know : (s : ActorState) (h : List Entry) (b : ℕ) → IsBuiltKind s.role.kind → Runs lets seat after past left idle s h b → KnowsBehind setup seat s.role s.pass h → KnowsBehind setup seat after.role after.pass past
-  runs_know s h b built (IsSpent none state entries rest busy) knows = subst (λ x. KnowsBehind setup seat x.role x.pass past) (sym state) (subst (KnowsBehind setup seat s.role s.pass) (sym entries) knows)
+  runs_know : (s : ActorState) (h : List Entry) (b : ℕ) → IsBuiltKind s.role.kind → Runs lets seat after past left idle s h b
+      → KnowsBehind setup seat s.role s.pass h → KnowsBehind setup seat after.role after.pass past
+  runs_know s h b built (IsSpent none state entries rest busy) knows =
+      subst (λ x. KnowsBehind setup seat x.role x.pass past) (sym state) (subst (KnowsBehind setup seat s.role s.pass) (sym entries) knows)
   runs_know s h b built (IsIdle some ready turn entries rest calm) knows = subst (KnowsBehind setup seat after.role after.pass) (sym entries) (turned_knows setup seat s after Idle h turn knows)
   runs_know s h b built (Asks given next request reply some ready turn passes absorbs more) knows =
       let role : next.role ≡ s.role = ap (λ (x : ActorState). x.role) absorbs ∙ (answer_role given next.caches request (Told reply) ∙ turn_role s given (Call request) turn) in
@@ -68,7 +100,8 @@ module _ (setup : Setup) (lets : Lets) (seat : ℕ) (after : ActorState) (past :
       runs_know next _ _ (subst (λ (r : Role). IsBuiltKind r.kind) (sym role) built) more (told_knows setup seat s given request reply h built ready turn before knows next absorbs)
   runs_know s h b built (IsHeld given next request some ready turn held absorbs more) knows =
       let role : next.role ≡ s.role = ap (λ (x : ActorState). x.role) absorbs ∙ (answer_role given next.caches request Lost ∙ turn_role s given (Call request) turn) in
-      runs_know next h _ (subst (λ (r : Role). IsBuiltKind r.kind) (sym role) built) more (lost_knows setup seat given next request h (turned_knows setup seat s given (Call request) h turn knows) absorbs)
+      runs_know next h _ (subst (λ (r : Role). IsBuiltKind r.kind) (sym role) built) more
+      (lost_knows setup seat given next request h (turned_knows setup seat s given (Call request) h turn knows) absorbs)
 
 -- nothing is behind a pass that begins
 pub nothing_behind : (setup : Setup) (seat : ℕ) (s : ActorState) (h : List Entry) → KnowsBehind setup seat (woken s).role (woken s).pass h
@@ -101,7 +134,8 @@ module _ (role : Role) (memory : Memory) (rows : List Object) (after : Work) (un
 
 -- it does so past the pass: its decision begins what is then under way, or gives no call
 pub data StopsBy (s new : ActorState) (answer : Next) (key : Key) : Type 0 where
-  ByCall : (u : Under) → passing s ≡ None → new.under ≡ Some u → new.given ≡ Some givens.Task → answer ≡ Call u.call → u.key ≡ key → GivesCall s.role s.memory (all_objects s.caches) u → StopsBy s new answer key
+  ByCall : (u : Under) → passing s ≡ None → new.under ≡ Some u → new.given ≡ Some givens.Task → answer ≡ Call u.call → u.key ≡ key
+      → GivesCall s.role s.memory (all_objects s.caches) u → StopsBy s new answer key
   ByNone : (first : First) → passing s ≡ None → GivesNone s.role s.memory (all_objects s.caches) key first → StopsBy s new answer key
 
 pub stops_by : (s new : ActorState) (answer : Next) (key : Key) → IsTurn s new answer → waits key s.work ≡ true → waits key new.work ≡ false → StopsBy s new answer key
@@ -154,14 +188,16 @@ asks_under s new answer u turn awake under = by s.memory.stale s.under refl refl
         record { under = ap (λ (x : ActorState). x.under) t.state ∙ under; given = ap (λ (x : ActorState). x.given) t.state; call = t.call ∙ ap (λ (x : Under). Call x.call) is }
 
 -- what was decided gives a call
-pub decides_gives : (role : Role) (memory : Memory) (rows : List Object) (after : Work) (under : Option Under) (u : Under) (w : Work) → Decides role memory rows after under w → under ≡ Some u → GivesCall role memory rows u
+pub decides_gives : (role : Role) (memory : Memory) (rows : List Object) (after : Work) (under : Option Under) (u : Under) (w : Work)
+    → Decides role memory rows after under w → under ≡ Some u → GivesCall role memory rows u
 decides_gives role memory rows after under u w (Nothing empty same none) e = none_some (sym none ∙ e)
 decides_gives role memory rows after under u w (Begins v old gives same some) e = subst (GivesCall role memory rows) (one v u (sym some ∙ e)) gives
 decides_gives role memory rows after under u w (Drops k first old none rest) e = decides_gives role memory rows after under u _ rest e
 
 -- what is under way behind a call that was told
 module _ (given : ActorState) (request : Request) (reply : Reply) where
-  pub told_under : (u : Under) (caches : AllKnown) (g : Option Given) (x : Option Under) → g ≡ Some givens.Task → x ≡ Some u → (given_told (record (learned given caches request reply) { under = x }) request reply g).under ≡ under_after u reply
+  pub told_under : (u : Under) (caches : AllKnown) (g : Option Given) (x : Option Under) → g ≡ Some givens.Task → x ≡ Some u
+      → (given_told (record (learned given caches request reply) { under = x }) request reply g).under ≡ under_after u reply
   told_under u caches g x eg ex = rw (eg, ex) refl
 
   pub none_told : (caches : AllKnown) (g : Option Given) (x : Option Under) → x ≡ None → (given_told (record (learned given caches request reply) { under = x }) request reply g).under ≡ None
@@ -192,7 +228,15 @@ pub lasting_here : (setup : Setup) (e : Entry) (h past newer : List Entry) → p
 lasting_here setup e h past newer are lasts = record { entry = e; newer = newer; older = []; are = are; lasts = lasts }
 
 pub lasting_later : (setup : Setup) (e : Entry) (h past : List Entry) → HasLasting setup (e ∷ h) past → HasLasting setup h past
-lasting_later setup e h past l = record { entry = l.entry; newer = l.newer; older = l.older ++ e ∷ []; are = l.are ∙ ap (λ es. l.newer ++ (l.entry ∷ es)) (sym (append_assoc l.older (e ∷ []) h)); lasts = subst (λ es. LastsBetween (world setup es) (world setup (l.entry ∷ es)) l.entry.reply) (sym (append_assoc l.older (e ∷ []) h)) l.lasts }
+lasting_later setup e h past l = record {
+  entry = l.entry;
+  newer = l.newer;
+  older = l.older ++ e ∷ [];
+  are = l.are ∙ ap
+      (λ es. l.newer ++ (l.entry ∷ es)) (sym (append_assoc l.older (e ∷ []) h));
+  lasts =
+      subst (λ es. LastsBetween (world setup es) (world setup (l.entry ∷ es)) l.entry.reply) (sym (append_assoc l.older (e ∷ []) h)) l.lasts;
+}
 
 -- its next call reaches the world
 pub will_pass : (setup : Setup) (lets : Lets) (seat : ℕ) (kind : SeatKind) (h : List Entry) (u : Under) → WillLast setup lets seat kind h u → lets h u.call ≡ true
@@ -205,7 +249,8 @@ module _ (setup : Setup) (lets : Lets) (seat : ℕ) (kind : SeatKind) (after : A
   Rest next h = (n : Under) → next.role.kind ≡ kind → next.under ≡ Some n → WillLast setup lets seat kind h n → HasLasting setup h past
 
   -- one call of it
-  asked_so : (given next : ActorState) (request : Request) (reply : Reply) (h newer : List Entry) (u : Under) → given.role.kind ≡ kind → past ≡ newer ++ (told_entry seat given request reply ∷ h) → given.under ≡ Some u → given.given ≡ Some givens.Task
+  asked_so : (given next : ActorState) (request : Request) (reply : Reply) (h newer : List Entry) (u : Under) → given.role.kind ≡ kind
+      → past ≡ newer ++ (told_entry seat given request reply ∷ h) → given.under ≡ Some u → given.given ≡ Some givens.Task
       → request ≡ u.call → next ≡ absorbed given next.caches request (Told reply) → WillLast setup lets seat kind h u → Rest next (told_entry seat given request reply ∷ h) → HasLasting setup h past
   asked_so given next request reply h newer u of_kind are under task asked absorbs (Now passes lasts) rest =
       lasting_here setup (told_entry seat given request reply) h past newer are
@@ -232,7 +277,8 @@ module _ (setup : Setup) (lets : Lets) (seat : ℕ) (kind : SeatKind) (after : A
       next_under : next.under ≡ Some n
       next_under = ap (λ (x : ActorState). x.under) absorbs ∙ (told_under given request reply u next.caches given.given given.under task under ∙ (ap (under_after u) said ∙ follows))
 
-  follow : (s : ActorState) (h : List Entry) (b : ℕ) → Runs lets seat after past left true s h b → (u : Under) → s.role.kind ≡ kind → s.under ≡ Some u → WillLast setup lets seat kind h u → HasLasting setup h past
+  follow : (s : ActorState) (h : List Entry) (b : ℕ) → Runs lets seat after past left true s h b → (u : Under) → s.role.kind ≡ kind
+      → s.under ≡ Some u → WillLast setup lets seat kind h u → HasLasting setup h past
   follow s h b (IsSpent none state entries rest busy) u of_kind under will = absurd (true≢false busy)
   follow s h b (IsIdle some ready turn entries rest calm) u of_kind under will =
       let awake : s.memory.stale ≡ false = ap (λ m. m.stale) (sym (turn_memory s after Idle turn)) ∙ fresh in
@@ -241,22 +287,27 @@ module _ (setup : Setup) (lets : Lets) (seat : ℕ) (kind : SeatKind) (after : A
       let a = asks_under s given (Call request) u turn (calls_fresh s given request turn) under in
       let g = run_grows lets seat after past left true next _ _ more in
       let kind_is : given.role.kind ≡ kind = ap (λ (r : Role). r.kind) (turn_role s given (Call request) turn) ∙ of_kind in
-      asked_so given next request reply h g.longer.added u kind_is g.longer.are a.under a.given (one request u.call (ap call_in a.call)) absorbs will (λ n k e w. follow next (told_entry seat given request reply ∷ h) (b - 1) more n k e w)
+      asked_so given next request reply h g.longer.added u kind_is g.longer.are a.under a.given (one request u.call (ap call_in a.call)) absorbs will
+      (λ n k e w. follow next (told_entry seat given request reply ∷ h) (b - 1) more n k e w)
   follow s h b (IsHeld given next request some ready turn held absorbs more) u of_kind under will =
       let a = asks_under s given (Call request) u turn (calls_fresh s given request turn) under in
       absurd (true≢false (sym (will_pass setup lets seat kind h u will) ∙ (ap (lets h) (sym (one request u.call (ap call_in a.call))) ∙ held)))
 
 -- with what is kept at each point of the slot, on which decisions may rest too
 module _ (setup : Setup) (lets : Lets) (seat : ℕ) (role : Role) (start : List Entry) (key : Key) (Kept : List Entry → Type 0)
-    (lasts : (s : ActorState) (h : List Entry) (u : Under) → IsDecisionPoint setup seat role start s h → Kept h → u.key ≡ key → GivesCall s.role s.memory (all_objects s.caches) u → WillLast setup lets seat role.kind h u)
+    (lasts : (s : ActorState) (h : List Entry) (u : Under) → IsDecisionPoint setup seat role start s h → Kept h → u.key ≡ key
+    → GivesCall s.role s.memory (all_objects s.caches) u → WillLast setup lets seat role.kind h u)
     (acts : (s : ActorState) (h : List Entry) (first : First) → IsDecisionPoint setup seat role start s h → Kept h → GivesNone s.role s.memory (all_objects s.caches) key first → ⊥)
     (built : IsBuiltKind role.kind) (after : ActorState) (past : List Entry) (left : ℕ) (history : IsHistory setup past) (fresh : after.memory.stale ≡ false)
-    (stays : (s given : ActorState) (request : Request) (reply : Reply) (h newer : List Entry) → s.role ≡ role → IsReady seat s h → IsTurn s given (Call request) → past ≡ newer ++ (told_entry seat given request reply ∷ h) → Kept h
+    (stays : (s given : ActorState) (request : Request) (reply : Reply) (h newer : List Entry) → s.role ≡ role → IsReady seat s h
+    → IsTurn s given (Call request) → past ≡ newer ++ (told_entry seat given request reply ∷ h) → Kept h
     → Kept (told_entry seat given request reply ∷ h)) where
-  point : (s : ActorState) (h : List Entry) → s.role ≡ role → IsHistory setup h → AreAlike (world setup start) (world setup h) → IsReady seat s h → KnowsBehind setup seat s.role s.pass h → passing s ≡ None → IsDecisionPoint setup seat role start s h
+  point : (s : ActorState) (h : List Entry) → s.role ≡ role → IsHistory setup h → AreAlike (world setup start) (world setup h) → IsReady seat s h
+      → KnowsBehind setup seat s.role s.pass h → passing s ≡ None → IsDecisionPoint setup seat role start s h
   point s h is before alike ready knows over = record { role_is = is; history = before; alike = alike; ready = ready; sees = sees setup seat s h before ready.stands.told knows over }
 
-  pub last_kept : (s : ActorState) (h : List Entry) (b : ℕ) → Runs lets seat after past left true s h b → s.role ≡ role → AreAlike (world setup start) (world setup h) → KnowsBehind setup seat s.role s.pass h → Kept h → waits key s.work ≡ true
+  pub last_kept : (s : ActorState) (h : List Entry) (b : ℕ) → Runs lets seat after past left true s h b → s.role ≡ role
+      → AreAlike (world setup start) (world setup h) → KnowsBehind setup seat s.role s.pass h → Kept h → waits key s.work ≡ true
       → HasLasting setup h past
   last_kept s h b (IsSpent none state entries rest busy) is alike knows kept waiting = absurd (true≢false busy)
   last_kept s h b (IsIdle some ready turn entries rest calm) is alike knows kept waiting =
@@ -269,7 +320,8 @@ module _ (setup : Setup) (lets : Lets) (seat : ℕ) (role : Role) (start : List 
       by : IsDecisionPoint setup seat role start s h → StopsBy s after Idle key → HasLasting setup h past
       by p (ByCall u over under task call own gives) = none_some (ap call_in call)
       by p (ByNone first over none) = absurd (acts s h first p kept none)
-  last_kept s h b (Asks given next request reply some ready turn passes absorbs more) is alike knows kept waiting = by (waits key given.work) refl (λ r a k w. last_kept next (told_entry seat given request reply ∷ h) (b - 1) more r a k kept_on w)
+  last_kept s h b (Asks given next request reply some ready turn passes absorbs more) is alike knows kept waiting =
+      by (waits key given.work) refl (λ r a k w. last_kept next (told_entry seat given request reply ∷ h) (b - 1) more r a k kept_on w)
     where
       kept_on : Kept (told_entry seat given request reply ∷ h)
       kept_on = let g = run_grows lets seat after past left true next _ _ more in stays s given request reply h g.longer.added is ready turn g.longer.are kept
@@ -286,12 +338,14 @@ module _ (setup : Setup) (lets : Lets) (seat : ℕ) (role : Role) (start : List 
       built_here : IsBuiltKind s.role.kind
       built_here = subst (λ (r : Role). IsBuiltKind r.kind) (sym is) built
 
-      on : (next.role ≡ role → AreAlike (world setup start) (world setup (told_entry seat given request reply ∷ h)) → KnowsBehind setup seat next.role next.pass (told_entry seat given request reply ∷ h) → waits key next.work ≡ true
+      on : (next.role ≡ role → AreAlike (world setup start) (world setup (told_entry seat given request reply ∷ h))
+          → KnowsBehind setup seat next.role next.pass (told_entry seat given request reply ∷ h) → waits key next.work ≡ true
           → HasLasting setup (told_entry seat given request reply ∷ h) past)
           → waits key given.work ≡ true → LastsOrAlike (world setup h) (effect setup (world setup h) given.role.kind request) → HasLasting setup h past
       on rest still (inl lasts) =
           let g = run_grows lets seat after past left true next _ _ more in
-          lasting_here setup (told_entry seat given request reply) h past g.longer.added g.longer.are (subst (λ r. LastsBetween (world setup h) (world setup (told_entry seat given request reply ∷ h)) r) (sym whole.1) lasts)
+          lasting_here setup (told_entry seat given request reply) h past g.longer.added g.longer.are
+          (subst (λ r. LastsBetween (world setup h) (world setup (told_entry seat given request reply ∷ h)) r) (sym whole.1) lasts)
       on rest still (inr same) =
           lasting_later setup (told_entry seat given request reply) h past
           (rest next_role (then_alike _ _ _ alike same) (told_knows setup seat s given request reply h built_here ready turn whole knows next absorbs)
@@ -302,12 +356,14 @@ module _ (setup : Setup) (lets : Lets) (seat : ℕ) (role : Role) (start : List 
           let p = point s h is whole.0 alike ready knows over in
           let g = run_grows lets seat after past left true next _ _ more in
           let kind_is : given.role.kind ≡ role.kind = ap (λ (r : Role). r.kind) (given_role ∙ is) in
-          asked_so setup lets seat role.kind after past left history fresh given next request reply h g.longer.added u kind_is g.longer.are under task (one request u.call (ap call_in call)) absorbs (lasts s h u p kept own gives)
+          asked_so setup lets seat role.kind after past left history fresh given next request reply h g.longer.added u kind_is g.longer.are under
+          task (one request u.call (ap call_in call)) absorbs (lasts s h u p kept own gives)
           (λ n k e w. follow setup lets seat role.kind after past left history fresh next (told_entry seat given request reply ∷ h) (b - 1) more n k e w)
       called (ByNone first over none) = absurd (acts s h first (point s h is whole.0 alike ready knows over) kept none)
 
       by : (b : Bool) → waits key given.work ≡ b
-          → (next.role ≡ role → AreAlike (world setup start) (world setup (told_entry seat given request reply ∷ h)) → KnowsBehind setup seat next.role next.pass (told_entry seat given request reply ∷ h) → waits key next.work ≡ true
+          → (next.role ≡ role → AreAlike (world setup start) (world setup (told_entry seat given request reply ∷ h))
+          → KnowsBehind setup seat next.role next.pass (told_entry seat given request reply ∷ h) → waits key next.work ≡ true
           → HasLasting setup (told_entry seat given request reply ∷ h) past)
           → HasLasting setup h past
       by true still rest = on rest still (calls_last_or_leave_alike setup (world setup h) given.role.kind request (rows_stand_in_order setup h))
@@ -334,10 +390,13 @@ module _ (setup : Setup) (lets : Lets) (seat : ℕ) (role : Role) (start : List 
           held_so (ByNone first over none) = absurd (acts s h first (point s h is before alike ready knows over) kept none)
 
 -- with nothing kept beside
-module _ (setup : Setup) (lets : Lets) (seat : ℕ) (role : Role) (start : List Entry) (key : Key) (acts : ActsOn setup lets seat role start key) (built : IsBuiltKind role.kind) (after : ActorState) (past : List Entry) (left : ℕ) (history : IsHistory setup past) (fresh : after.memory.stale ≡ false) where
-  pub last : (s : ActorState) (h : List Entry) (b : ℕ) → Runs lets seat after past left true s h b → s.role ≡ role → AreAlike (world setup start) (world setup h) → KnowsBehind setup seat s.role s.pass h → waits key s.work ≡ true → HasLasting setup h past
+module _ (setup : Setup) (lets : Lets) (seat : ℕ) (role : Role) (start : List Entry) (key : Key) (acts : ActsOn setup lets seat role start key)
+    (built : IsBuiltKind role.kind) (after : ActorState) (past : List Entry) (left : ℕ) (history : IsHistory setup past) (fresh : after.memory.stale ≡ false) where
+  pub last : (s : ActorState) (h : List Entry) (b : ℕ) → Runs lets seat after past left true s h b → s.role ≡ role
+      → AreAlike (world setup start) (world setup h) → KnowsBehind setup seat s.role s.pass h → waits key s.work ≡ true → HasLasting setup h past
   last s h b run is alike knows waiting =
-      last_kept setup lets seat role start key (λ x. ⊤) (λ x y u p k own gives. acts.lasts x y u p own gives) (λ x y first p k none. acts.acts x y first p none) built after past left history fresh (λ x given request reply y newer r ready turn are k. tt) s h b run is alike knows tt waiting
+      last_kept setup lets seat role start key (λ x. ⊤) (λ x y u p k own gives. acts.lasts x y u p own gives)
+      (λ x y first p k none. acts.acts x y first p none) built after past left history fresh (λ x given request reply y newer r ready turn are k. tt) s h b run is alike knows tt waiting
 
 pub slots_last : SlotsLast
 slots_last setup lets seat start key old after h past b left built history alike run fresh acts waiting =
@@ -380,7 +439,8 @@ memory_awake role (e ∷ mine) other = by e.told (memory_awake role mine other)
 module _ (lets : Lets) (seat : ℕ) (after : ActorState) (past : List Entry) (left : ℕ) where
   awake_by : (s : ActorState) (h : List Entry) (b : ℕ) → s.role.kind ≢ seats.Agent → Runs lets seat after past left true s h b → after.memory.stale ≡ false
   awake_by s h b other (IsSpent none state entries rest busy) = absurd (true≢false busy)
-  awake_by s h b other (IsIdle some ready turn entries rest calm) = ap (λ m. m.stale) (turn_memory s after Idle turn) ∙ (ap (λ m. m.stale) ready.stands.told.memory ∙ memory_awake s.role (own seat h) other)
+  awake_by s h b other (IsIdle some ready turn entries rest calm) = ap (λ m. m.stale) (turn_memory s after Idle turn)
+      ∙ (ap (λ m. m.stale) ready.stands.told.memory ∙ memory_awake s.role (own seat h) other)
   awake_by s h b other (Asks given next request reply some ready turn passes absorbs more) =
       awake_by next _ _ (subst (λ (r : Role). r.kind ≢ seats.Agent) (sym (still_role s given next (Call request) request (Told reply) turn absorbs)) other) more
   awake_by s h b other (IsHeld given next request some ready turn held absorbs more) =

@@ -11,7 +11,9 @@ use Rattle.settle_slot.specs.Slot.Slots.{Now, Then, WillLast}
 use Rattle.settle_slot.specs.Slot.Would.{AtOnce, Here, Later, Leads, On, WouldActWhereCallsPass, WouldLast}
 
 module _ (setup : Setup) (lets : Lets) (seat : ℕ) (kind : SeatKind) (start : List Entry) where
-  pub will_last : (h : List Entry) (u : Under) → ((g : List Entry) (v : Under) → Leads setup seat kind h u g v → AreAlike (world setup start) (world setup g) → lets g v.call ≡ true) → WouldLast setup seat kind start h u → WillLast setup lets seat kind h u
+  pub will_last : (h : List Entry) (u : Under)
+      → ((g : List Entry) (v : Under) → Leads setup seat kind h u g v → AreAlike (world setup start) (world setup g) → lets g v.call ≡ true)
+      → WouldLast setup seat kind start h u → WillLast setup lets seat kind h u
   will_last h u passes (AtOnce alike lasts) = Now (passes h u Here alike) lasts
   will_last h u passes (Later alike next follows more) = Then (passes h u Here alike) next follows (will_last _ next (λ g v leads same. passes g v (On next follows leads) same) more)
 

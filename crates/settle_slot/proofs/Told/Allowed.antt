@@ -3,9 +3,9 @@ use Rattle.std.proofs.Common.{◌≡◌, ◌∙◌, ◌⊎◌, ℕ, ◌≤◌, �
 use Rattle.std.specs.Prelude.{◌==◌, nat_lt, filter, take}
 use Rattle.std.proofs.lemmas.Bool.{and_parts}
 use Rattle.std.proofs.lemmas.Bool.Decides.{nat_tests}
-use Rattle.kube_types.specs.declared.parts.Kind.{Kind}
-use Rattle.kube_types.specs.declared.objects.Object.{Object}
-use Rattle.kube_types.specs.Keys.{is_of_kind, same_kind}
+use Rattle.kube_parts.specs.declared.parts.Kind.{Kind}
+use Rattle.kube_objects.specs.declared.objects.Object.{Object}
+use Rattle.kube_objects.specs.Keys.{is_of_kind, same_kind}
 use Rattle.call_types.specs.declared.entry.Entry.{Entry}
 use Rattle.call_types.specs.declared.reply.Event.{Event}
 use Rattle.call_types.specs.declared.reply.Events.{Events as EventsData}
@@ -106,7 +106,8 @@ version_of (replies.Listed items version) = version
 version_of reply = 0
 
 module _ (setup : Setup) (e : Entry) (past : List Entry) (seat : ℕ) (kind : Kind) (answered : e.reply ≡ reply_to (effect setup (world setup past) e.kind e.request))
-    (before : IsOrdered (world setup past).store.version (following_of (own seat past) kind)) (starts : (from : ℕ) → e.request ≡ requests.Watch kind from → IsFrom from (following_of (own seat past) kind)) where
+    (before : IsOrdered (world setup past).store.version (following_of (own seat past) kind))
+    (starts : (from : ℕ) → e.request ≡ requests.Watch kind from → IsFrom from (following_of (own seat past) kind)) where
   abbrev high : ℕ
   high = (world setup (e ∷ past)).store.version
 
@@ -144,7 +145,8 @@ module _ (setup : Setup) (e : Entry) (past : List Entry) (seat : ℕ) (kind : Ki
   on (requests.Watch k start) _ er ea = same
   on _ _ er ea = same
 
-ordered : (setup : Setup) (past : List Entry) (seat : ℕ) (kind : Kind) → IsHistory setup past → WatchesFrom kind (own seat past) → IsOrdered (world setup past).store.version (following_of (own seat past) kind)
+ordered : (setup : Setup) (past : List Entry) (seat : ℕ) (kind : Kind) → IsHistory setup past → WatchesFrom kind (own seat past)
+    → IsOrdered (world setup past).store.version (following_of (own seat past) kind)
 ordered setup [] seat kind history from = tt
 ordered setup (e ∷ past) seat kind history from = by (e.seat == seat) e.told from (λ f. ordered setup past seat kind history.0 f)
   where
@@ -157,7 +159,8 @@ ordered setup (e ∷ past) seat kind history from = by (e.seat == seat) e.told f
     by false told f before = wider _ _ _ up (before f)
     by true told f before = told_on e.told refl
       where
-        told_on : (t : Bool) → e.told ≡ t → IsOrdered (world setup (e ∷ past)).store.version (if t then follow_on e.request e.reply kind (following_of (own seat past) kind) else following_of (own seat past) kind)
+        told_on : (t : Bool) → e.told ≡ t → IsOrdered (world setup (e ∷ past)).store.version (if t then follow_on e.request e.reply kind
+            (following_of (own seat past) kind) else following_of (own seat past) kind)
         told_on true is = on setup e past seat kind history.1 (before f.0) f.1 e.request e.reply refl refl
         told_on false is = wider _ _ _ up (before f.0)
 
@@ -165,7 +168,8 @@ pub watches_on : (setup : Setup) (past : List Entry) (seat : ℕ) (kind : Kind) 
 watches_on setup [] seat kind history from = tt
 watches_on setup (e ∷ past) seat kind history from = by (e.seat == seat) from (λ f. watches_on setup past seat kind history.0 f)
   where
-    by : (mine : Bool) → WatchesFrom kind (if mine then e ∷ own seat past else own seat past) → (WatchesFrom kind (own seat past) → WatchesOn kind (own seat past)) → WatchesOn kind (if mine then e ∷ own seat past else own seat past)
+    by : (mine : Bool) → WatchesFrom kind (if mine then e ∷ own seat past else own seat past)
+        → (WatchesFrom kind (own seat past) → WatchesOn kind (own seat past)) → WatchesOn kind (if mine then e ∷ own seat past else own seat past)
     by false f before = before f
     by true f before = (before f.0, λ start reached er is. below_reached _ start reached (following_of (own seat past) kind) (ordered setup past seat kind history.0 f.0) (f.1 start er) is)
 

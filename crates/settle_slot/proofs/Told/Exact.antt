@@ -3,12 +3,12 @@ use Rattle.std.proofs.Common.{◌≡◌, ◌∙◌, ◌⊎◌, ℕ, ◌≤◌, �
 use Rattle.std.specs.Prelude.{◌==◌, ◌&&◌, nat_lt, filter, reverse, take, cond, ⊤}
 use Rattle.std.proofs.lemmas.Bool.Decides.{nat_tests}
 use Rattle.std.proofs.lemmas.Grind.{reverse_onto}
-use Rattle.kube_types.specs.declared.key.Key.{Key}
-use Rattle.kube_types.specs.declared.parts.Kind.{Kind}
-use Rattle.kube_types.specs.declared.objects.Object.{Object}
-use Rattle.kube_types.specs.Keys.{AreRows, is_of_kind, key_of, kind_index, kind_of, meta_of, put_row, row_at, same_key, same_kind, without_row}
-use Rattle.kube_types.proofs.KeyOrder.{row_at-put_row, row_at-put_row_other, row_at-without_row, row_at-without_row_other}
-use Rattle.kube_types.proofs.SameKeys.{key_tells, same_kind-Decides}
+use Rattle.kube_objects.specs.declared.key.Key.{Key}
+use Rattle.kube_parts.specs.declared.parts.Kind.{Kind}
+use Rattle.kube_objects.specs.declared.objects.Object.{Object}
+use Rattle.kube_objects.specs.Keys.{AreRows, is_of_kind, key_of, kind_index, kind_of, meta_of, put_row, row_at, same_key, same_kind, without_row}
+use Rattle.kube_objects.proofs.KeyOrder.{row_at-put_row, row_at-put_row_other, row_at-without_row, row_at-without_row_other}
+use Rattle.kube_objects.proofs.SameKeys.{key_tells, same_kind-Decides}
 use Rattle.call_types.specs.declared.entry.Entry.{Entry}
 use Rattle.call_types.specs.declared.reply.Event.{Event}
 use Rattle.call_types.specs.declared.reply.Change.{Change}
@@ -29,7 +29,7 @@ use Rattle.model_laws.proofs.Histories.{rows_stand_in_order}
 use Rattle.model_laws.proofs.Lists.{IsIn, none_some, one, some_filter, some_or, some_reverse}
 use Rattle.model_laws.proofs.Uids.{rises}
 use Rattle.model_laws.proofs.Watched.{AreBetween, logs}
-use Rattle.kube_types.proofs.KeyOrder.{row_at_key}
+use Rattle.kube_objects.proofs.KeyOrder.{row_at_key}
 use Rattle.model_laws.specs.Reads.{TellsRows}
 use Rattle.model_laws.proofs.Readings.{found_stands, lists_tell_what_stands}
 use Rattle.model_laws.proofs.Lists.{some_take}
@@ -289,7 +289,8 @@ module _ (setup : Setup) (e : Entry) (past : List Entry) (seat : ℕ) (kind : Ki
   version_of (replies.Listed items version) = version
   version_of reply = 0
 
-  listing_reaches : (items : List Object) (version : ℕ) → TellsRows w kind None items version → (key : Key) (x : Option Object) → row_at key items ≡ x → HasReached (changed_at key w.log) (Some (listing version x))
+  listing_reaches : (items : List Object) (version : ℕ) → TellsRows w kind None items version → (key : Key) (x : Option Object)
+      → row_at key items ≡ x → HasReached (changed_at key w.log) (Some (listing version x))
   listing_reaches items version tells key None is =
       let at = tells.at in
       let low = changed_below setup past key in
@@ -318,12 +319,16 @@ module _ (setup : Setup) (e : Entry) (past : List Entry) (seat : ℕ) (kind : Ki
       by key of (Changed c) = let at = tells.at in inl (omega (arith, at, c))
       by key of (LeftAlone row c) =
           let covered : (kind_index kind == kind_index key.kind) ≡ true = let same_one : kind_index key.kind ≡ kind_index kind = ap kind_index of in grind (arith, nat_tests, same_one) in
-          let t : told_of e key ≡ Some (listing version (row_at key items)) = told_is key (requests.List kind None) (replies.Listed items version) er ea ∙ ap (λ b. if b then Some (listing version (row_at key items)) else None) covered in
-          inr (reached_first _ (told_of e key) (newest (own seat past) key) (subst (λ x. HasReached (changed_at key (world setup (e ∷ past)).log) x) (sym t) (subst (λ n. HasReached n (Some (listing version (row_at key items)))) (sym c) (listing_reaches items version tells key (row_at key items) refl))))
+          let t : told_of e key ≡ Some (listing version (row_at key items)) =
+          told_is key (requests.List kind None) (replies.Listed items version) er ea ∙ ap (λ b. if b then Some (listing version (row_at key items)) else None) covered in
+          inr (reached_first _ (told_of e key) (newest (own seat past) key)
+          (subst (λ x. HasReached (changed_at key (world setup (e ∷ past)).log) x) (sym t)
+          (subst (λ n. HasReached n (Some (listing version (row_at key items)))) (sym c) (listing_reaches items version tells key (row_at key items) refl))))
 
   -- a watch of the kind
 
-  watched : (start : ℕ) (events : EventsData) (reached : ℕ) → e.request ≡ requests.Watch kind start → e.reply ≡ replies.Events events → reached_by (following_of (own seat past) kind) ≡ Some reached → Now events.upto
+  watched : (start : ℕ) (events : EventsData) (reached : ℕ) → e.request ≡ requests.Watch kind start → e.reply ≡ replies.Events events
+      → reached_by (following_of (own seat past) kind) ≡ Some reached → Now events.upto
   watched start events reached er ea is =
       let low = upto in
       let more = up in
@@ -340,7 +345,8 @@ module _ (setup : Setup) (e : Entry) (past : List Entry) (seat : ℕ) (kind : Ki
       there y h of since within =
           let first = watches start reached er is in
           let is_after : is_later kind start y ≡ true = let n : nat_lt start y.version ≡ true = grind (arith, nat_tests, first, since) in rw (n, of) refl in
-          let all : IsIn y (events.events ++ events_after kind events.upto w.log) = subst (IsIn y) goes (in_reverse y (filter (is_later kind start) w.log) (in_filter (is_later kind start) y w.log h is_after)) in
+          let all : IsIn y (events.events ++ events_after kind events.upto w.log) =
+          subst (IsIn y) goes (in_reverse y (filter (is_later kind start) w.log) (in_filter (is_later kind start) y w.log h is_after)) in
           elim (some_or (λ z. z ≡ y) events.events (events_after kind events.upto w.log) all) [
             | inl told_it ↦ told_it
             | inr rest ↦ absurd (not_late (filter_passes (is_later kind events.upto) y w.log (some_reverse (λ z. z ≡ y) (filter (is_later kind events.upto) w.log) rest)))
@@ -355,7 +361,8 @@ module _ (setup : Setup) (e : Entry) (past : List Entry) (seat : ℕ) (kind : Ki
           let at = c.at in
           let of_y : is_of_kind kind c.event.object ≡ true = (same_kind-Decides (kind_of c.event.object) kind).1 (ap (λ (j : Key). j.kind) c.own_key ∙ of) in
           let inside = there c.event c.there of_y (omega (arith, since, at)) (omega (arith, within, at)) in
-          subst (λ x. HasReached (changed_at key w.log) x) (sym (told_is key (requests.Watch kind start) (replies.Events events) er ea)) (subst (λ n. HasReached n (told_by_events events.events key)) at (events_reach key events.events c.event inside c.own_key))
+          subst (λ x. HasReached (changed_at key w.log) x) (sym (told_is key (requests.Watch kind start) (replies.Events events) er ea))
+          (subst (λ n. HasReached n (told_by_events events.events key)) at (events_reach key events.events c.event inside c.own_key))
 
       old : (key : Key) → key.kind ≡ kind → IsCaught w key reached (newest (own seat past) key)
       old key of = (before reached is).1 key of
@@ -364,7 +371,8 @@ module _ (setup : Setup) (e : Entry) (past : List Entry) (seat : ℕ) (kind : Ki
       by key of (Changed c) = let low = upto in inl (omega (arith, low, c))
       by key of (LeftAlone row c) = split (nat_lt events.upto (changed_at key w.log)) refl (old key of)
         where
-          put : HasReached (changed_at key w.log) (later (told_of e key) (newest (own seat past) key)) → IsCaught (world setup (e ∷ past)) key events.upto (later (told_of e key) (newest (own seat past) key))
+          put : HasReached (changed_at key w.log) (later (told_of e key) (newest (own seat past) key))
+              → IsCaught (world setup (e ∷ past)) key events.upto (later (told_of e key) (newest (own seat past) key))
           put h = inr (subst (λ n. HasReached n (later (told_of e key) (newest (own seat past) key))) (sym c) h)
 
           split : (b : Bool) → nat_lt events.upto (changed_at key w.log) ≡ b → IsCaught w key reached (newest (own seat past) key)
@@ -381,7 +389,8 @@ module _ (setup : Setup) (e : Entry) (past : List Entry) (seat : ℕ) (kind : Ki
   follow_to from (ListedAt version None) is events start er ea h = subst Now (one events.upto from h) (watched start events version er ea (ap reached_by is))
   follow_to from (ListedAt version (Some upto)) is events start er ea h = subst Now (one events.upto from h) (watched start events upto er ea (ap reached_by is))
 
-  told_on : (from : ℕ) (request : Request) (reply : Reply) → e.request ≡ request → e.reply ≡ reply → reached_by (follow_on request reply kind (following_of (own seat past) kind)) ≡ Some from → Now from
+  told_on : (from : ℕ) (request : Request) (reply : Reply) → e.request ≡ request → e.reply ≡ reply
+      → reached_by (follow_on request reply kind (following_of (own seat past) kind)) ≡ Some from → Now from
   told_on from (requests.List k None) (replies.Listed items version) er ea h = by (same_kind k kind) refl h
     where
       by : (b : Bool) → same_kind k kind ≡ b → reached_by (if b then ListedAt version None else following_of (own seat past) kind) ≡ Some from → Now from
@@ -401,14 +410,16 @@ module _ (setup : Setup) (e : Entry) (past : List Entry) (seat : ℕ) (kind : Ki
   told_on from (requests.Watch k start) _ er ea h = same from h
   told_on from _ _ er ea h = same from h
 
-pub caught : (setup : Setup) (past : List Entry) (seat : ℕ) (kind : Kind) → IsHistory setup past → WatchesOn kind (own seat past) → (from : ℕ) → reached_by (following_of (own seat past) kind) ≡ Some from → AllCaught setup past seat kind from
+pub caught : (setup : Setup) (past : List Entry) (seat : ℕ) (kind : Kind) → IsHistory setup past → WatchesOn kind (own seat past) → (from : ℕ)
+    → reached_by (following_of (own seat past) kind) ≡ Some from → AllCaught setup past seat kind from
 caught setup [] seat kind history watches from is = none_some is
 caught setup (e ∷ past) seat kind history watches from is = by (e.seat == seat) e.told refl watches is (λ on. caught setup past seat kind history.0 on)
   where
     by : (mine told : Bool) → e.told ≡ told → WatchesOn kind (if mine then e ∷ own seat past else own seat past)
         → reached_by (following_of (if mine then e ∷ own seat past else own seat past) kind) ≡ Some from
         → (WatchesOn kind (own seat past) → (v : ℕ) → reached_by (following_of (own seat past) kind) ≡ Some v → AllCaught setup past seat kind v)
-        → (from ≤ (world setup (e ∷ past)).store.version) × ((key : Key) → key.kind ≡ kind → IsCaught (world setup (e ∷ past)) key from (newest (if mine then e ∷ own seat past else own seat past) key))
+        → (from ≤ (world setup (e ∷ past)).store.version)
+        × ((key : Key) → key.kind ≡ kind → IsCaught (world setup (e ∷ past)) key from (newest (if mine then e ∷ own seat past else own seat past) key))
     by false told t on h before =
         let b = before on from h in
         let low = b.0 in

@@ -2,10 +2,10 @@
 use Rattle.std.proofs.Common.{◌≡◌, ◌∙◌, ◌⊎◌, ℕ, List, [], ◌∷◌, ◌++◌, true, Some, None, inl, inr, refl, sym, ap, subst, arith}
 use Rattle.std.specs.Prelude.{◌==◌}
 use Rattle.std.proofs.lemmas.Bool.Decides.{nat_tests}
-use Rattle.kube_types.specs.declared.key.Key.{Key}
-use Rattle.kube_types.specs.declared.parts.Kind.{Kind}
-use Rattle.kube_types.specs.Keys.{key_of, meta_of, row_at}
-use Rattle.kube_types.proofs.SameKeys.{key_tells}
+use Rattle.kube_objects.specs.declared.key.Key.{Key}
+use Rattle.kube_parts.specs.declared.parts.Kind.{Kind}
+use Rattle.kube_objects.specs.Keys.{key_of, meta_of, row_at}
+use Rattle.kube_objects.proofs.SameKeys.{key_tells}
 use Rattle.call_types.specs.declared.entry.Entry.{Entry}
 use Rattle.call_types.specs.declared.request.Request.{Request}
 use Rattle.call_types.specs.declared.setup.Setup.{Setup}
@@ -21,7 +21,8 @@ use Rattle.settle_slot.proofs.Told.Exact.{IsCaught, caught, changed_below, reach
 use Rattle.settle_slot.proofs.Told.Telling.{is_same, newest_is_true, not_same}
 
 -- a call that changes a key tells it at that version
-reach_step : (w : World) (x : Effect) (request : Request) (key : Key) → (changed_at key (world_after w x).log ≡ changed_at key w.log) ⊎ HasReached (changed_at key (world_after w x).log) (tells_of request (reply_to x) key)
+reach_step : (w : World) (x : Effect) (request : Request) (key : Key) → (changed_at key (world_after w x).log ≡ changed_at key w.log)
+    ⊎ HasReached (changed_at key (world_after w x).log) (tells_of request (reply_to x) key)
 unfolding world_after after log_after reply_to reply_of
 reach_step w (OnStore (Says reply)) request key = inl refl
 reach_step w (OnStore (Stores change o)) request key = elim (key_tells (key_of o) key) [
@@ -37,7 +38,9 @@ reach_step w (SetsMoment at) request key = inl refl
 
 one_more : (setup : Setup) (e : Entry) (past : List Entry) (seat : ℕ) (key : Key) → e.reply ≡ reply_to (effect setup (world setup past) e.kind e.request) → e.told ≡ true → e.seat ≡ seat
     → Knows setup past seat key → Knows setup (e ∷ past) seat key
-one_more setup e past seat key answered told of knows = subst (λ m. HasReached (changed_at key (world setup (e ∷ past)).log) (newest m key)) (sym front) (by (reach_step (world setup past) (effect setup (world setup past) e.kind e.request) e.request key))
+one_more setup e past seat key answered told of knows =
+    subst (λ m. HasReached (changed_at key (world setup (e ∷ past)).log) (newest m key)) (sym front)
+    (by (reach_step (world setup past) (effect setup (world setup past) e.kind e.request) e.request key))
   where
     mine : (e.seat == seat) ≡ true
     mine = grind (arith, nat_tests, of)
@@ -48,12 +51,14 @@ one_more setup e past seat key answered told of knows = subst (λ m. HasReached 
     told_is : told_of e key ≡ tells_of e.request (reply_to (effect setup (world setup past) e.kind e.request)) key
     told_is = let shown : told_of e key ≡ tells_of e.request e.reply key = rw told refl in shown ∙ ap (λ r. tells_of e.request r key) answered
 
-    by : (changed_at key (world setup (e ∷ past)).log ≡ changed_at key (world setup past).log) ⊎ HasReached (changed_at key (world setup (e ∷ past)).log) (tells_of e.request (reply_to (effect setup (world setup past) e.kind e.request)) key)
+    by : (changed_at key (world setup (e ∷ past)).log ≡ changed_at key (world setup past).log)
+        ⊎ HasReached (changed_at key (world setup (e ∷ past)).log) (tells_of e.request (reply_to (effect setup (world setup past) e.kind e.request)) key)
         → HasReached (changed_at key (world setup (e ∷ past)).log) (later (told_of e key) (newest (own seat past) key))
     by (inl same) = subst (λ n. HasReached n (later (told_of e key) (newest (own seat past) key))) (sym same) (reached_second _ (told_of e key) (newest (own seat past) key) knows)
     by (inr new) = reached_first _ (told_of e key) (newest (own seat past) key) (subst (λ x. HasReached (changed_at key (world setup (e ∷ past)).log) x) (sym told_is) new)
 
-knows_on : (setup : Setup) (past : List Entry) (seat : ℕ) (key : Key) (newer : List Entry) → IsHistory setup (newer ++ past) → AreToldTo seat newer → Knows setup past seat key → Knows setup (newer ++ past) seat key
+knows_on : (setup : Setup) (past : List Entry) (seat : ℕ) (key : Key) (newer : List Entry) → IsHistory setup (newer ++ past) → AreToldTo seat newer
+    → Knows setup past seat key → Knows setup (newer ++ past) seat key
 knows_on setup past seat key [] history told knows = knows
 knows_on setup past seat key (e ∷ newer) history told knows = one_more setup e (newer ++ past) seat key history.1 told.1 told.0 (knows_on setup past seat key newer history.0 told.2 knows)
 
@@ -62,7 +67,8 @@ older setup [] past history = history
 older setup (e ∷ newer) past history = older setup newer past history.0
 
 -- where the seat has reached the store's version it knows each key
-pub knows_first : (setup : Setup) (past : List Entry) (seat : ℕ) (kind : Kind) → IsHistory setup past → WatchesFrom kind (own seat past) → reached_by (following_of (own seat past) kind) ≡ Some (world setup past).store.version
+pub knows_first : (setup : Setup) (past : List Entry) (seat : ℕ) (kind : Kind) → IsHistory setup past → WatchesFrom kind (own seat past)
+    → reached_by (following_of (own seat past) kind) ≡ Some (world setup past).store.version
     → (key : Key) → key.kind ≡ kind → Knows setup past seat key
 knows_first setup past seat kind history from is key of = by ((caught setup past seat kind history (watches_on setup past seat kind history from) (world setup past).store.version is).1 key of)
   where
@@ -71,7 +77,8 @@ knows_first setup past seat kind history from is key of = by ((caught setup past
     by (inr h) = h
 
 -- what is known so is what stands
-is_so : (setup : Setup) (past : List Entry) (seat : ℕ) (key : Key) → IsHistory setup past → Knows setup past seat key → object_of (newest (own seat past) key) ≡ row_at key (world setup past).store.rows
+is_so : (setup : Setup) (past : List Entry) (seat : ℕ) (key : Key) → IsHistory setup past → Knows setup past seat key
+    → object_of (newest (own seat past) key) ≡ row_at key (world setup past).store.rows
 is_so setup past seat key history h = ap object_of h.is ∙ (true_of h.telling h.is).now h.up
   where
     true_of : (t : Telling) → newest (own seat past) key ≡ Some t → IsTrue (world setup past) key t

@@ -2,12 +2,12 @@
 use Rattle.std.proofs.Common.{◌≡◌, ◌≢◌, ◌∙◌, ◌⊎◌, ℕ, ◌+◌, List, [], ◌∷◌, Bool, true, false, Option, Some, None, inl, inr, refl, sym, ap, subst, arith, if◌then◌else◌}
 use Rattle.std.specs.Prelude.{◌==◌, nat_lt, ⊤}
 use Rattle.std.proofs.lemmas.Bool.Decides.{nat_tests}
-use Rattle.kube_types.specs.declared.key.Key.{Key}
-use Rattle.kube_types.specs.declared.parts.Kind.{Kind}
-use Rattle.kube_types.specs.declared.objects.Object.{Object}
-use Rattle.kube_types.specs.Keys.{AreRows, is_of_kind, key_of, kind_index, kind_of, meta_of, row_at, same_key}
-use Rattle.kube_types.proofs.KeyOrder.{row_at-put_row, row_at-put_row_other, row_at-without_row, row_at-without_row_other}
-use Rattle.kube_types.proofs.SameKeys.{key_tells, same_key-Decides}
+use Rattle.kube_objects.specs.declared.key.Key.{Key}
+use Rattle.kube_parts.specs.declared.parts.Kind.{Kind}
+use Rattle.kube_objects.specs.declared.objects.Object.{Object}
+use Rattle.kube_objects.specs.Keys.{AreRows, is_of_kind, key_of, kind_index, kind_of, meta_of, row_at, same_key}
+use Rattle.kube_objects.proofs.KeyOrder.{row_at-put_row, row_at-put_row_other, row_at-without_row, row_at-without_row_other}
+use Rattle.kube_objects.proofs.SameKeys.{key_tells, same_key-Decides}
 use Rattle.call_types.specs.declared.entry.Entry.{Entry}
 use Rattle.call_types.specs.declared.reply.Change.{Change}
 use Rattle.call_types.specs.declared.reply.Change.TheVariants as changes
@@ -20,13 +20,34 @@ use Rattle.call_types.specs.declared.reply.Reply.{Reply}
 use Rattle.call_types.specs.declared.reply.Reply.TheVariants as replies
 use Rattle.call_types.specs.declared.request.NewStatus.{NewStatus}
 use Rattle.call_types.specs.declared.request.Request.TheVariants as requests
-use Rattle.kube_types.specs.declared.uid.Uid.{Uid}
-use Rattle.kube_types.specs.declared.objects.Pod.{Pod as PodData}
-use Rattle.kube_types.proofs.KeyOrder.{row_at_key}
+use Rattle.kube_parts.specs.declared.uid.Uid.{Uid}
+use Rattle.kube_objects.specs.declared.objects.Pod.{Pod as PodData}
+use Rattle.kube_objects.proofs.KeyOrder.{row_at_key}
 use Rattle.std.proofs.lemmas.Slice.Eq.{bytes_eq-Decides}
 use Rattle.std.specs.Prelude.{bytes_eq, ◌&&◌, filter}
 use Rattle.std.proofs.lemmas.Bool.{and_parts}
-use Rattle.binder_model.specs.Answers.{Outcome, Removes, Says, Stores, after, bind, create, delete, delete_of, edit, edit_to, finish, get, list, outcome, reply_of, update, update_status, write_outcome, written_if_fits}
+use Rattle.binder_model.specs.Answers.{
+  Outcome,
+  Removes,
+  Says,
+  Stores,
+  after,
+  bind,
+  create,
+  delete,
+  delete_of,
+  edit,
+  edit_to,
+  finish,
+  get,
+  list,
+  outcome,
+  reply_of,
+  update,
+  update_status,
+  write_outcome,
+  written_if_fits,
+}
 use Rattle.binder_model.specs.Edits.{edited_object}
 use Rattle.binder_model.specs.Store.{State, leaves}
 use Rattle.binder_model.specs.Told.{Telling, later, listing, newest, of_event, own, presence, told_by_events, told_of, tells_of}
@@ -211,7 +232,8 @@ abbrev Tells : World → Key → Event → Type 0
 Tells w key y = IsTrue w key (of_event y.change y.object y.version)
 
 -- an event of the log after an effect stood in it before, or is true of its key
-new_event : (w : World) (x : Effect) → AreRows w.store.rows → OfStore (NextOf (w.store.version + 1)) x → OfStore NotDeleted x → (y : Event) → IsIn y (world_after w x).log → IsIn y w.log ⊎ Tells (world_after w x) (key_of y.object) y
+new_event : (w : World) (x : Effect) → AreRows w.store.rows → OfStore (NextOf (w.store.version + 1)) x → OfStore NotDeleted x → (y : Event)
+    → IsIn y (world_after w x).log → IsIn y w.log ⊎ Tells (world_after w x) (key_of y.object) y
 unfolding world_after after log_after
 new_event w (OnStore (Says reply)) rows n d y h = inl h
 new_event w (OnStore (Stores change o)) rows n d y (inl is) = inr (subst (λ (z : Event). Tells (world_after w (OnStore (Stores change o))) (key_of z.object) z) is (stored_true w change o n d))
@@ -237,7 +259,8 @@ if_any : (b : Bool) (w : World) (key : Key) (t : Telling) → (b ≡ true → Is
 if_any true w key t it = it refl
 if_any false w key t it = tt
 
-events_true : (w : World) (key : Key) → ((y : Event) → IsIn y w.log → Tells w (key_of y.object) y) → (es : List Event) → ((y : Event) → IsIn y es → IsIn y w.log) → IsTrueIfAny w key (told_by_events es key)
+events_true : (w : World) (key : Key) → ((y : Event) → IsIn y w.log → Tells w (key_of y.object) y) → (es : List Event)
+    → ((y : Event) → IsIn y es → IsIn y w.log) → IsTrueIfAny w key (told_by_events es key)
 events_true w key in_log [] are = tt
 events_true w key in_log (y ∷ es) are =
     later_true w key _ (told_by_events es key)
@@ -265,7 +288,8 @@ logged : (setup : Setup) (w : World) (kind : SeatKind) (request : Request) → A
 logged setup w kind request = logged_effect w _ (effect_said setup w kind request all_sayings).said
   where
     of_watch : (k : Kind) (from : ℕ) → AreLogged w (replies.Events (told_events k from w.store.version w.log))
-    of_watch k from y h = some_filter (λ z. z ≡ y) (is_later k from) w.log (some_reverse (λ z. z ≡ y) (filter (is_later k from) w.log) (some_take (λ z. z ≡ y) most_events (events_after k from w.log) h))
+    of_watch k from y h = some_filter (λ z. z ≡ y) (is_later k from) w.log (some_reverse (λ z. z ≡ y) (filter (is_later k from) w.log)
+        (some_take (λ z. z ≡ y) most_events (events_after k from w.log) h))
 
     all_sayings : Sayings w request (AreLogged w)
     all_sayings = record {
@@ -293,7 +317,8 @@ same_place ns o key is e = (bytes_eq-Decides (meta_of o).namespace ns).1 (ap (λ
 
 -- what a list tells of a key that it covers
 listing_true : (setup : Setup) (past : List Entry) (k : Kind) (ns : Option (List ℕ)) (items : List Object) (version : ℕ) → TellsRows (world setup past) k ns items version → AreRows items
-    → (key : Key) → ((o : Object) → key_of o ≡ key → (is_of_kind k o ≡ true) × (fits_namespace ns o ≡ true)) → (x : Option Object) → row_at key items ≡ x → IsTrue (world setup past) key (listing version x)
+    → (key : Key) → ((o : Object) → key_of o ≡ key → (is_of_kind k o ≡ true) × (fits_namespace ns o ≡ true)) → (x : Option Object)
+    → row_at key items ≡ x → IsTrue (world setup past) key (listing version x)
 listing_true setup past k ns items version tells order key covers (Some o) is =
     let there = tells.stands o (found_stands key o items is) in
     let own_key : key_of o ≡ key = row_at_key key o items is in
@@ -337,14 +362,17 @@ module _ (setup : Setup) (e : Entry) (past : List Entry) (answered : e.reply ≡
       → ((o : Object) → key_of o ≡ key → (is_of_kind k o ≡ true) × (fits_namespace ns o ≡ true)) → IsTrue next_world key (listing version (row_at key items))
   list_true k ns items version er ea covers =
       let l = lists_tell_what_stands setup (world setup past) e.kind k ns rows in
-      let told : reply_to (effect setup (world setup past) e.kind (requests.List k ns)) ≡ replies.Listed items version = sym (answered ∙ ap (λ r. reply_to (effect setup (world setup past) e.kind r)) er) ∙ ea in
+      let told : reply_to (effect setup (world setup past) e.kind (requests.List k ns)) ≡ replies.Listed items version =
+      sym (answered ∙ ap (λ r. reply_to (effect setup (world setup past) e.kind r)) er) ∙ ea in
       let same : l.0 ≡ items = ap items_of (sym l.1.1.0 ∙ told) in
       let at : l.1.0 ≡ version = ap version_of (sym l.1.1.0 ∙ told) in
       let tells : TellsRows (world setup past) k ns items version = subst (λ v. TellsRows (world setup past) k ns items v) at (subst (λ i. TellsRows (world setup past) k ns i l.1.0) same l.1.1.1) in
-      stays_true setup e past key _ (listing_true setup past k ns items version tells (lists_are_in_order setup (world setup past) e.kind k ns items version rows told) key covers (row_at key items) refl)
+      stays_true setup e past key _ (listing_true setup past k ns items version tells
+      (lists_are_in_order setup (world setup past) e.kind k ns items version rows told) key covers (row_at key items) refl)
 
   answer_true : (request : Request) (reply : Reply) → e.request ≡ request → e.reply ≡ reply → IsTrueIfAny next_world key (tells_of request reply key)
-  answer_true request (replies.Done o) er ea = if_any (same_key (key_of o) key) next_world key (presence o) (λ same. subst (λ k. IsTrue next_world k (presence o)) (are_same (key_of o) key same) (done_true o ea))
+  answer_true request (replies.Done o) er ea =
+      if_any (same_key (key_of o) key) next_world key (presence o) (λ same. subst (λ k. IsTrue next_world k (presence o)) (are_same (key_of o) key same) (done_true o ea))
   answer_true request (replies.Left o) er ea =
       if_any (same_key (key_of o) key) next_world key (record { version = (meta_of o).version; object = None })
       (λ same. subst (λ k. IsTrue next_world k (record { version = (meta_of o).version; object = None })) (are_same (key_of o) key same) (left_true o ea))
@@ -353,7 +381,8 @@ module _ (setup : Setup) (e : Entry) (past : List Entry) (answered : e.reply ≡
       (λ c. list_true k None items version er ea (λ o is. (kind_covered k o key is c, refl)))
   answer_true (requests.List k (Some ns)) (replies.Listed items version) er ea =
       if_any (kind_index k == kind_index key.kind && bytes_eq ns key.namespace) next_world key (listing version (row_at key items))
-      (λ c. let p = and_parts (kind_index k == kind_index key.kind) (bytes_eq ns key.namespace) c in list_true k (Some ns) items version er ea (λ o is. (kind_covered k o key is p.0, same_place ns o key is p.1)))
+      (λ c. let p = and_parts (kind_index k == kind_index key.kind) (bytes_eq ns key.namespace) c in
+      list_true k (Some ns) items version er ea (λ o is. (kind_covered k o key is p.0, same_place ns o key is p.1)))
   answer_true request (replies.Events events) er ea =
       stays_if_any setup e past key _
       (events_true (world setup past) key (log_true setup past) events.events (subst (AreLogged (world setup past)) (sym answered ∙ ea) (logged setup (world setup past) e.kind e.request)))
@@ -370,6 +399,7 @@ pub newest_is_true : NewestIsTrue
 newest_is_true setup [] seat key history = tt
 newest_is_true setup (e ∷ past) seat key history = by (e.seat == seat) (stays_if_any setup e past key _ (newest_is_true setup past seat key history.0))
   where
-    by : (mine : Bool) → IsTrueIfAny (world setup (e ∷ past)) key (newest (own seat past) key) → IsTrueIfAny (world setup (e ∷ past)) key (newest (if mine then e ∷ own seat past else own seat past) key)
+    by : (mine : Bool) → IsTrueIfAny (world setup (e ∷ past)) key (newest (own seat past) key)
+        → IsTrueIfAny (world setup (e ∷ past)) key (newest (if mine then e ∷ own seat past else own seat past) key)
     by true before = later_true (world setup (e ∷ past)) key (told_of e key) (newest (own seat past) key) (entry_true setup e past history.1 key) before
     by false before = before

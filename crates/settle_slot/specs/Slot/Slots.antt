@@ -2,10 +2,10 @@
 -- and each key that waits is decided so.
 -- A choice of this project, after the informers and work queues of client-go.
 use Rattle.std.specs.Prelude.{ℕ, ◌≡◌, ◌≢◌, ◌<◌, Bool, true, false, List, ◌∷◌, Some, None}
-use Rattle.kube_types.specs.declared.key.Key.{Key}
-use Rattle.kube_types.specs.declared.parts.Kind.{Kind}
-use Rattle.kube_types.specs.declared.objects.Object.{Object}
-use Rattle.kube_types.specs.Keys.{row_at}
+use Rattle.kube_objects.specs.declared.key.Key.{Key}
+use Rattle.kube_parts.specs.declared.parts.Kind.{Kind}
+use Rattle.kube_objects.specs.declared.objects.Object.{Object}
+use Rattle.kube_objects.specs.Keys.{row_at}
 use Rattle.call_types.specs.declared.entry.Entry.{Entry}
 use Rattle.call_types.specs.declared.request.Request.{Request}
 use Rattle.call_types.specs.declared.request.SeatKind.{SeatKind}
@@ -67,7 +67,8 @@ pub data WillLast (setup : Setup) (lets : Lets) (seat : ℕ) (kind : SeatKind) :
 
 -- wherever the key is decided in the slot, the decision begins what will make a call that lasts
 pub record ActsOn (setup : Setup) (lets : Lets) (seat : ℕ) (role : Role) (start : List Entry) (key : Key) : Type 0 where
-  pub lasts : (s : ActorState) (h : List Entry) (u : Under) → IsDecisionPoint setup seat role start s h → u.key ≡ key → GivesCall s.role s.memory (all_objects s.caches) u → WillLast setup lets seat role.kind h u
+  pub lasts : (s : ActorState) (h : List Entry) (u : Under) → IsDecisionPoint setup seat role start s h → u.key ≡ key
+      → GivesCall s.role s.memory (all_objects s.caches) u → WillLast setup lets seat role.kind h u
   pub acts : (s : ActorState) (h : List Entry) (first : First) → IsDecisionPoint setup seat role start s h → GivesNone s.role s.memory (all_objects s.caches) key first → ⊥
 
 -- a slot that ends idle, with a key waiting on which the actor acts, has an entry that lasts: in a world that is like that of
@@ -75,14 +76,17 @@ pub record ActsOn (setup : Setup) (lets : Lets) (seat : ℕ) (role : Role) (star
 abbrev pub SlotsLast : Type 0
 SlotsLast =
     (setup : Setup) (lets : Lets) (seat : ℕ) (start : List Entry) (key : Key) (old after : ActorState) (h past : List Entry) (b left : ℕ) → IsBuiltKind old.role.kind → IsHistory setup past
-    → AreAlike (world setup start) (world setup h) → Runs lets seat after past left true (woken old) h b → after.memory.stale ≡ false → ActsOn setup lets seat old.role start key → waits key (woken old).work ≡ true
+    → AreAlike (world setup start) (world setup h) → Runs lets seat after past left true (woken old) h b → after.memory.stale ≡ false
+    → ActsOn setup lets seat old.role start key → waits key (woken old).work ≡ true
     → HasLasting setup h past
 
 -- an actor that is idle at the end was not told StaleEpoch, if it is no agent
 abbrev pub OthersStayAwake : Type 0
-OthersStayAwake = (lets : Lets) (seat : ℕ) (s after : ActorState) (h past : List Entry) (b left : ℕ) → s.role.kind ≢ seats.Agent → Runs lets seat after past left true s h b → after.memory.stale ≡ false
+OthersStayAwake = (lets : Lets) (seat : ℕ) (s after : ActorState) (h past : List Entry) (b left : ℕ) → s.role.kind ≢ seats.Agent
+    → Runs lets seat after past left true s h b → after.memory.stale ≡ false
 
 -- a key that an actor with nothing under way has cached waits once it is woken
 abbrev pub CachedKeysWait : Type 0
 CachedKeysWait =
-    (s : ActorState) (mine : List Entry) (key : Key) (o : Object) → StandsWhole s mine → s.under ≡ None → follows s.role.kind key.kind ≡ true → row_at key (all_objects s.caches) ≡ Some o → waits key (woken s).work ≡ true
+    (s : ActorState) (mine : List Entry) (key : Key) (o : Object) → StandsWhole s mine → s.under ≡ None → follows s.role.kind key.kind ≡ true
+    → row_at key (all_objects s.caches) ≡ Some o → waits key (woken s).work ≡ true

@@ -2,9 +2,9 @@
 -- stands, and it stays so while the seat alone calls.
 -- A choice of this project, after the watch cache of Kubernetes.
 use Rattle.std.specs.Prelude.{ℕ, ◌≡◌, ◌≤◌, ◌==◌, true, false, List, ◌∷◌, length, Option, Some}
-use Rattle.kube_types.specs.declared.key.Key.{Key}
-use Rattle.kube_types.specs.declared.parts.Kind.{Kind}
-use Rattle.kube_types.specs.Keys.{row_at}
+use Rattle.kube_objects.specs.declared.key.Key.{Key}
+use Rattle.kube_parts.specs.declared.parts.Kind.{Kind}
+use Rattle.kube_objects.specs.Keys.{row_at}
 use Rattle.call_types.specs.declared.entry.Entry.{Entry}
 use Rattle.call_types.specs.declared.reply.Events.{Events as EventsData}
 use Rattle.call_types.specs.declared.reply.Reply.TheVariants.{Events}
@@ -30,14 +30,17 @@ KnowsKind setup past seat kind = (key : Key) → key.kind ≡ kind → Knows set
 
 -- what is known is what stands
 abbrev pub KnownIsExact : Type 0
-KnownIsExact = (setup : Setup) (past : List Entry) (seat : ℕ) (key : Key) → IsHistory setup past → Knows setup past seat key → object_of (newest (own seat past) key) ≡ row_at key (world setup past).store.rows
+KnownIsExact = (setup : Setup) (past : List Entry) (seat : ℕ) (key : Key) → IsHistory setup past → Knows setup past seat key
+    → object_of (newest (own seat past) key) ≡ row_at key (world setup past).store.rows
 
 -- a call of the seat that it was told leaves what it knows
 abbrev pub KnowledgeStays : Type 0
-KnowledgeStays = (setup : Setup) (e : Entry) (past : List Entry) (seat : ℕ) (kind : Kind) → IsHistory setup (e ∷ past) → e.seat ≡ seat → e.told ≡ true → KnowsKind setup past seat kind → KnowsKind setup (e ∷ past) seat kind
+KnowledgeStays = (setup : Setup) (e : Entry) (past : List Entry) (seat : ℕ) (kind : Kind) → IsHistory setup (e ∷ past) → e.seat ≡ seat
+    → e.told ≡ true → KnowsKind setup past seat kind → KnowsKind setup (e ∷ past) seat kind
 
 -- a watch that started where it may, and whose answer was not full, makes the kind known
 abbrev pub WatchesMakeKnown : Type 0
 WatchesMakeKnown =
-    (setup : Setup) (e : Entry) (past : List Entry) (seat : ℕ) (kind : Kind) (from : ℕ) (events : EventsData) → IsHistory setup (e ∷ past) → WatchesFrom kind (own seat (e ∷ past)) → e.seat ≡ seat → e.told ≡ true
+    (setup : Setup) (e : Entry) (past : List Entry) (seat : ℕ) (kind : Kind) (from : ℕ) (events : EventsData) → IsHistory setup (e ∷ past)
+    → WatchesFrom kind (own seat (e ∷ past)) → e.seat ≡ seat → e.told ≡ true
     → e.request ≡ Watch kind from → e.reply ≡ Events events → (length events.events == most_events) ≡ false → KnowsKind setup (e ∷ past) seat kind

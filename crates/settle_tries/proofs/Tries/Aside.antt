@@ -2,12 +2,12 @@
 use Rattle.std.proofs.Common.{◌≡◌, ◌≢◌, ◌∙◌, ◌⊎◌, ℕ, ◌≤◌, ◌+◌, List, [], ◌∷◌, ◌++◌, append_assoc, Bool, true, false, true≢false, Some, inl, inr, refl, sym, ap, subst, arith}
 use Rattle.std.proofs.lemmas.List.{append_cancel_right}
 use Rattle.std.specs.Prelude.{is_some, map, ⊤}
-use Rattle.kube_types.specs.declared.key.Key.{Key}
-use Rattle.kube_types.specs.declared.objects.Claim.{Claim as ClaimData}
-use Rattle.kube_types.specs.declared.objects.Object.TheVariants.{Claim}
-use Rattle.kube_types.specs.Bindings.{has_key, selected_node}
-use Rattle.kube_types.specs.Keys.{key_of, row_at}
-use Rattle.kube_types.proofs.KeyOrder.{row_at_key}
+use Rattle.kube_objects.specs.declared.key.Key.{Key}
+use Rattle.kube_objects.specs.declared.objects.Claim.{Claim as ClaimData}
+use Rattle.kube_objects.specs.declared.objects.Object.TheVariants.{Claim}
+use Rattle.kube_objects.specs.Bindings.{has_key, selected_node}
+use Rattle.kube_objects.specs.Keys.{key_of, row_at}
+use Rattle.kube_objects.proofs.KeyOrder.{row_at_key}
 use Rattle.call_types.specs.declared.entry.Entry.{Entry}
 use Rattle.call_types.specs.declared.request.Request.{Request}
 use Rattle.call_types.specs.declared.request.Request.TheVariants.{BindPod, Update}
@@ -95,7 +95,8 @@ agents_others : (nodes : List (List ℕ)) → RolesOthers (map agent_of nodes)
 agents_others [] = tt
 agents_others (node ∷ nodes) = (refl, agents_others nodes)
 
-round_others : (past : List Entry) (left : ℕ) (ds : List Drainer) (h : List Entry) (b : ℕ) (after : List Drainer) (whole : Bool) → IsRound all_pass past left ds h b after whole → RolesOthers (roles_of ds) → HaveOthers h past
+round_others : (past : List Entry) (left : ℕ) (ds : List Drainer) (h : List Entry) (b : ℕ) (after : List Drainer) (whole : Bool)
+    → IsRound all_pass past left ds h b after whole → RolesOthers (roles_of ds) → HaveOthers h past
 round_others past left _ h b _ _ (Ends entries rest) other = record { newer = []; are = entries; others = tt }
 round_others past left _ h b _ _ (Turns {ds = ds} {after = after} {whole = whole} d ran middle rest idle seat runs more) other =
     let later = round_others past left ds middle rest after whole more other.1 in
@@ -108,7 +109,8 @@ round_others past left _ h b _ _ (Turns {ds = ds} {after = after} {whole = whole
 
 -- ---- a claim that needs no volume
 
-module _ (setup : Setup) (ds after : List Drainer) (h past : List Entry) (b left : ℕ) (q : IsQuietRound setup ds after h past b left) (cached : AreCached setup ds h) (only : OnlyPrepares setup (world setup h)) (first : Drainer) (slot : List Entry) (s : IsSlotOf ds after h past b left first slot)
+module _ (setup : Setup) (ds after : List Drainer) (h past : List Entry) (b left : ℕ) (q : IsQuietRound setup ds after h past b left)
+    (cached : AreCached setup ds h) (only : OnlyPrepares setup (world setup h)) (first : Drainer) (slot : List Entry) (s : IsSlotOf ds after h past b left first slot)
     (k : Key) (c : ClaimData) (there : row_at k (world setup slot).store.rows ≡ Some (Claim c)) (aside : is_other (world setup slot).store.rows c ≡ false) where
   abbrev parts : HasParts all_pass past left ds h b after
   parts = parts_with ds after h past b left first slot q.may.may.stand.roles s
@@ -140,7 +142,9 @@ module _ (setup : Setup) (ds after : List Drainer) (h past : List Entry) (b left
   -- ---- in the scheduler's slot
 
   -- no entry of the slot changes it
-  module _ (newer older : List Entry) (e : Entry) (are : slot ≡ newer ++ (e ∷ older ++ h)) (x y : ClaimData) (was : row_at k (world setup (older ++ h)).store.rows ≡ Some (Claim x)) (is : row_at k (world setup (e ∷ older ++ h)).store.rows ≡ Some (Claim y)) (differs : content_of (Claim x) ≢ content_of (Claim y)) where
+  module _ (newer older : List Entry) (e : Entry) (are : slot ≡ newer ++ (e ∷ older ++ h)) (x y : ClaimData)
+      (was : row_at k (world setup (older ++ h)).store.rows ≡ Some (Claim x))
+      (is : row_at k (world setup (e ∷ older ++ h)).store.rows ≡ Some (Claim y)) (differs : content_of (Claim x) ≢ content_of (Claim y)) where
     lasts : Lasts setup (world setup (older ++ h)) e.kind e.request
     lasts = by (calls_last_or_leave_alike setup (world setup (older ++ h)) e.kind e.request (rows_stand_in_order setup (older ++ h)))
       where
@@ -152,7 +156,8 @@ module _ (setup : Setup) (ds after : List Drainer) (h past : List Entry) (b left
 
     call : IsCallOf setup first.seat first.actor.role h e (older ++ h)
     call =
-        lasting_are_decided setup first.seat first.actor s.ran.actor h slot b s.rest true newer older e (subst IsBuiltKind (sym kind) tt) run_slot (scheduler_idle setup ds after h past b left q parts cached) s.runs are lasts
+        lasting_are_decided setup first.seat first.actor s.ran.actor h slot b s.rest true newer older e (subst IsBuiltKind (sym kind) tt) run_slot
+        (scheduler_idle setup ds after h past b left q parts cached) s.runs are lasts
 
     made : slot ≡ newer ++ (own_entry setup first.seat first.actor.role.kind (older ++ h) call.under.call ∷ older ++ h)
     made = are ∙ ap (λ z. newer ++ (z ∷ older ++ h)) (sym call.is)
@@ -199,32 +204,39 @@ module _ (setup : Setup) (ds after : List Drainer) (h past : List Entry) (b left
             let w = decided_within setup first.seat first.actor.role kind h slot run_slot order_slot quiet_slot.behind quiet_slot.down h (older ++ h) newer [] call.under refl call.decided made in
             let run_i = run_within setup h slot run_slot order_slot quiet_slot.behind quiet_slot.down call.decided.point w in
             let rows = (world setup call.decided.point).store.rows in
-            let sought : IsSought rows p.claim = each_in (IsSought rows) p.claim (others_of rows p.pod) (others_sought rows p.pod (all_known rows p.pod (claims_known rows (rows_known setup call.decided.point run_i.imports) p.pod)) p.searched.search.here) p.among in
+            let sought : IsSought rows p.claim = each_in (IsSought rows) p.claim (others_of rows p.pod) (others_sought rows p.pod
+            (all_known rows p.pod (claims_known rows (rows_known setup call.decided.point run_i.imports) p.pod)) p.searched.search.here) p.among in
             let asked : update.asked ≡ placed_on p.searched.name p.claim = ap (asked_or y) (sym update.is ∙ (e_call ∙ p.is)) in
-            let u : Writes (world setup (older ++ h)) seats.Scheduler (Update (Claim update.asked) update.given) (Claim y) = subst (λ r. Writes (world setup (older ++ h)) seats.Scheduler r (Claim y)) update.is written in
-            let keyed : key_of (Claim y) ≡ key_of (Claim p.claim) = ap key_of u.is ∙ (key-updated u.old (Claim update.asked) ((world setup (older ++ h)).store.version + 1) ∙ ap (λ z. key_of (Claim z)) asked) in
+            let u : Writes (world setup (older ++ h)) seats.Scheduler (Update (Claim update.asked) update.given) (Claim y) =
+            subst (λ r. Writes (world setup (older ++ h)) seats.Scheduler r (Claim y)) update.is written in
+            let keyed : key_of (Claim y) ≡ key_of (Claim p.claim) = ap key_of u.is
+            ∙ (key-updated u.old (Claim update.asked) ((world setup (older ++ h)).store.version + 1) ∙ ap (λ z. key_of (Claim z)) asked) in
             let same_key : key_of (Claim p.claim) ≡ k = sym keyed ∙ row_at_key k (Claim y) (world setup (e ∷ older ++ h)).store.rows is in
             let near = near_slot call.decided.point w in
             let n = claim_near (world setup call.decided.point) (world setup slot) k c near there in
             let it : n.claim ≡ p.claim = ap (claim_or c) (one (Claim n.claim) (Claim p.claim) (sym n.there ∙ (ap (λ j. row_at j rows) (sym same_key) ∙ sought.stored))) in
-            true≢false (sym (open_is_other rows p.claim sought.undone sought.uncarried) ∙ (ap (is_other rows) (sym it) ∙ (other_near (world setup call.decided.point) (world setup slot) n.claim c near n.same ∙ aside)))
+            true≢false (sym (open_is_other rows p.claim sought.undone sought.uncarried)
+            ∙ (ap (is_other rows) (sym it) ∙ (other_near (world setup call.decided.point) (world setup slot) n.claim c near n.same ∙ aside)))
 
   -- so in it the claim stands so
-  stands_so : (newer older ahead : List Entry) → slot ≡ ahead ++ (newer ++ (older ++ h)) → (x y : ClaimData) → row_at k (world setup (older ++ h)).store.rows ≡ Some (Claim x) → row_at k (world setup (newer ++ (older ++ h))).store.rows ≡ Some (Claim y) → content_of (Claim x) ≡ content_of (Claim y)
+  stands_so : (newer older ahead : List Entry) → slot ≡ ahead ++ (newer ++ (older ++ h)) → (x y : ClaimData)
+      → row_at k (world setup (older ++ h)).store.rows ≡ Some (Claim x) → row_at k (world setup (newer ++ (older ++ h))).store.rows ≡ Some (Claim y) → content_of (Claim x) ≡ content_of (Claim y)
   stands_so [] older ahead are x y was is = ap (λ z. content_of (Claim (claim_or x z))) (one (Claim x) (Claim y) (sym was ∙ is))
   stands_so (e ∷ newer) older ahead are x y was is = by (stands_so newer older (ahead ++ (e ∷ [])) (are ∙ sym (append_assoc ahead (e ∷ []) (newer ++ (older ++ h)))) x)
     where
       w : IsWithin h (newer ++ (older ++ h)) slot
       w = record { newer = ahead ++ (e ∷ []); older = newer ++ older; ahead = are ∙ sym (append_assoc ahead (e ∷ []) (newer ++ (older ++ h))); behind = sym (append_assoc newer older h) }
 
-      by : ((z : ClaimData) → row_at k (world setup (older ++ h)).store.rows ≡ Some (Claim x) → row_at k (world setup (newer ++ (older ++ h))).store.rows ≡ Some (Claim z) → content_of (Claim x) ≡ content_of (Claim z)) → content_of (Claim x) ≡ content_of (Claim y)
+      by : ((z : ClaimData) → row_at k (world setup (older ++ h)).store.rows ≡ Some (Claim x)
+          → row_at k (world setup (newer ++ (older ++ h))).store.rows ≡ Some (Claim z) → content_of (Claim x) ≡ content_of (Claim z)) → content_of (Claim x) ≡ content_of (Claim y)
       by before =
           let n = claim_near (world setup (newer ++ (older ++ h))) (world setup slot) k c (near_slot (newer ++ (older ++ h)) w) there in
           elim (object_known (content_of (Claim n.claim)) (content_of (Claim y))) [
             | inl same ↦ before n.claim was n.there ∙ same
             | inr differs ↦
                 let assoc : newer ++ (older ++ h) ≡ (newer ++ older) ++ h = sym (append_assoc newer older h) in
-                absurd (never ahead (newer ++ older) e (are ∙ ap (λ es. ahead ++ (e ∷ es)) assoc) n.claim y (ap (λ es. row_at k (world setup es).store.rows) (sym assoc) ∙ n.there) (ap (λ es. row_at k (world setup (e ∷ es)).store.rows) (sym assoc) ∙ is) differs)
+                absurd (never ahead (newer ++ older) e (are ∙ ap (λ es. ahead ++ (e ∷ es)) assoc) n.claim y
+                (ap (λ es. row_at k (world setup es).store.rows) (sym assoc) ∙ n.there) (ap (λ es. row_at k (world setup (e ∷ es)).store.rows) (sym assoc) ∙ is) differs)
           ]
 
   pub slot_so : (x : List Entry) (w : IsWithin h x slot) (y : ClaimData) → row_at k (world setup x).store.rows ≡ Some (Claim y) → content_of (Claim y) ≡ content_of (Claim c)
@@ -243,7 +255,13 @@ module _ (setup : Setup) (ds after : List Drainer) (h past : List Entry) (b left
   -- an entry leaves the claim as it stood, or without a node
   module _ (newer older : List Entry) (e : Entry) (are : past ≡ newer ++ (e ∷ older ++ slot)) (y : ClaimData) (is : row_at k (world setup (e ∷ older ++ slot)).store.rows ≡ Some (Claim y)) where
     abbrev within : IsWithin h (older ++ slot) past
-    within = record { newer = newer ++ (e ∷ []); older = older ++ at_slot.older; ahead = are ∙ sym (append_assoc newer (e ∷ []) (older ++ slot)); behind = ap (λ es. older ++ es) at_slot.behind ∙ sym (append_assoc older at_slot.older h) }
+    within = record {
+      newer = newer ++ (e ∷ []);
+      older = older ++ at_slot.older;
+      ahead = are
+          ∙ sym (append_assoc newer (e ∷ []) (older ++ slot));
+      behind = ap (λ es. older ++ es) at_slot.behind ∙ sym (append_assoc older at_slot.older h);
+    }
 
     abbrev then_ : IsWithin h (e ∷ older ++ slot) past
     then_ = record { newer = newer; older = e ∷ older ++ at_slot.older; ahead = are; behind = ap (λ es. e ∷ es) within.behind }
@@ -255,15 +273,18 @@ module _ (setup : Setup) (ds after : List Drainer) (h past : List Entry) (b left
         let split = paid_split setup (older ++ slot) (e ∷ older ++ slot) past newer (e ∷ []) are refl a.ahead in
         let stays = (paid_is_less setup (e ∷ older ++ slot) past (runs_are_histories setup past q.run.run) z.ahead).stays in
         let low = a.up in
-        entries_move_nodes setup e (older ++ slot) (run_within setup h past q.run q.order paid up (e ∷ older ++ slot) then_) (order_within setup h past q.run q.order paid up (older ++ slot) within) split.1 (omega (arith, stays, low))
+        entries_move_nodes setup e (older ++ slot) (run_within setup h past q.run q.order paid up (e ∷ older ++ slot) then_)
+        (order_within setup h past q.run q.order paid up (older ++ slot) within) split.1 (omega (arith, stays, low))
 
     not_scheduler : is_scheduler e.kind ≡ false
-    not_scheduler = other_at newer e older (subst AreOthers (append_cancel_right behind.newer (newer ++ (e ∷ older)) slot (sym behind.are ∙ (are ∙ sym (append_assoc newer (e ∷ older) slot)))) behind.others)
+    not_scheduler = other_at newer e older (subst AreOthers
+        (append_cancel_right behind.newer (newer ++ (e ∷ older)) slot (sym behind.are ∙ (are ∙ sym (append_assoc newer (e ∷ older) slot)))) behind.others)
 
     step : StoodSo (world setup (older ++ slot)) k y ⊎ (has_key selected_node y.meta.annotations ≡ false)
     step = by e.kind moved not_scheduler
       where
-        by : (n : SeatKind) → MovesBy n (world setup (older ++ slot)) (world setup (e ∷ older ++ slot)) → is_scheduler n ≡ false → StoodSo (world setup (older ++ slot)) k y ⊎ (has_key selected_node y.meta.annotations ≡ false)
+        by : (n : SeatKind) → MovesBy n (world setup (older ++ slot)) (world setup (e ∷ older ++ slot)) → is_scheduler n ≡ false
+            → StoodSo (world setup (older ++ slot)) k y ⊎ (has_key selected_node y.meta.annotations ≡ false)
         by seats.Scheduler m none = absurd (true≢false none)
         by seats.Ops m none = m.claims k y is
         by seats.User m none = inl (stood_alike (world setup (older ++ slot)) (world setup (e ∷ older ++ slot)) k y m is)
@@ -273,7 +294,8 @@ module _ (setup : Setup) (ds after : List Drainer) (h past : List Entry) (b left
         by seats.Agent m none = inl (stood_alike (world setup (older ++ slot)) (world setup (e ∷ older ++ slot)) k y m is)
 
   -- a claim at a point behind the slot stands as it did there, or has no node
-  back : (newer older : List Entry) → past ≡ newer ++ (older ++ slot) → (y : ClaimData) → row_at k (world setup (older ++ slot)).store.rows ≡ Some (Claim y) → (content_of (Claim y) ≡ content_of (Claim c)) ⊎ (has_key selected_node y.meta.annotations ≡ false)
+  back : (newer older : List Entry) → past ≡ newer ++ (older ++ slot) → (y : ClaimData)
+      → row_at k (world setup (older ++ slot)).store.rows ≡ Some (Claim y) → (content_of (Claim y) ≡ content_of (Claim c)) ⊎ (has_key selected_node y.meta.annotations ≡ false)
   back newer [] are y is = inl (ap (λ z. content_of (Claim (claim_or c z))) (one (Claim y) (Claim c) (sym is ∙ there)))
   back newer (e ∷ older) are y is = by (step newer older e are y is) (back (newer ++ (e ∷ [])) older (are ∙ sym (append_assoc newer (e ∷ []) (older ++ slot))))
     where
@@ -287,15 +309,21 @@ module _ (setup : Setup) (ds after : List Drainer) (h past : List Entry) (b left
       ]
 
   -- and has none later
-  ahead_none : (newer older : List Entry) → past ≡ newer ++ (older ++ slot) → (y : ClaimData) → row_at k (world setup (older ++ slot)).store.rows ≡ Some (Claim y) → has_key selected_node y.meta.annotations ≡ false
-      → (front : List Entry) (later : List Entry) → newer ≡ front ++ later → (z : ClaimData) → row_at k (world setup (later ++ (older ++ slot))).store.rows ≡ Some (Claim z) → has_key selected_node z.meta.annotations ≡ false
+  ahead_none : (newer older : List Entry) → past ≡ newer ++ (older ++ slot) → (y : ClaimData)
+      → row_at k (world setup (older ++ slot)).store.rows ≡ Some (Claim y) → has_key selected_node y.meta.annotations ≡ false
+      → (front : List Entry) (later : List Entry) → newer ≡ front ++ later → (z : ClaimData)
+      → row_at k (world setup (later ++ (older ++ slot))).store.rows ≡ Some (Claim z) → has_key selected_node z.meta.annotations ≡ false
   ahead_none newer older are y is none front [] split z at = ap (λ (x : ClaimData). has_key selected_node x.meta.annotations) (ap (claim_or y) (one (Claim z) (Claim y) (sym at ∙ is))) ∙ none
-  ahead_none newer older are y is none front (e ∷ later) split z at = by (step front (later ++ older) e whole z (ap (λ es. row_at k (world setup (e ∷ es)).store.rows) (append_assoc later older slot) ∙ at)) (ahead_none newer older are y is none (front ++ (e ∷ [])) later (split ∙ sym (append_assoc front (e ∷ []) later)))
+  ahead_none newer older are y is none front (e ∷ later) split z at =
+      by (step front (later ++ older) e whole z (ap (λ es. row_at k (world setup (e ∷ es)).store.rows) (append_assoc later older slot) ∙ at))
+      (ahead_none newer older are y is none (front ++ (e ∷ [])) later (split ∙ sym (append_assoc front (e ∷ []) later)))
     where
       whole : past ≡ front ++ (e ∷ (later ++ older) ++ slot)
       whole = are ∙ (ap (λ es. es ++ (older ++ slot)) split ∙ (append_assoc front (e ∷ later) (older ++ slot) ∙ ap (λ es. front ++ (e ∷ es)) (sym (append_assoc later older slot))))
 
-      by : StoodSo (world setup ((later ++ older) ++ slot)) k z ⊎ (has_key selected_node z.meta.annotations ≡ false) → ((x : ClaimData) → row_at k (world setup (later ++ (older ++ slot))).store.rows ≡ Some (Claim x) → has_key selected_node x.meta.annotations ≡ false) → has_key selected_node z.meta.annotations ≡ false
+      by : StoodSo (world setup ((later ++ older) ++ slot)) k z ⊎ (has_key selected_node z.meta.annotations ≡ false)
+          → ((x : ClaimData) → row_at k (world setup (later ++ (older ++ slot))).store.rows ≡ Some (Claim x)
+          → has_key selected_node x.meta.annotations ≡ false) → has_key selected_node z.meta.annotations ≡ false
       by (inr lacks) before = lacks
       by (inl so) before = ap is_some (sym (one_node_so so.claim z so.same)) ∙ before so.claim (ap (λ es. row_at k (world setup es).store.rows) (sym (append_assoc later older slot)) ∙ so.there)
 
@@ -304,7 +332,8 @@ module _ (setup : Setup) (ds after : List Drainer) (h past : List Entry) (b left
     at_start : ClaimNear (world setup h) k c
     at_start = claim_near (world setup h) (world setup slot) k c (near_slot h (record { newer = at_slot.older; older = []; ahead = at_slot.behind; behind = refl })) there
 
-    pub keeps : (newer older : List Entry) → past ≡ newer ++ (older ++ slot) → (y : ClaimData) → row_at k (world setup (older ++ slot)).store.rows ≡ Some (Claim y) → content_of (Claim y) ≡ content_of (Claim c)
+    pub keeps : (newer older : List Entry) → past ≡ newer ++ (older ++ slot) → (y : ClaimData)
+        → row_at k (world setup (older ++ slot)).store.rows ≡ Some (Claim y) → content_of (Claim y) ≡ content_of (Claim c)
     keeps newer older are y is = elim (back newer older are y is) [
       | inl same ↦ same
       | inr none ↦

@@ -1,16 +1,16 @@
 -- Behind a slot of the scheduler in which as much is left to do no pod is to be bound to a node that it had cached.
 use Rattle.std.proofs.Common.{◌≡◌, ◌∙◌, ℕ, ◌≤◌, List, [], ◌∷◌, ◌++◌, append_assoc, Bool, true, false, true≢false, Option, Some, None, refl, sym, ap, subst, if◌then◌else◌, zero, suc}
 use Rattle.std.specs.Prelude.{slice_get, ⊤}
-use Rattle.kube_types.specs.declared.key.Key.{Key}
-use Rattle.kube_types.specs.declared.uid.Uid.{Uid}
-use Rattle.kube_types.specs.declared.names.Due.{Due}
-use Rattle.kube_types.specs.declared.names.Due.TheVariants as dues
-use Rattle.kube_types.specs.declared.objects.Object.{Object}
-use Rattle.kube_types.specs.declared.objects.Object.TheVariants.{Pod}
-use Rattle.kube_types.specs.declared.objects.Pod.{Pod as PodData}
-use Rattle.kube_types.specs.Bindings.{is_scheduled}
-use Rattle.kube_types.specs.Keys.{row_at}
-use Rattle.kube_types.proofs.KeyOrder.{row_at_key}
+use Rattle.kube_objects.specs.declared.key.Key.{Key}
+use Rattle.kube_parts.specs.declared.uid.Uid.{Uid}
+use Rattle.kube_parts.specs.declared.names.Due.{Due}
+use Rattle.kube_parts.specs.declared.names.Due.TheVariants as dues
+use Rattle.kube_objects.specs.declared.objects.Object.{Object}
+use Rattle.kube_objects.specs.declared.objects.Object.TheVariants.{Pod}
+use Rattle.kube_objects.specs.declared.objects.Pod.{Pod as PodData}
+use Rattle.kube_objects.specs.Bindings.{is_scheduled}
+use Rattle.kube_objects.specs.Keys.{row_at}
+use Rattle.kube_objects.proofs.KeyOrder.{row_at_key}
 use Rattle.call_types.specs.declared.entry.Entry.{Entry}
 use Rattle.call_types.specs.declared.reply.Reply.{Reply}
 use Rattle.call_types.specs.declared.request.Request.{Request}
@@ -68,7 +68,8 @@ pub record BeginsSchedule (setup : Setup) (h : List Entry) (refused : List Tried
   pub task : u.task ≡ tasks.Schedule op
   pub begins : BeginsFor (world setup h).store.rows refused p (Some op)
 
-module _ (setup : Setup) (seat : ℕ) (role : Role) (kind : role.kind ≡ seats.Scheduler) (key : Key) (s : ActorState) (h : List Entry) (point : IsDecisionPoint setup seat role h s h) (u : Under) (own : u.key ≡ key) (gives : GivesCall s.role s.memory (all_objects s.caches) u) where
+module _ (setup : Setup) (seat : ℕ) (role : Role) (kind : role.kind ≡ seats.Scheduler) (key : Key) (s : ActorState) (h : List Entry)
+    (point : IsDecisionPoint setup seat role h s h) (u : Under) (own : u.key ≡ key) (gives : GivesCall s.role s.memory (all_objects s.caches) u) where
   s_kind : s.role.kind ≡ seats.Scheduler
   s_kind = ap (λ (r : Role). r.kind) point.role_is ∙ kind
 
@@ -136,8 +137,11 @@ abbrev is_assign : Due → Bool
 is_assign dues.Assign = true
 is_assign action = false
 
-assigned_writes : (setup : Setup) (h : List Entry) (p : PodData) (refused : List Tried) (op : ScheduleOp) → ImportsPass setup.imports → is_scheduled p ≡ false → IsDue setup (world setup h) (Pod p) (Some dues.Assign) → BeginsFor (world setup h).store.rows refused p (Some op) → AllWorth op.writes
-assigned_writes setup h p refused op pass open_ due b = by b.choice ((choices_are_due setup (world setup h) p (last_refused (world setup h).store.rows p refused) b.choice (Some dues.Assign) (rows_stand_in_order setup h) (none_in_a_namespace setup pass h) open_ b.chosen).0 due) b.begins
+assigned_writes : (setup : Setup) (h : List Entry) (p : PodData) (refused : List Tried) (op : ScheduleOp) → ImportsPass setup.imports
+    → is_scheduled p ≡ false → IsDue setup (world setup h) (Pod p) (Some dues.Assign) → BeginsFor (world setup h).store.rows refused p (Some op) → AllWorth op.writes
+assigned_writes setup h p refused op pass open_ due b =
+    by b.choice ((choices_are_due setup (world setup h) p (last_refused (world setup h).store.rows p refused) b.choice (Some dues.Assign)
+    (rows_stand_in_order setup h) (none_in_a_namespace setup pass h) open_ b.chosen).0 due) b.begins
   where
     bound : (uid : Option Uid) (name : List ℕ) → Some op ≡ begun_with (binding p uid name) → AllWorth op.writes
     bound None name e = none_some (sym e)
@@ -151,9 +155,11 @@ assigned_writes setup h p refused op pass open_ due b = by b.choice ((choices_ar
 
 -- ---- a slot
 
-module _ (setup : Setup) (seat : ℕ) (old after : ActorState) (h past : List Entry) (b left : ℕ) (kind : old.role.kind ≡ seats.Scheduler) (run : IsRunOf setup past) (order : AreAlwaysInOrder setup past) (idle : old.under ≡ None)
+module _ (setup : Setup) (seat : ℕ) (old after : ActorState) (h past : List Entry) (b left : ℕ) (kind : old.role.kind ≡ seats.Scheduler)
+    (run : IsRunOf setup past) (order : AreAlwaysInOrder setup past) (idle : old.under ≡ None)
     (runs : Runs all_pass seat after past left true (woken old) h b) (paid : HavePaid setup h past) (le : work_left setup (world setup h) ≤ work_left setup (world setup past)) where
-  pub no_assign : (key : Key) (p : PodData) (o : Object) → row_at key (world setup past).store.rows ≡ Some (Pod p) → is_scheduled p ≡ false → IsDue setup (world setup past) (Pod p) (Some dues.Assign) → row_at key (all_objects old.caches) ≡ Some o → ⊥
+  pub no_assign : (key : Key) (p : PodData) (o : Object) → row_at key (world setup past).store.rows ≡ Some (Pod p) → is_scheduled p ≡ false
+      → IsDue setup (world setup past) (Pod p) (Some dues.Assign) → row_at key (all_objects old.caches) ≡ Some o → ⊥
   no_assign key p o there open_ due cached = by acted
     where
       at_point : (x : List Entry) → IsWithin h x past → PodNear (world setup x) key p
@@ -167,7 +173,8 @@ module _ (setup : Setup) (seat : ℕ) (old after : ActorState) (h past : List En
           scheduled_of o = false
 
       due_at : (x : List Entry) (w : IsWithin h x past) → IsDue setup (world setup x) (Pod (at_point x w).pod) (Some dues.Assign)
-      due_at x w = near_assigns setup (world setup past) (world setup x) p (at_point x w).pod (back_near (world setup x) (world setup past) (near_ahead setup h past run order paid le x w)) (sym (at_point x w).same) open_ due
+      due_at x w = near_assigns setup (world setup past) (world setup x) p (at_point x w).pod
+          (back_near (world setup x) (world setup past) (near_ahead setup h past run order paid le x w)) (sym (at_point x w).same) open_ due
 
       acts : (x : List Entry) → IsWithin h x past → ActsOn setup all_pass seat old.role x key
       acts x w =
@@ -182,7 +189,8 @@ module _ (setup : Setup) (seat : ℕ) (old after : ActorState) (h past : List En
 
       by : IsActedOn setup seat old.role key h past → ⊥
       by a =
-          let begun = begins_schedule setup seat old.role kind key a.state a.point a.sees a.under a.own a.gives (at_point a.point a.within).pod (at_point a.point a.within).there (is_open a.point a.within) in
+          let begun = begins_schedule setup seat old.role kind key a.state a.point a.sees a.under a.own a.gives (at_point a.point a.within).pod
+          (at_point a.point a.within).there (is_open a.point a.within) in
           let first : SchedulesWorth a.under = record {
             op = begun.op;
             task = begun.task;

@@ -1,10 +1,10 @@
 -- A whole round tells its actors what stands: behind its slot an actor has each object of a kind that it follows, and those behind create nothing that it decides.
 use Rattle.std.proofs.Common.{◌≡◌, ◌∙◌, ℕ, zero, suc, ◌-◌, List, [], ◌∷◌, true, false, true≢false, Some, None, refl, sym, ap, subst}
 use Rattle.std.specs.Prelude.{is_some, slice_get}
-use Rattle.kube_types.specs.declared.key.Key.{Key}
-use Rattle.kube_types.specs.declared.parts.Kind.{Kind}
-use Rattle.kube_types.specs.declared.objects.Object.{Object}
-use Rattle.kube_types.specs.Keys.{AreRows, row_at}
+use Rattle.kube_objects.specs.declared.key.Key.{Key}
+use Rattle.kube_parts.specs.declared.parts.Kind.{Kind}
+use Rattle.kube_objects.specs.declared.objects.Object.{Object}
+use Rattle.kube_objects.specs.Keys.{AreRows, row_at}
 use Rattle.call_types.specs.declared.entry.Entry.{Entry}
 use Rattle.call_types.specs.declared.request.SeatKind.{SeatKind}
 use Rattle.call_types.specs.declared.request.SeatKind.TheVariants as seats
@@ -40,7 +40,7 @@ use Rattle.worker_core.specs.Roles.{kind_in_order}
 use Rattle.worker_core.specs.declared.role.Role.{Role}
 use Rattle.model_laws.proofs.Lists.{none_some, one}
 use Rattle.model_laws.proofs.Growing.{runs_are_histories}
-use Rattle.kube_types.specs.declared.parts.Kind.TheVariants as kinds
+use Rattle.kube_parts.specs.declared.parts.Kind.TheVariants as kinds
 use Rattle.settle_progress.proofs.Drains.Rounds.{is_agent, not_agent}
 use Rattle.std.specs.Prelude.{map, option_map}
 
@@ -58,7 +58,8 @@ module _ (lets : Lets) (seat : ℕ) (after : ActorState) (past : List Entry) (le
       record {
         ready = record {
           rows = subst (λ c. AreRows (all_objects c)) (sym rests.caches) ready.rows;
-          stands = subst (λ es. StandsWhole after (own seat es)) (sym entries) (turned_whole s after Idle (own seat h) turn (turn_stands s after Idle (own seat h) ready.rows ready.stands.told turn) ready.stands);
+          stands = subst (λ es. StandsWhole after (own seat es)) (sym entries)
+              (turned_whole s after Idle (own seat h) turn (turn_stands s after Idle (own seat h) ready.rows ready.stands.told turn) ready.stands);
         };
         passed = (λ i. kind_in_order (turn_role s after Idle turn i) (rests.pass i).behind) ∙ rests.passed;
       }
@@ -66,7 +67,8 @@ module _ (lets : Lets) (seat : ℕ) (after : ActorState) (past : List Entry) (le
   ends_ready s h b (IsHeld given next request some ready turn held absorbs more) = ends_ready next h (b - 1) more
 
 -- so it sees the store
-pub sees_at_end : (setup : Setup) (lets : Lets) (seat : ℕ) (old after : ActorState) (h past : List Entry) (b left : ℕ) → IsBuiltKind old.role.kind → IsHistory setup past → after.memory.stale ≡ false → Runs lets seat after past left true (woken old) h b → SeesStore setup after past
+pub sees_at_end : (setup : Setup) (lets : Lets) (seat : ℕ) (old after : ActorState) (h past : List Entry) (b left : ℕ) → IsBuiltKind old.role.kind
+    → IsHistory setup past → after.memory.stale ≡ false → Runs lets seat after past left true (woken old) h b → SeesStore setup after past
 sees_at_end setup lets seat old after h past b left built history awake runs =
     let e = ends_ready lets seat after past left awake (woken old) h b runs in
     passed_see_the_store setup lets seat old after h past b left true built history runs e.ready e.passed
@@ -74,7 +76,8 @@ sees_at_end setup lets seat old after h past b left built history awake runs =
 -- ---- a whole round
 
 -- what an actor sees it has among its caches
-cached_by : (setup : Setup) (s : ActorState) (h : List Entry) (key : Key) (o : Object) → SeesStore setup s h → follows s.role.kind key.kind ≡ true → row_at key (world setup h).store.rows ≡ Some o → is_some (row_at key (all_objects s.caches)) ≡ true
+cached_by : (setup : Setup) (s : ActorState) (h : List Entry) (key : Key) (o : Object) → SeesStore setup s h → follows s.role.kind key.kind ≡ true
+    → row_at key (world setup h).store.rows ≡ Some o → is_some (row_at key (all_objects s.caches)) ≡ true
 cached_by setup s h key o sees follows_ there = ap is_some (sees key follows_ ∙ there)
 
 -- what it decides it follows
@@ -122,7 +125,8 @@ behind_decide nodes (suc zero) role k at = subst (λ (r : Role). decides_kind r.
 behind_decide nodes (suc (suc zero)) role k at = subst (λ (r : Role). decides_kind r.kind k ≡ false) (one (of_kind seats.VolumeProtect) role at) refl
 behind_decide nodes (suc (suc (suc place))) role k at = agents_decide nodes place role k at
 
-awake_slot : (lets : Lets) (kind : SeatKind) (seat : ℕ) (old after : ActorState) (h past : List Entry) (b left : ℕ) → old.role ≡ of_kind kind → is_agent kind ≡ false → Runs lets seat after past left true (woken old) h b → after.memory.stale ≡ false
+awake_slot : (lets : Lets) (kind : SeatKind) (seat : ℕ) (old after : ActorState) (h past : List Entry) (b left : ℕ) → old.role ≡ of_kind kind
+    → is_agent kind ≡ false → Runs lets seat after past left true (woken old) h b → after.memory.stale ≡ false
 awake_slot lets kind seat old after h past b left role other runs = others_stay_awake lets seat (woken old) after h past b left (not_agent _ (ap (λ (r : Role). is_agent r.kind) role ∙ other)) runs
 
 role_ran : (lets : Lets) (seat : ℕ) (old after : ActorState) (h past : List Entry) (b left : ℕ) → Runs lets seat after past left true (woken old) h b → after.role ≡ old.role
@@ -136,45 +140,65 @@ module _ (setup : Setup) (lets : Lets) (ds after : List Drainer) (h past : List 
   ops_built = subst (λ (r : Role). IsBuiltKind r.kind) (sym p.ops) tt
 
   pub run_behind : IsRunOf setup p.second.middle
-  run_behind = let g = round_grows lets past left p.second.behind p.second.middle p.second.rest p.second.later true p.second.round in older_run setup g.longer.added p.second.middle (subst (IsRunOf setup) g.longer.are run)
+  run_behind = let g = round_grows lets past left p.second.behind p.second.middle p.second.rest p.second.later true p.second.round in
+      older_run setup g.longer.added p.second.middle (subst (IsRunOf setup) g.longer.are run)
 
   pub run_between : IsRunOf setup p.first.middle
-  run_between = let g = round_grows lets past left p.first.behind p.first.middle p.first.rest p.first.later true p.first.round in older_run setup g.longer.added p.first.middle (subst (IsRunOf setup) g.longer.are run)
+  run_between = let g = round_grows lets past left p.first.behind p.first.middle p.first.rest p.first.later true p.first.round in
+      older_run setup g.longer.added p.first.middle (subst (IsRunOf setup) g.longer.are run)
 
   -- what stands at the end stood behind the slot of ops
   stood_behind : (key : Key) (o : Object) → row_at key (world setup past).store.rows ≡ Some o → StandsIn (world setup p.second.middle) key
-  stood_behind key o there = round_stood setup lets past left run p.second.behind p.second.middle p.second.rest p.second.later true p.second.round (subst MakeNone (sym p.others) (behind_none p.nodes)) key o there
+  stood_behind key o there = round_stood setup lets past left run p.second.behind p.second.middle p.second.rest p.second.later true p.second.round
+      (subst MakeNone (sym p.others) (behind_none p.nodes)) key o there
 
-  ops_cached : (key : Key) (o : Object) → row_at key (world setup past).store.rows ≡ Some o → decides_kind seats.Ops key.kind ≡ true → is_some (row_at key (all_objects p.second.ran.actor.caches)) ≡ true
+  ops_cached : (key : Key) (o : Object) → row_at key (world setup past).store.rows ≡ Some o → decides_kind seats.Ops key.kind ≡ true
+      → is_some (row_at key (all_objects p.second.ran.actor.caches)) ≡ true
   ops_cached key o there decides =
       let s = stood_behind key o there in
-      let sees = sees_at_end setup lets p.second.drainer.seat p.second.drainer.actor p.second.ran.actor p.first.middle p.second.middle p.first.rest p.second.rest ops_built (runs_are_histories setup p.second.middle run_behind.run) (awake_slot lets seats.Ops p.second.drainer.seat p.second.drainer.actor p.second.ran.actor p.first.middle p.second.middle p.first.rest p.second.rest p.ops refl p.second.runs) p.second.runs in
+      let sees = sees_at_end setup lets p.second.drainer.seat p.second.drainer.actor p.second.ran.actor p.first.middle p.second.middle p.first.rest
+      p.second.rest ops_built (runs_are_histories setup p.second.middle run_behind.run)
+      (awake_slot lets seats.Ops p.second.drainer.seat p.second.drainer.actor p.second.ran.actor p.first.middle p.second.middle p.first.rest
+      p.second.rest p.ops refl p.second.runs) p.second.runs in
       cached_by setup p.second.ran.actor p.second.middle key s.object sees
-      (ap (λ (r : Role). follows r.kind key.kind) (role_ran lets p.second.drainer.seat p.second.drainer.actor p.second.ran.actor p.first.middle p.second.middle p.first.rest p.second.rest p.second.runs ∙ p.ops) ∙ decided_followed seats.Ops key.kind decides) s.there
+      (ap (λ (r : Role). follows r.kind key.kind)
+      (role_ran lets p.second.drainer.seat p.second.drainer.actor p.second.ran.actor p.first.middle p.second.middle p.first.rest p.second.rest
+      p.second.runs ∙ p.ops) ∙ decided_followed seats.Ops key.kind decides) s.there
 
-  scheduler_cached : (key : Key) (o : Object) → row_at key (world setup past).store.rows ≡ Some o → decides_kind seats.Scheduler key.kind ≡ true → is_some (row_at key (all_objects p.first.ran.actor.caches)) ≡ true
+  scheduler_cached : (key : Key) (o : Object) → row_at key (world setup past).store.rows ≡ Some o → decides_kind seats.Scheduler key.kind ≡ true
+      → is_some (row_at key (all_objects p.first.ran.actor.caches)) ≡ true
   scheduler_cached key o there decides =
       let s = stood_behind key o there in
-      let t = slot_stood setup lets p.second.drainer.seat p.second.drainer.actor p.second.ran.actor p.first.middle p.second.middle p.first.rest p.second.rest true ops_built run_behind p.second.runs key s.object
+      let t = slot_stood setup lets p.second.drainer.seat p.second.drainer.actor p.second.ran.actor p.first.middle p.second.middle p.first.rest
+      p.second.rest true ops_built run_behind p.second.runs key s.object
       (ap (λ (r : Role). makes r.kind key.kind) p.ops ∙ decided_unmade key.kind decides) s.there in
-      let sees = sees_at_end setup lets p.first.drainer.seat p.first.drainer.actor p.first.ran.actor h p.first.middle b p.first.rest scheduler_built (runs_are_histories setup p.first.middle run_between.run) (awake_slot lets seats.Scheduler p.first.drainer.seat p.first.drainer.actor p.first.ran.actor h p.first.middle b p.first.rest p.scheduler refl p.first.runs) p.first.runs in
+      let sees = sees_at_end setup lets p.first.drainer.seat p.first.drainer.actor p.first.ran.actor h p.first.middle b p.first.rest scheduler_built
+      (runs_are_histories setup p.first.middle run_between.run)
+      (awake_slot lets seats.Scheduler p.first.drainer.seat p.first.drainer.actor p.first.ran.actor h p.first.middle b p.first.rest p.scheduler refl p.first.runs) p.first.runs in
       cached_by setup p.first.ran.actor p.first.middle key t.object sees
-      (ap (λ (r : Role). follows r.kind key.kind) (role_ran lets p.first.drainer.seat p.first.drainer.actor p.first.ran.actor h p.first.middle b p.first.rest p.first.runs ∙ p.scheduler) ∙ decided_followed seats.Scheduler key.kind decides) t.there
+      (ap (λ (r : Role). follows r.kind key.kind)
+      (role_ran lets p.first.drainer.seat p.first.drainer.actor p.first.ran.actor h p.first.middle b p.first.rest p.first.runs ∙ p.scheduler)
+      ∙ decided_followed seats.Scheduler key.kind decides) t.there
 
   others_decide : (place : ℕ) (d : Drainer) (k : Kind) → slice_get p.second.later place ≡ Some d → decides_kind d.actor.role.kind k ≡ false
   others_decide place d k at =
       behind_decide p.nodes place d.actor.role k
-      (ap (λ roles. slice_get roles place) (sym (round_roles lets past left p.second.behind p.second.middle p.second.rest p.second.later true p.second.round ∙ p.others)) ∙ (get_mapped (λ (x : Drainer). x.actor.role) p.second.later place ∙ ap (option_map (λ (x : Drainer). x.actor.role)) at))
+      (ap (λ roles. slice_get roles place) (sym
+      (round_roles lets past left p.second.behind p.second.middle p.second.rest p.second.later true p.second.round ∙ p.others))
+      ∙ (get_mapped (λ (x : Drainer). x.actor.role) p.second.later place ∙ ap (option_map (λ (x : Drainer). x.actor.role)) at))
 
-  all_cached : (place : ℕ) (d : Drainer) → slice_get (p.first.ran ∷ p.second.ran ∷ p.second.later) place ≡ Some d → (key : Key) (o : Object) → row_at key (world setup past).store.rows ≡ Some o → decides_kind d.actor.role.kind key.kind ≡ true → is_some (row_at key (all_objects d.actor.caches)) ≡ true
+  all_cached : (place : ℕ) (d : Drainer) → slice_get (p.first.ran ∷ p.second.ran ∷ p.second.later) place ≡ Some d → (key : Key) (o : Object)
+      → row_at key (world setup past).store.rows ≡ Some o → decides_kind d.actor.role.kind key.kind ≡ true → is_some (row_at key (all_objects d.actor.caches)) ≡ true
   all_cached zero d at key o there decides =
       let same : p.first.ran ≡ d = one p.first.ran d at in
       let role = role_ran lets p.first.drainer.seat p.first.drainer.actor p.first.ran.actor h p.first.middle b p.first.rest p.first.runs ∙ p.scheduler in
-      subst (λ (x : Drainer). is_some (row_at key (all_objects x.actor.caches)) ≡ true) same (scheduler_cached key o there (ap (λ (r : Role). decides_kind r.kind key.kind) (sym role) ∙ (ap (λ (x : Drainer). decides_kind x.actor.role.kind key.kind) same ∙ decides)))
+      subst (λ (x : Drainer). is_some (row_at key (all_objects x.actor.caches)) ≡ true) same
+      (scheduler_cached key o there (ap (λ (r : Role). decides_kind r.kind key.kind) (sym role) ∙ (ap (λ (x : Drainer). decides_kind x.actor.role.kind key.kind) same ∙ decides)))
   all_cached (suc zero) d at key o there decides =
       let same : p.second.ran ≡ d = one p.second.ran d at in
       let role = role_ran lets p.second.drainer.seat p.second.drainer.actor p.second.ran.actor p.first.middle p.second.middle p.first.rest p.second.rest p.second.runs ∙ p.ops in
-      subst (λ (x : Drainer). is_some (row_at key (all_objects x.actor.caches)) ≡ true) same (ops_cached key o there (ap (λ (r : Role). decides_kind r.kind key.kind) (sym role) ∙ (ap (λ (x : Drainer). decides_kind x.actor.role.kind key.kind) same ∙ decides)))
+      subst (λ (x : Drainer). is_some (row_at key (all_objects x.actor.caches)) ≡ true) same
+      (ops_cached key o there (ap (λ (r : Role). decides_kind r.kind key.kind) (sym role) ∙ (ap (λ (x : Drainer). decides_kind x.actor.role.kind key.kind) same ∙ decides)))
   all_cached (suc (suc place)) d at key o there decides = absurd (true≢false (sym decides ∙ others_decide place d key.kind at))
 
 pub rounds_cache : RoundsCache

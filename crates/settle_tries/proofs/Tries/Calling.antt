@@ -1,16 +1,16 @@
 -- In a slot of the scheduler that leaves as much to do a call binds a pod, or gives a claim its node: one that a pod names for which a node was searched.
 use Rattle.std.proofs.Common.{◌≡◌, ◌∙◌, ◌⊎◌, ℕ, zero, suc, ◌≤◌, List, [], ◌∷◌, ◌++◌, append_assoc, Bool, true, false, true≢false, Option, Some, None, inl, inr, refl, sym, ap, subst}
 use Rattle.std.specs.Prelude.{not, slice_get}
-use Rattle.kube_types.specs.declared.key.Key.{Key}
-use Rattle.kube_types.specs.declared.uid.Uid.{Uid}
-use Rattle.kube_types.specs.declared.objects.Claim.{Claim as ClaimData}
-use Rattle.kube_types.specs.declared.objects.Object.{Object}
-use Rattle.kube_types.specs.declared.objects.Object.TheVariants.{Claim, Class, Node, Pod, Volume}
-use Rattle.kube_types.specs.declared.objects.Pod.{Pod as PodData}
-use Rattle.kube_types.specs.Bindings.{class_of_claim, is_completed, is_scheduled}
-use Rattle.kube_types.specs.Keys.{key_of, row_at}
-use Rattle.kube_types.proofs.KeyOrder.{row_at_key}
-use Rattle.kube_types.proofs.SameKeys.{key_tells}
+use Rattle.kube_objects.specs.declared.key.Key.{Key}
+use Rattle.kube_parts.specs.declared.uid.Uid.{Uid}
+use Rattle.kube_objects.specs.declared.objects.Claim.{Claim as ClaimData}
+use Rattle.kube_objects.specs.declared.objects.Object.{Object}
+use Rattle.kube_objects.specs.declared.objects.Object.TheVariants.{Claim, Class, Node, Pod, Volume}
+use Rattle.kube_objects.specs.declared.objects.Pod.{Pod as PodData}
+use Rattle.kube_objects.specs.Bindings.{class_of_claim, is_completed, is_scheduled}
+use Rattle.kube_objects.specs.Keys.{key_of, row_at}
+use Rattle.kube_objects.proofs.KeyOrder.{row_at_key}
+use Rattle.kube_objects.proofs.SameKeys.{key_tells}
 use Rattle.call_types.specs.declared.entry.Entry.{Entry}
 use Rattle.call_types.specs.declared.request.Request.{Request}
 use Rattle.call_types.specs.declared.request.Request.TheVariants.{BindPod}
@@ -106,7 +106,9 @@ pub record IsBinding (call : Request) : Type 0 where
   pub is : call ≡ BindPod key uid name
 
 module _ (setup : Setup) (seat : ℕ) (role : Role) (kind : role.kind ≡ seats.Scheduler) where
-  module _ (y : List Entry) (run : IsRunOf setup y) (s : ActorState) (p : IsDecisionPoint setup seat role y s y) (u : Under) (key : Key) (own : u.key ≡ key) (gives : GivesCall s.role s.memory (all_objects s.caches) u) (pod : PodData) (there : row_at key (world setup y).store.rows ≡ Some (Pod pod)) (waits : is_scheduled pod ≡ false) where
+  module _ (y : List Entry) (run : IsRunOf setup y) (s : ActorState) (p : IsDecisionPoint setup seat role y s y) (u : Under) (key : Key)
+      (own : u.key ≡ key) (gives : GivesCall s.role s.memory (all_objects s.caches) u) (pod : PodData)
+      (there : row_at key (world setup y).store.rows ≡ Some (Pod pod)) (waits : is_scheduled pod ≡ false) where
     known : are_known (world setup y).store.rows pod ≡ true
     known = claims_known (world setup y).store.rows (rows_known setup y run.imports) pod
 
@@ -122,11 +124,13 @@ module _ (setup : Setup) (seat : ℕ) (role : Role) (kind : role.kind ≡ seats.
           schedules = schedules;
           step = begun_first _ b.op b.begins.begins;
           first = first_write b.op.writes u schedules (begun_first _ b.op b.begins.begins);
-          chosen = chosen (world setup y).store.rows (rows_stand_in_order setup y) pod known (last_refused (world setup y).store.rows pod s.memory.tries.refused) b.begins.choice b.op b.begins.chosen b.begins.begins;
+          chosen = chosen (world setup y).store.rows (rows_stand_in_order setup y) pod known
+              (last_refused (world setup y).store.rows pod s.memory.tries.refused) b.begins.choice b.op b.begins.chosen b.begins.begins;
         }
 
   -- the first call of what leads to a call that was made was made
-  first_called : (past newer : List Entry) {h g : List Entry} {u v : Under} → Leads setup seat role.kind h u g v → past ≡ newer ++ (own_entry setup seat role.kind g v.call ∷ g) → (more : List Entry) × (past ≡ more ++ (own_entry setup seat role.kind h u.call ∷ h))
+  first_called : (past newer : List Entry) {h g : List Entry} {u v : Under} → Leads setup seat role.kind h u g v
+      → past ≡ newer ++ (own_entry setup seat role.kind g v.call ∷ g) → (more : List Entry) × (past ≡ more ++ (own_entry setup seat role.kind h u.call ∷ h))
   first_called past newer Here are = (newer, are)
   first_called past newer {h = h} {g = g} {u = u} {v = v} (On next follows more) are =
       let m = leads_more setup seat role.kind more in
@@ -135,16 +139,22 @@ module _ (setup : Setup) (seat : ℕ) (role : Role) (kind : role.kind ≡ seats.
 
   -- ---- a slot that leaves as much to do
 
-  module _ (h past : List Entry) (run : IsRunOf setup past) (order : AreAlwaysInOrder setup past) (paid : HavePaid setup h past) (le : work_left setup (world setup h) ≤ work_left setup (world setup past)) where
+  module _ (h past : List Entry) (run : IsRunOf setup past) (order : AreAlwaysInOrder setup past) (paid : HavePaid setup h past)
+      (le : work_left setup (world setup h) ≤ work_left setup (world setup past)) where
     -- no volume is taken in it
-    pub takes_none : (y newer : List Entry) (u : Under) (writes : List Request) → IsRunOf setup y → IsWithin h y past → past ≡ newer ++ (own_entry setup seat role.kind y u.call ∷ y) → slice_get writes 0 ≡ Some u.call → TakesFirst (world setup y).store.rows writes → ⊥
+    pub takes_none : (y newer : List Entry) (u : Under) (writes : List Request) → IsRunOf setup y → IsWithin h y past
+        → past ≡ newer ++ (own_entry setup seat role.kind y u.call ∷ y) → slice_get writes 0 ≡ Some u.call → TakesFirst (world setup y).store.rows writes → ⊥
     takes_none y newer u writes here w are first t =
         let uid = has_uid t.claim.meta.uid t.apart.known in
         let call : write_reference t.volume t.claim ≡ u.call = one (write_reference t.volume t.claim) u.call (ap (λ ws. slice_get ws 0) (sym t.are) ∙ first) in
-        let lasts = reference_lasts setup (world setup y) role.kind t.volume t.claim uid.uid (ap is_user kind) (stored setup y (key_of (Volume t.volume)) (Volume t.volume) here.imports t.apart.volume) (rows_are_valid setup y here.imports (key_of (Claim t.claim)) (Claim t.claim) t.apart.claim) uid.is t.apart.uncarried in
-        worth_none setup h past run order paid le (own_entry setup seat role.kind y u.call) y newer are w (subst (Lasts setup (world setup y) role.kind) call lasts) (ap (λ (x : SeatKind × Request). worth x.0 x.1) (λ i. (kind i, (sym call) i)))
+        let lasts = reference_lasts setup (world setup y) role.kind t.volume t.claim uid.uid (ap is_user kind)
+        (stored setup y (key_of (Volume t.volume)) (Volume t.volume) here.imports t.apart.volume)
+        (rows_are_valid setup y here.imports (key_of (Claim t.claim)) (Claim t.claim) t.apart.claim) uid.is t.apart.uncarried in
+        worth_none setup h past run order paid le (own_entry setup seat role.kind y u.call) y newer are w
+        (subst (Lasts setup (world setup y) role.kind) call lasts) (ap (λ (x : SeatKind × Request). worth x.0 x.1) (λ i. (kind i, (sym call) i)))
 
-    module _ (start g newer older : List Entry) (u : Under) (since : start ≡ older ++ h) (i : IsDecidedIn setup seat role start g u) (are : past ≡ newer ++ (own_entry setup seat role.kind g u.call ∷ g)) where
+    module _ (start g newer older : List Entry) (u : Under) (since : start ≡ older ++ h) (i : IsDecidedIn setup seat role start g u)
+        (are : past ≡ newer ++ (own_entry setup seat role.kind g u.call ∷ g)) where
       first_made : (more : List Entry) × (past ≡ more ++ (own_entry setup seat role.kind i.point i.first.call ∷ i.point))
       first_made = first_called past newer i.leads are
 
@@ -173,12 +183,29 @@ module _ (setup : Setup) (seat : ℕ) (role : Role) (kind : role.kind ≡ seats.
       pub calls_are : IsBinding u.call ⊎ IsPlacing setup i.point i.state i.first.key u.call
       calls_are = by decided_so.chosen
         where
-          by : Chosen (world setup i.point).store.rows decided_so.pod (last_refused (world setup i.point).store.rows decided_so.pod i.state.memory.tries.refused) decided_so.writes → IsBinding u.call ⊎ IsPlacing setup i.point i.state i.first.key u.call
-          by (Binds b) = inl (record { key = key_of (Pod decided_so.pod); uid = b.uid; name = b.name; is = sym (only_at (BindPod (key_of (Pod decided_so.pod)) b.uid b.name) u.call among_them.0 (ap (λ ws. slice_get ws among_them.0) (sym b.are) ∙ among_them.1)) })
+          by : Chosen (world setup i.point).store.rows decided_so.pod
+              (last_refused (world setup i.point).store.rows decided_so.pod i.state.memory.tries.refused) decided_so.writes → IsBinding u.call ⊎ IsPlacing setup i.point i.state i.first.key u.call
+          by (Binds b) = inl (record {
+            key = key_of (Pod decided_so.pod);
+            uid = b.uid;
+            name = b.name;
+            is = sym
+                (only_at (BindPod (key_of (Pod decided_so.pod)) b.uid b.name) u.call among_them.0 (ap (λ ws. slice_get ws among_them.0) (sym b.are) ∙ among_them.1));
+          })
           by (TakesVolumes t) = absurd (takes_none i.point first_made.0 i.first decided_so.writes here decided_within first_made.1 decided_so.first t)
           by (Searches s) =
               let m = made_of (placing s.name) (others_of (world setup i.point).store.rows decided_so.pod) among_them.0 u.call (ap (λ ws. slice_get ws among_them.0) (sym s.are) ∙ among_them.1) in
-              inr (record { pod = decided_so.pod; there = decided_so.there; waits = decided_so.waits; writes = decided_so.writes; searched = s; claim = m.item; among = at_in (others_of (world setup i.point).store.rows decided_so.pod) among_them.0 m.item m.at; is = sym m.is })
+              inr (record {
+                pod = decided_so.pod;
+                there = decided_so.there;
+                waits = decided_so.waits;
+                writes = decided_so.writes;
+                searched =
+                    s;
+                claim = m.item;
+                among = at_in (others_of (world setup i.point).store.rows decided_so.pod) among_them.0 m.item m.at;
+                is = sym m.is;
+              })
 
 -- ---- whose claim it is
 
@@ -206,9 +233,11 @@ abbrev pub pods_waiting : Object → Bool
 pods_waiting (Pod p) = is_scheduled p
 pods_waiting o = false
 
-module _ (setup : Setup) (h y : List Entry) (run : IsRunOf setup y) (shares : SharesWell (world setup h)) (near : AreNear (world setup h) (world setup y)) (key : Key) (pod : PodData) (there : row_at key (world setup h).store.rows ≡ Some (Pod pod)) (waits : is_scheduled pod ≡ false) where
+module _ (setup : Setup) (h y : List Entry) (run : IsRunOf setup y) (shares : SharesWell (world setup h))
+    (near : AreNear (world setup h) (world setup y)) (key : Key) (pod : PodData) (there : row_at key (world setup h).store.rows ≡ Some (Pod pod)) (waits : is_scheduled pod ≡ false) where
   -- a claim of a waiting pod that gets its node gets it for this pod
-  pub own_claim : (s : ActorState) (other : Key) (call : Request) (x : IsPlacing setup y s other call) (name : List ℕ) → SomeOf (λ n. n ≡ name) pod.claims → key_of (Claim x.claim) ≡ claim_key pod.meta.namespace name → other ≡ key
+  pub own_claim : (s : ActorState) (other : Key) (call : Request) (x : IsPlacing setup y s other call) (name : List ℕ)
+      → SomeOf (λ n. n ≡ name) pod.claims → key_of (Claim x.claim) ≡ claim_key pod.meta.namespace name → other ≡ key
   own_claim s other call x name among keyed = elim (key_tells other key) [
     | inl same ↦ same
     | inr apart ↦ absurd (elim (shares other key pod.meta.namespace name d.claim theirs ours apart (ap claim_in there_h)) [
@@ -221,7 +250,8 @@ module _ (setup : Setup) (h y : List Entry) (run : IsRunOf setup y) (shares : Sh
       rows = (world setup y).store.rows
 
       sought : IsSought rows x.claim
-      sought = each_in (IsSought rows) x.claim (others_of rows x.pod) (others_sought rows x.pod (all_known rows x.pod (claims_known rows (rows_known setup y run.imports) x.pod)) x.searched.search.here) x.among
+      sought = each_in (IsSought rows) x.claim (others_of rows x.pod)
+          (others_sought rows x.pod (all_known rows x.pod (claims_known rows (rows_known setup y run.imports) x.pod)) x.searched.search.here) x.among
 
       named : IsNamed rows x.pod x.claim
       named = each_in (IsNamed rows x.pod) x.claim (others_of rows x.pod) (others_named rows x.pod) x.among
@@ -262,4 +292,5 @@ module _ (setup : Setup) (h y : List Entry) (run : IsRunOf setup y) (shares : Sh
       late : is_delayed (row_at (class_key (class_of_claim d.claim)) (world setup h).store.rows) ≡ true
       late =
           ap (λ n. is_delayed (row_at (class_key n) (world setup h).store.rows)) class_same
-          ∙ (sym (delayed_at_rest (world setup h).store.rows (class_of_claim x.claim)) ∙ (ap (λ rs. is_delayed (row_at (class_key (class_of_claim x.claim)) rs)) near.rows ∙ (delayed_at_rest rows (class_of_claim x.claim) ∙ sought.delayed)))
+          ∙ (sym (delayed_at_rest (world setup h).store.rows (class_of_claim x.claim))
+          ∙ (ap (λ rs. is_delayed (row_at (class_key (class_of_claim x.claim)) rs)) near.rows ∙ (delayed_at_rest rows (class_of_claim x.claim) ∙ sought.delayed)))

@@ -2,12 +2,12 @@
 use Rattle.std.proofs.Common.{◌≡◌, ◌∙◌, ℕ, List, [], ◌∷◌, Bool, true, false, true≢false, Option, Some, None, refl, sym, ap, subst, if◌then◌else◌}
 use Rattle.std.specs.Prelude.{map, slice_get}
 use Rattle.std.specs.List.{list_all, list_any}
-use Rattle.kube_types.specs.declared.key.Key.{Key}
-use Rattle.kube_types.specs.declared.uid.Uid.{Uid}
-use Rattle.kube_types.specs.declared.objects.Pod.{Pod as PodData}
-use Rattle.kube_types.specs.declared.objects.Object.{Object}
-use Rattle.kube_types.specs.declared.objects.Object.TheVariants.{Pod}
-use Rattle.kube_types.specs.Keys.{AreRows, key_of}
+use Rattle.kube_objects.specs.declared.key.Key.{Key}
+use Rattle.kube_parts.specs.declared.uid.Uid.{Uid}
+use Rattle.kube_objects.specs.declared.objects.Pod.{Pod as PodData}
+use Rattle.kube_objects.specs.declared.objects.Object.{Object}
+use Rattle.kube_objects.specs.declared.objects.Object.TheVariants.{Pod}
+use Rattle.kube_objects.specs.Keys.{AreRows, key_of}
 use Rattle.call_types.specs.declared.reply.Reply.{Reply}
 use Rattle.call_types.specs.declared.request.Request.{Request}
 use Rattle.call_types.specs.declared.request.Request.TheVariants.{BindPod}
@@ -54,7 +54,9 @@ pub data Chosen (rows : List Object) (p : PodData) (last : Option (List ℕ)) (w
   Searches : IsSearched rows p last writes → Chosen rows p last writes
 
 module _ (rows : List Object) (p : PodData) (last : Option (List ℕ)) (name : List ℕ) where
-  completed_at : (lacks done elsewhere under : Bool) → IsChoiceAt (if lacks then LacksClaim else if done then IsCompleted else if elsewhere then IsServedElsewhere else if under then IsUnderWay else IsSearching) rows (claims_of rows p) last (Assign name) → done ≡ true
+  completed_at : (lacks done elsewhere under : Bool)
+      → IsChoiceAt (if lacks then LacksClaim else if done then IsCompleted else if elsewhere then IsServedElsewhere else if under then IsUnderWay
+      else IsSearching) rows (claims_of rows p) last (Assign name) → done ≡ true
   completed_at true done elsewhere under f = absurd (true≢false (ap is_assign f))
   completed_at false true elsewhere under f = refl
   completed_at false false true under f = absurd (true≢false (ap is_assign f))
@@ -81,7 +83,8 @@ module _ (rows : List Object) (order : AreRows rows) (p : PodData) (known : are_
             binds = [];
             provisions = provisions;
             search = search;
-            provisioned = all_provisioned rows search.prepared.node (others_in rows (claims_of rows p)) search.prepared.prepares.shares (set_aside rows) search.prepared.prepares.serves.shared (sym search.prepared.prepares.binds_are);
+            provisioned = all_provisioned rows search.prepared.node (others_in rows (claims_of rows p)) search.prepared.prepares.shares
+                (set_aside rows) search.prepared.prepares.serves.shared (sym search.prepared.prepares.binds_are);
             are = are;
           })
 

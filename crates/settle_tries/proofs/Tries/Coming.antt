@@ -2,7 +2,7 @@
 use Rattle.std.proofs.Common.{◌≡◌, ◌∙◌, ◌⊎◌, ℕ, ◌-◌, List, [], ◌∷◌, ◌++◌, append_assoc, Bool, true, false, true≢false, Option, Some, None, inl, inr, refl, sym, ap, subst}
 use Rattle.std.proofs.lemmas.List.{append_cancel_right}
 use Rattle.std.specs.Prelude.{⊤}
-use Rattle.kube_types.specs.declared.parts.Kind.{Kind}
+use Rattle.kube_parts.specs.declared.parts.Kind.{Kind}
 use Rattle.call_types.specs.declared.entry.Entry.{Entry}
 use Rattle.call_types.specs.declared.reply.Reply.{Reply}
 use Rattle.call_types.specs.declared.request.Request.{Request}
@@ -35,7 +35,8 @@ use Rattle.settle_pays.proofs.Pays.Slots.{read_never, start_never}
 use Rattle.settle_tries.specs.Tries.Coming.{IsCallOf, IsDecidedIn, LastingAreDecided}
 
 -- what leads on leads on by one call more
-pub leads_on : (setup : Setup) (seat : ℕ) (kind : SeatKind) {h g : List Entry} {u v : Under} (next : Under) → Leads setup seat kind h u g v → under_after v (reply_to (effect setup (world setup g) kind v.call)) ≡ Some next → Leads setup seat kind h u (own_entry setup seat kind g v.call ∷ g) next
+pub leads_on : (setup : Setup) (seat : ℕ) (kind : SeatKind) {h g : List Entry} {u v : Under} (next : Under) → Leads setup seat kind h u g v
+    → under_after v (reply_to (effect setup (world setup g) kind v.call)) ≡ Some next → Leads setup seat kind h u (own_entry setup seat kind g v.call ∷ g) next
 leads_on setup seat kind next Here follows = On next follows Here
 leads_on setup seat kind next (On n goes more) follows = On n goes (leads_on setup seat kind next more follows)
 
@@ -52,7 +53,8 @@ module _ (setup : Setup) (seat : ℕ) (role : Role) (built : IsBuiltKind role.ki
     OfUnder : (u : Under) → given.under ≡ Some u → given.given ≡ Some givens.Task → request ≡ u.call → IsDecidedIn setup seat role start h u → CallsSo h given request
     Reads : given.under ≡ None → NeverLasts setup h request → CallsSo h given request
 
-  calls_so : (s given : ActorState) (request : Request) (h older : List Entry) → h ≡ older ++ start → s.role ≡ role → IsHistory setup h → IsReady seat s h → IsTurn s given (Call request) → KnowsBehind setup seat s.role s.pass h → Under_ h s → CallsSo h given request
+  calls_so : (s given : ActorState) (request : Request) (h older : List Entry) → h ≡ older ++ start → s.role ≡ role → IsHistory setup h
+      → IsReady seat s h → IsTurn s given (Call request) → KnowsBehind setup seat s.role s.pass h → Under_ h s → CallsSo h given request
   calls_so s given request h older since is history ready turn knows settle_round_calls = by s.memory.stale s.under (start_call s.role s.memory) (unlisted s) (passing s) refl refl refl turn
     where
       asked : (x : Request) → Call request ≡ Call x → request ≡ x
@@ -62,31 +64,53 @@ module _ (setup : Setup) (seat : ℕ) (role : Role) (built : IsBuiltKind role.ki
       reads_so k none e = Reads none (subst (NeverLasts setup h) (sym (asked (read_of_kind s.caches k) e)) (read_never setup (world setup h) s.caches k))
 
       point : passing s ≡ None → IsDecisionPoint setup seat role h s h
-      point over = record { role_is = is; history = history; alike = record { rows = refl; stored = refl; mounts = refl }; ready = ready; sees = sees setup seat s h history ready.stands.told knows over }
+      point over = record {
+        role_is = is;
+        history = history;
+        alike = record { rows = refl; stored = refl; mounts = refl };
+        ready = ready;
+        sees =
+            sees setup seat s h history ready.stands.told knows over;
+      }
 
-      keys : (w : Work) (under : Option Under) → s.under ≡ None → passing s ≡ None → Decides s.role s.memory (all_objects s.caches) w under s.work → AfterKeys s given (Call request) w under → CallsSo h given request
+      keys : (w : Work) (under : Option Under) → s.under ≡ None → passing s ≡ None → Decides s.role s.memory (all_objects s.caches) w under s.work
+          → AfterKeys s given (Call request) w under → CallsSo h given request
       keys w (Some u) none over d b =
           OfUnder u (ap (λ (x : ActorState). x.under) b.state) (ap (λ (x : ActorState). x.given) b.state) (asked u.call b.call)
-          (record { state = s; point = h; older = older; behind = since; sees = point over; first = u; gives = decides_gives s.role s.memory (all_objects s.caches) w (Some u) u s.work d refl; leads = Here })
+          (record {
+            state = s;
+            point = h;
+            older = older;
+            behind = since;
+            sees = point over;
+            first = u;
+            gives =
+                decides_gives s.role s.memory (all_objects s.caches) w (Some u) u s.work d refl;
+            leads = Here;
+          })
       keys w None none over d (inl b) = reads_so b.kind (ap (λ (x : ActorState). x.under) b.state ∙ none) b.call
       keys w None none over d (inr b) = none_some (sym (ap call_in b.idle))
 
-      by : (stale : Bool) (under : Option Under) (begin : Option Request) (l p : Option Kind) → s.under ≡ under → start_call s.role s.memory ≡ begin → passing s ≡ p → TurnBy s given (Call request) stale under begin l p → CallsSo h given request
+      by : (stale : Bool) (under : Option Under) (begin : Option Request) (l p : Option Kind) → s.under ≡ under → start_call s.role s.memory ≡ begin
+          → passing s ≡ p → TurnBy s given (Call request) stale under begin l p → CallsSo h given request
       by true under begin l p eu est ep t = none_some (sym (ap call_in t.idle))
       by false (Some u) begin l p eu est ep t = OfUnder u (ap (λ (x : ActorState). x.under) t.state ∙ eu) (ap (λ (x : ActorState). x.given) t.state) (asked u.call t.call) (settle_round_calls u eu)
-      by false None (Some r) l p eu est ep t = Reads (ap (λ (x : ActorState). x.under) t.state ∙ eu) (subst (NeverLasts setup h) (sym (asked r t.call)) (start_never setup (world setup h) s.role.kind s.role.node s.memory r est))
+      by false None (Some r) l p eu est ep t =
+          Reads (ap (λ (x : ActorState). x.under) t.state ∙ eu) (subst (NeverLasts setup h) (sym (asked r t.call)) (start_never setup (world setup h) s.role.kind s.role.node s.memory r est))
       by false None None (Some k) p eu est ep t = reads_so k (ap (λ (x : ActorState). x.under) t.state ∙ eu) t.call
       by false None None None (Some k) eu est ep t = reads_so k (ap (λ (x : ActorState). x.under) t.state ∙ eu) t.call
       by false None None None None eu est ep t = keys t.work t.under eu ep t.decides t.then_
 
   -- the entry, and what is then under way
-  module _ (given next : ActorState) (request : Request) (reply : Reply) (h : List Entry) (of_kind : given.role.kind ≡ role.kind) (said : reply ≡ reply_to (effect setup (world setup h) given.role.kind request)) (absorbs : next ≡ absorbed given next.caches request (Told reply)) where
+  module _ (given next : ActorState) (request : Request) (reply : Reply) (h : List Entry) (of_kind : given.role.kind ≡ role.kind)
+      (said : reply ≡ reply_to (effect setup (world setup h) given.role.kind request)) (absorbs : next ≡ absorbed given next.caches request (Told reply)) where
     abbrev Comes : Type 0
     Comes = (Lasts setup (world setup h) given.role.kind request → ⊥) ⊎ IsCallOf setup seat role start (told_entry seat given request reply) h
 
     entry_is : (u : Under) → request ≡ u.call → own_entry setup seat role.kind h u.call ≡ told_entry seat given request reply
     entry_is u asked =
-        let told : reply_to (effect setup (world setup h) role.kind u.call) ≡ reply = sym (said ∙ (ap (λ k. reply_to (effect setup (world setup h) k request)) of_kind ∙ ap (λ r. reply_to (effect setup (world setup h) role.kind r)) asked)) in
+        let told : reply_to (effect setup (world setup h) role.kind u.call) ≡ reply =
+        sym (said ∙ (ap (λ k. reply_to (effect setup (world setup h) k request)) of_kind ∙ ap (λ r. reply_to (effect setup (world setup h) role.kind r)) asked)) in
         λ i. record { seat = seat; kind = (sym of_kind) i; request = (sym asked) i; reply = told i; told = true }
 
     comes : CallsSo h given request → Comes
@@ -95,7 +119,9 @@ module _ (setup : Setup) (seat : ℕ) (role : Role) (built : IsBuiltKind role.ki
 
     next_under : CallsSo h given request → Under_ (told_entry seat given request reply ∷ h) next
     next_under (OfUnder u under task asked d) n e =
-        let follows : under_after u (reply_to (effect setup (world setup h) role.kind u.call)) ≡ Some n = ap (λ (x : Entry). under_after u x.reply) (entry_is u asked) ∙ (sym (told_under given request reply u next.caches given.given given.under task under) ∙ (sym (ap (λ (x : ActorState). x.under) absorbs) ∙ e)) in
+        let follows : under_after u (reply_to (effect setup (world setup h) role.kind u.call)) ≡ Some n =
+        ap (λ (x : Entry). under_after u x.reply) (entry_is u asked)
+        ∙ (sym (told_under given request reply u next.caches given.given given.under task under) ∙ (sym (ap (λ (x : ActorState). x.under) absorbs) ∙ e)) in
         subst (λ x. IsDecidedIn setup seat role start (x ∷ h) n) (entry_is u asked)
         (record { state = d.state; point = d.point; older = d.older; behind = d.behind; sees = d.sees; first = d.first; gives = d.gives; leads = leads_on setup seat role.kind n d.leads follows })
     next_under (Reads none never) n e = none_some (sym (none_told given request reply next.caches given.given given.under none) ∙ (sym (ap (λ (x : ActorState). x.under) absorbs) ∙ e))
@@ -123,7 +149,8 @@ module _ (setup : Setup) (seat : ℕ) (role : Role) (built : IsBuiltKind role.ki
     all : AllCome newer h
 
   module _ (after : ActorState) (past : List Entry) (left : ℕ) (idle : Bool) (run : IsRunOf setup past) where
-    run_comes : (s : ActorState) (h older : List Entry) (b : ℕ) → Runs all_pass seat after past left idle s h b → h ≡ older ++ start → s.role ≡ role → KnowsBehind setup seat s.role s.pass h → Under_ h s → HaveCome h past
+    run_comes : (s : ActorState) (h older : List Entry) (b : ℕ) → Runs all_pass seat after past left idle s h b → h ≡ older ++ start → s.role ≡ role
+        → KnowsBehind setup seat s.role s.pass h → Under_ h s → HaveCome h past
     run_comes s h older b (IsSpent none state entries rest busy) since is knows settle_round_calls = record { newer = []; are = entries; all = tt }
     run_comes s h older b (IsIdle some ready turn entries rest calm) since is knows settle_round_calls = record { newer = []; are = entries; all = tt }
     run_comes s h older b (IsHeld given next request some ready turn held absorbs more) since is knows settle_round_calls = absurd (true≢false held)
@@ -132,8 +159,10 @@ module _ (setup : Setup) (seat : ℕ) (role : Role) (built : IsBuiltKind role.ki
         let given_role : given.role ≡ role = turn_role s given (Call request) turn ∙ is in
         let of_kind : given.role.kind ≡ role.kind = ap (λ (r : Role). r.kind) given_role in
         let so = calls_so s given request h older since is whole.0 ready turn knows settle_round_calls in
-        let rest = run_comes next (told_entry seat given request reply ∷ h) (told_entry seat given request reply ∷ older) (b - 1) more (ap (λ es. told_entry seat given request reply ∷ es) since) (still_role s given next (Call request) request (Told reply) turn absorbs ∙ is)
-        (told_knows setup seat s given request reply h (subst (λ (r : Role). IsBuiltKind r.kind) (sym is) built) ready turn whole knows next absorbs) (next_under given next request reply h of_kind whole.1 absorbs so) in
+        let rest = run_comes next (told_entry seat given request reply ∷ h) (told_entry seat given request reply ∷ older) (b - 1) more
+        (ap (λ es. told_entry seat given request reply ∷ es) since) (still_role s given next (Call request) request (Told reply) turn absorbs ∙ is)
+        (told_knows setup seat s given request reply h (subst (λ (r : Role). IsBuiltKind r.kind) (sym is) built) ready turn whole knows next absorbs)
+        (next_under given next request reply h of_kind whole.1 absorbs so) in
         record {
           newer = rest.newer ++ (told_entry seat given request reply ∷ []);
           are = rest.are ∙ sym (append_assoc rest.newer (told_entry seat given request reply ∷ []) h);

@@ -6,8 +6,8 @@ use Rattle.std.specs.Ordering.{is_eq}
 use Rattle.std.proofs.lemmas.Cmp.{nat_list_cmp_total, tied_itself}
 use Rattle.plain_data.specs.Pairs.{text_cmp}
 use Rattle.plain_data.specs.Rows.{IsAfter, IsRising}
-use Rattle.kube_types.specs.declared.objects.Node.{Node as NodeData}
-use Rattle.kube_types.specs.declared.objects.Pod.{Pod as PodData}
+use Rattle.kube_objects.specs.declared.objects.Node.{Node as NodeData}
+use Rattle.kube_objects.specs.declared.objects.Pod.{Pod as PodData}
 use Rattle.call_types.specs.declared.request.SeatKind.{SeatKind}
 use Rattle.call_types.specs.declared.request.SeatKind.TheVariants as seats
 use Rattle.call_types.specs.declared.setup.Setup.{Setup}
@@ -67,7 +67,8 @@ turn_length (Some r) ns = parted ns
     halves (x ∷ xs) = by (is_after r x) (halves xs)
       where
         by : (b : Bool) → length (filter (is_after r) xs) + length (filter (λ y. not (is_after r y)) xs) ≡ length xs
-            → length (cond b (x ∷ filter (is_after r) xs) (filter (is_after r) xs)) + length (cond (not b) (x ∷ filter (λ y. not (is_after r y)) xs) (filter (λ y. not (is_after r y)) xs)) ≡ length (x ∷ xs)
+            → length (cond b (x ∷ filter (is_after r) xs) (filter (is_after r) xs)) + length
+            (cond (not b) (x ∷ filter (λ y. not (is_after r y)) xs) (filter (λ y. not (is_after r y)) xs)) ≡ length (x ∷ xs)
         by true rest = omega (arith, rest)
         by false rest = omega (arith, rest)
 

@@ -1,9 +1,9 @@
 -- A slot decides each cached key, whatever is written in it before.
 use Rattle.std.proofs.Common.{◌≡◌, ◌∙◌, ℕ, ◌-◌, List, [], ◌∷◌, ◌++◌, append_assoc, Bool, true, false, true≢false, Some, None, inl, inr, refl, sym, ap, subst}
 use Rattle.std.specs.List.{list_any}
-use Rattle.kube_types.specs.declared.key.Key.{Key}
-use Rattle.kube_types.specs.Keys.{row_at, same_key}
-use Rattle.kube_types.specs.declared.objects.Object.{Object}
+use Rattle.kube_objects.specs.declared.key.Key.{Key}
+use Rattle.kube_objects.specs.Keys.{row_at, same_key}
+use Rattle.kube_objects.specs.declared.objects.Object.{Object}
 use Rattle.call_types.specs.declared.entry.Entry.{Entry}
 use Rattle.call_types.specs.declared.reply.Reply.{Reply}
 use Rattle.call_types.specs.declared.request.Request.{Request}
@@ -48,8 +48,10 @@ module _ (setup : Setup) (lets : Lets) (seat : ℕ) (kind : SeatKind) (after : A
   abbrev Rest : ActorState → List Entry → Type 0
   Rest next h = (n : Under) → next.role.kind ≡ kind → next.under ≡ Some n → WillLast setup lets seat kind h n → Reaches setup seat kind past h n
 
-  reach_asked : (given next : ActorState) (request : Request) (reply : Reply) (h newer : List Entry) (u : Under) → given.role.kind ≡ kind → past ≡ newer ++ (told_entry seat given request reply ∷ h) → given.under ≡ Some u → given.given ≡ Some givens.Task
-      → request ≡ u.call → next ≡ absorbed given next.caches request (Told reply) → WillLast setup lets seat kind h u → Rest next (told_entry seat given request reply ∷ h) → Reaches setup seat kind past h u
+  reach_asked : (given next : ActorState) (request : Request) (reply : Reply) (h newer : List Entry) (u : Under) → given.role.kind ≡ kind
+      → past ≡ newer ++ (told_entry seat given request reply ∷ h) → given.under ≡ Some u → given.given ≡ Some givens.Task
+      → request ≡ u.call → next ≡ absorbed given next.caches request (Told reply) → WillLast setup lets seat kind h u
+      → Rest next (told_entry seat given request reply ∷ h) → Reaches setup seat kind past h u
   reach_asked given next request reply h newer u of_kind are under task asked absorbs will rest = by will
     where
       whole : IsHistory setup (told_entry seat given request reply ∷ h)
@@ -73,7 +75,8 @@ module _ (setup : Setup) (lets : Lets) (seat : ℕ) (kind : SeatKind) (after : A
           let r = rest n next_kind (next_under n follows) (subst (λ e. WillLast setup lets seat kind (e ∷ h) n) entry more) in
           record { at = r.at; last = r.last; newer = r.newer; leads = On n follows (subst (λ e. Leads setup seat kind (e ∷ h) n r.at r.last) (sym entry) r.leads); lasts = r.lasts; are = r.are }
 
-  reach : (s : ActorState) (h : List Entry) (b : ℕ) → Runs lets seat after past left true s h b → (u : Under) → s.role.kind ≡ kind → s.under ≡ Some u → WillLast setup lets seat kind h u → Reaches setup seat kind past h u
+  reach : (s : ActorState) (h : List Entry) (b : ℕ) → Runs lets seat after past left true s h b → (u : Under) → s.role.kind ≡ kind → s.under ≡ Some u
+      → WillLast setup lets seat kind h u → Reaches setup seat kind past h u
   reach s h b (IsSpent none state entries rest busy) u of_kind under will = absurd (true≢false busy)
   reach s h b (IsIdle some ready turn entries rest calm) u of_kind under will =
       let awake : s.memory.stale ≡ false = ap (λ m. m.stale) (sym (turn_memory s after Idle turn)) ∙ fresh in
@@ -82,19 +85,28 @@ module _ (setup : Setup) (lets : Lets) (seat : ℕ) (kind : SeatKind) (after : A
       let a = asks_under s given (Call request) u turn (calls_fresh s given request turn) under in
       let g = run_grows lets seat after past left true next _ _ more in
       let kind_is : given.role.kind ≡ kind = ap (λ (r : Role). r.kind) (turn_role s given (Call request) turn) ∙ of_kind in
-      reach_asked given next request reply h g.longer.added u kind_is g.longer.are a.under a.given (one request u.call (ap call_in a.call)) absorbs will (λ n k e w. reach next (told_entry seat given request reply ∷ h) (b - 1) more n k e w)
+      reach_asked given next request reply h g.longer.added u kind_is g.longer.are a.under a.given
+      (one request u.call (ap call_in a.call)) absorbs will (λ n k e w. reach next (told_entry seat given request reply ∷ h) (b - 1) more n k e w)
   reach s h b (IsHeld given next request some ready turn held absorbs more) u of_kind under will =
       let a = asks_under s given (Call request) u turn (calls_fresh s given request turn) under in
       absurd (true≢false (sym (will_pass setup lets seat kind h u will) ∙ (ap (lets h) (sym (one request u.call (ap call_in a.call))) ∙ held)))
 
 -- ---- a key that waits is decided
 
-module _ (setup : Setup) (lets : Lets) (seat : ℕ) (role : Role) (key : Key) (built : IsBuiltKind role.kind) (after : ActorState) (past : List Entry) (left : ℕ) (history : IsHistory setup past) (fresh : after.memory.stale ≡ false) where
+module _ (setup : Setup) (lets : Lets) (seat : ℕ) (role : Role) (key : Key) (built : IsBuiltKind role.kind) (after : ActorState) (past : List Entry)
+    (left : ℕ) (history : IsHistory setup past) (fresh : after.memory.stale ≡ false) where
   abbrev Acts : List Entry → Type 0
   Acts h = (x : List Entry) → IsWithin h x past → ActsOn setup lets seat role x key
 
   point : (s : ActorState) (h : List Entry) → s.role ≡ role → IsHistory setup h → IsReady seat s h → KnowsBehind setup seat s.role s.pass h → passing s ≡ None → IsDecisionPoint setup seat role h s h
-  point s h is before ready knows over = record { role_is = is; history = before; alike = record { rows = refl; stored = refl; mounts = refl }; ready = ready; sees = sees setup seat s h before ready.stands.told knows over }
+  point s h is before ready knows over = record {
+    role_is = is;
+    history = before;
+    alike = record { rows = refl; stored = refl; mounts = refl };
+    ready
+        = ready;
+    sees = sees setup seat s h before ready.stands.told knows over;
+  }
 
   here : (h newer : List Entry) → past ≡ newer ++ h → IsWithin h h past
   here h newer are = record { newer = newer; older = []; ahead = are; behind = refl }
@@ -106,7 +118,8 @@ module _ (setup : Setup) (lets : Lets) (seat : ℕ) (role : Role) (key : Key) (b
   acted_later : (e : Entry) (h : List Entry) → IsActedOn setup seat role key (e ∷ h) past → IsActedOn setup seat role key h past
   acted_later e h a = record { state = a.state; point = a.point; within = later e h a.point a.within; sees = a.sees; under = a.under; own = a.own; gives = a.gives; reaches = a.reaches }
 
-  acted : (s : ActorState) (h : List Entry) (b : ℕ) → Runs lets seat after past left true s h b → s.role ≡ role → KnowsBehind setup seat s.role s.pass h → Acts h → waits key s.work ≡ true → IsActedOn setup seat role key h past
+  acted : (s : ActorState) (h : List Entry) (b : ℕ) → Runs lets seat after past left true s h b → s.role ≡ role
+      → KnowsBehind setup seat s.role s.pass h → Acts h → waits key s.work ≡ true → IsActedOn setup seat role key h past
   acted s h b (IsSpent none state entries rest busy) is knows acts waiting = absurd (true≢false busy)
   acted s h b (IsIdle some ready turn entries rest calm) is knows acts waiting =
       let awake : s.memory.stale ≡ false = ap (λ m. m.stale) (sym (turn_memory s after Idle turn)) ∙ fresh in
@@ -118,7 +131,8 @@ module _ (setup : Setup) (lets : Lets) (seat : ℕ) (role : Role) (key : Key) (b
       by : IsDecisionPoint setup seat role h s h → StopsBy s after Idle key → IsActedOn setup seat role key h past
       by p (ByCall u over under task call own gives) = none_some (ap call_in call)
       by p (ByNone first over none) = absurd ((acts h (here h [] entries)).acts s h first p none)
-  acted s h b (Asks given next request reply some ready turn passes absorbs more) is knows acts waiting = by (waits key given.work) refl (λ r k a w. acted next (told_entry seat given request reply ∷ h) (b - 1) more r k a w)
+  acted s h b (Asks given next request reply some ready turn passes absorbs more) is knows acts waiting =
+      by (waits key given.work) refl (λ r k a w. acted next (told_entry seat given request reply ∷ h) (b - 1) more r k a w)
     where
       whole : IsHistory setup (told_entry seat given request reply ∷ h)
       whole = run_older setup lets seat after past left true next _ _ more history
@@ -133,7 +147,8 @@ module _ (setup : Setup) (lets : Lets) (seat : ℕ) (role : Role) (key : Key) (b
       built_here = subst (λ (r : Role). IsBuiltKind r.kind) (sym is) built
 
       at_h : IsWithin h h past
-      at_h = let g = run_grows lets seat after past left true next _ _ more in here h (g.longer.added ++ told_entry seat given request reply ∷ []) (g.longer.are ∙ sym (append_assoc g.longer.added (told_entry seat given request reply ∷ []) h))
+      at_h = let g = run_grows lets seat after past left true next _ _ more in
+          here h (g.longer.added ++ told_entry seat given request reply ∷ []) (g.longer.are ∙ sym (append_assoc g.longer.added (told_entry seat given request reply ∷ []) h))
 
       called : StopsBy s given (Call request) key → IsActedOn setup seat role key h past
       called (ByCall u over under task call own gives) =
@@ -148,13 +163,15 @@ module _ (setup : Setup) (lets : Lets) (seat : ℕ) (role : Role) (key : Key) (b
             under = u;
             own = own;
             gives = gives;
-            reaches = reach_asked setup lets seat role.kind after past left history fresh given next request reply h g.longer.added u kind_is g.longer.are under task (one request u.call (ap call_in call)) absorbs ((acts h at_h).lasts s h u p own gives)
+            reaches = reach_asked setup lets seat role.kind after past left history fresh given next request reply h g.longer.added u kind_is
+                g.longer.are under task (one request u.call (ap call_in call)) absorbs ((acts h at_h).lasts s h u p own gives)
                 (λ n k e w. reach setup lets seat role.kind after past left history fresh next (told_entry seat given request reply ∷ h) (b - 1) more n k e w);
           }
       called (ByNone first over none) = absurd ((acts h at_h).acts s h first (point s h is whole.0 ready knows over) none)
 
       by : (b : Bool) → waits key given.work ≡ b
-          → (next.role ≡ role → KnowsBehind setup seat next.role next.pass (told_entry seat given request reply ∷ h) → Acts (told_entry seat given request reply ∷ h) → waits key next.work ≡ true → IsActedOn setup seat role key (told_entry seat given request reply ∷ h) past)
+          → (next.role ≡ role → KnowsBehind setup seat next.role next.pass (told_entry seat given request reply ∷ h)
+          → Acts (told_entry seat given request reply ∷ h) → waits key next.work ≡ true → IsActedOn setup seat role key (told_entry seat given request reply ∷ h) past)
           → IsActedOn setup seat role key h past
       by true still rest =
           acted_later (told_entry seat given request reply) h
@@ -179,14 +196,16 @@ module _ (setup : Setup) (lets : Lets) (seat : ℕ) (role : Role) (key : Key) (b
           absurd (true≢false (sym (will_pass setup lets seat role.kind h u ((acts h at_h).lasts s h u p own gives)) ∙ (ap (lets h) (sym asked) ∙ held)))
       held_so (ByNone first over none) = absurd ((acts h at_h).acts s h first (point s h is before ready knows over) none)
 
-      by : (b : Bool) → waits key given.work ≡ b → (next.role ≡ role → KnowsBehind setup seat next.role next.pass h → waits key next.work ≡ true → IsActedOn setup seat role key h past) → IsActedOn setup seat role key h past
+      by : (b : Bool) → waits key given.work ≡ b
+          → (next.role ≡ role → KnowsBehind setup seat next.role next.pass h → waits key next.work ≡ true → IsActedOn setup seat role key h past) → IsActedOn setup seat role key h past
       by true still rest =
           rest next_role (lost_knows setup seat given next request h (turned_knows setup seat s given (Call request) h turn knows) absorbs)
           (subst (λ w. waits key w ≡ true) (sym (ap (λ (x : ActorState). x.work) absorbs)) ((answers_keep_keys given next.caches request Lost).stays key still))
       by false stopped rest = held_so (stops_by s given (Call request) key turn waiting stopped)
 
 -- a key that the actor had cached waits once it is woken
-pub cached_waits : (lets : Lets) (seat : ℕ) (key : Key) (o : Object) (old after : ActorState) (h past : List Entry) (b left : ℕ) → old.under ≡ None → follows old.role.kind key.kind ≡ true → row_at key (all_objects old.caches) ≡ Some o → Runs lets seat after past left true (woken old) h b → waits key (woken old).work ≡ true
+pub cached_waits : (lets : Lets) (seat : ℕ) (key : Key) (o : Object) (old after : ActorState) (h past : List Entry) (b left : ℕ) → old.under ≡ None
+    → follows old.role.kind key.kind ≡ true → row_at key (all_objects old.caches) ≡ Some o → Runs lets seat after past left true (woken old) h b → waits key (woken old).work ≡ true
 cached_waits lets seat key o old after h past b left idle followed cached run = by (come_by old (own seat h) key o ready.stands.told.caches followed cached)
   where
     ready : IsReady seat (woken old) h
@@ -202,4 +221,5 @@ cached_waits lets seat key o old after h past b left idle followed cached run = 
 
 pub cached_are_decided : CachedAreDecided
 cached_are_decided setup lets seat key o old after h past b left built history idle followed cached run awake acts =
-    acted setup lets seat old.role key built after past left history awake (woken old) h b run refl (nothing_behind setup seat old h) acts (cached_waits lets seat key o old after h past b left idle followed cached run)
+    acted setup lets seat old.role key built after past left history awake (woken old) h b run refl (nothing_behind setup seat old h) acts
+    (cached_waits lets seat key o old after h past b left idle followed cached run)

@@ -1,14 +1,14 @@
 -- A claim that has no node at the end of a quiet round had none behind the scheduler's slot, or was written in it.
 use Rattle.std.proofs.Common.{◌≡◌, ◌≢◌, ◌∙◌, ◌⊎◌, ℕ, ◌≤◌, List, [], ◌∷◌, ◌++◌, append_assoc, Bool, true, false, true≢false, Option, Some, None, inl, inr, refl, sym, ap, subst}
 use Rattle.std.specs.Prelude.{is_some}
-use Rattle.kube_types.specs.declared.key.Key.{Key}
-use Rattle.kube_types.specs.declared.names.Due.{Due}
-use Rattle.kube_types.specs.declared.names.Due.TheVariants as dues
-use Rattle.kube_types.specs.declared.objects.Claim.{Claim as ClaimData}
-use Rattle.kube_types.specs.declared.objects.Object.{Object}
-use Rattle.kube_types.specs.declared.objects.Object.TheVariants.{Claim, Pod}
-use Rattle.kube_types.specs.Bindings.{has_key, selected_node}
-use Rattle.kube_types.specs.Keys.{row_at}
+use Rattle.kube_objects.specs.declared.key.Key.{Key}
+use Rattle.kube_parts.specs.declared.names.Due.{Due}
+use Rattle.kube_parts.specs.declared.names.Due.TheVariants as dues
+use Rattle.kube_objects.specs.declared.objects.Claim.{Claim as ClaimData}
+use Rattle.kube_objects.specs.declared.objects.Object.{Object}
+use Rattle.kube_objects.specs.declared.objects.Object.TheVariants.{Claim, Pod}
+use Rattle.kube_objects.specs.Bindings.{has_key, selected_node}
+use Rattle.kube_objects.specs.Keys.{row_at}
 use Rattle.call_types.specs.declared.entry.Entry.{Entry}
 use Rattle.call_types.specs.declared.request.SeatKind.TheVariants as seats
 use Rattle.call_types.specs.declared.setup.Setup.{Setup}
@@ -38,7 +38,23 @@ use Rattle.settle_tries.proofs.Tries.Coming.{lasting_are_decided}
 use Rattle.settle_tries.proofs.Tries.Moving.{one_node_so}
 use Rattle.settle_tries.proofs.Tries.Parts.{HasParts, parts_of}
 use Rattle.settle_tries.proofs.Tries.Points.{near_ahead, order_within, run_within}
-use Rattle.settle_tries.proofs.Tries.Quiet.{all_paid, at_first, at_second, first_paid, first_there, near_first, ops_idle, ops_paid, ops_stays, scheduler_idle, second_order, second_run, stands_alike, stays_up, tail_alike}
+use Rattle.settle_tries.proofs.Tries.Quiet.{
+  all_paid,
+  at_first,
+  at_second,
+  first_paid,
+  first_there,
+  near_first,
+  ops_idle,
+  ops_paid,
+  ops_stays,
+  scheduler_idle,
+  second_order,
+  second_run,
+  stands_alike,
+  stays_up,
+  tail_alike,
+}
 use Rattle.settle_tries.proofs.Tries.Taking.{StandsThere, claim_in, taken_were_due}
 
 -- ---- the entry that changes a claim
@@ -54,15 +70,18 @@ record IsChange (setup : Setup) (key : Key) (h past : List Entry) : Type 0 where
   stands : row_at key (world setup (entry ∷ older ++ h)).store.rows ≡ Some (Claim now)
   changes : content_of (Claim before) ≢ content_of (Claim now)
 
-module _ (setup : Setup) (key : Key) (h past : List Entry) (at : (x : List Entry) → IsWithin h x past → StandsThere setup key x) (c : ClaimData) (was : row_at key (world setup h).store.rows ≡ Some (Claim c)) where
-  change : (ahead newer : List Entry) (d : ClaimData) → past ≡ ahead ++ (newer ++ h) → row_at key (world setup (newer ++ h)).store.rows ≡ Some (Claim d) → content_of (Claim c) ≢ content_of (Claim d) → IsChange setup key h past
+module _ (setup : Setup) (key : Key) (h past : List Entry) (at : (x : List Entry) → IsWithin h x past → StandsThere setup key x) (c : ClaimData)
+    (was : row_at key (world setup h).store.rows ≡ Some (Claim c)) where
+  change : (ahead newer : List Entry) (d : ClaimData) → past ≡ ahead ++ (newer ++ h)
+      → row_at key (world setup (newer ++ h)).store.rows ≡ Some (Claim d) → content_of (Claim c) ≢ content_of (Claim d) → IsChange setup key h past
   change ahead [] d are there differs = absurd (differs (ap (λ x. content_of (Claim (claim_in c x))) (sym was ∙ there)))
   change ahead (e ∷ newer) d are there differs = by (at (newer ++ h) w) (λ x at_x other. change (ahead ++ (e ∷ [])) newer x w.ahead at_x other)
     where
       w : IsWithin h (newer ++ h) past
       w = record { newer = ahead ++ (e ∷ []); older = newer; ahead = are ∙ sym (append_assoc ahead (e ∷ []) (newer ++ h)); behind = refl }
 
-      by : StandsThere setup key (newer ++ h) → ((x : ClaimData) → row_at key (world setup (newer ++ h)).store.rows ≡ Some (Claim x) → content_of (Claim c) ≢ content_of (Claim x) → IsChange setup key h past) → IsChange setup key h past
+      by : StandsThere setup key (newer ++ h)
+          → ((x : ClaimData) → row_at key (world setup (newer ++ h)).store.rows ≡ Some (Claim x) → content_of (Claim c) ≢ content_of (Claim x) → IsChange setup key h past) → IsChange setup key h past
       by s before = test (object_known (content_of (Claim s.claim)) (content_of (Claim d)))
         where
           test : Known (content_of (Claim s.claim) ≡ content_of (Claim d)) → IsChange setup key h past
@@ -91,7 +110,8 @@ abbrev is_pod : Object → Bool
 is_pod (Pod p) = true
 is_pod o = false
 
-pub none_due : (setup : Setup) (h : List Entry) (key : Key) (c : ClaimData) (action : Due) → OnlyPrepares setup (world setup h) → row_at key (world setup h).store.rows ≡ Some (Claim c) → provision_due setup (world setup h) c ≡ Some action → ⊥
+pub none_due : (setup : Setup) (h : List Entry) (key : Key) (c : ClaimData) (action : Due) → OnlyPrepares setup (world setup h)
+    → row_at key (world setup h).store.rows ≡ Some (Claim c) → provision_due setup (world setup h) c ≡ Some action → ⊥
 none_due setup h key c action only there due =
     let z = some_due (claim_guard_due (world setup h).store.rows c) (claim_due (world setup h).store.rows c) action in
     let p = only key (Claim c) z.0 there (z.1 ∙ ap (λ y. or_due (claim_guard_due (world setup h).store.rows c) (or_due (claim_due (world setup h).store.rows c) y)) (sym due)) in
@@ -99,7 +119,8 @@ none_due setup h key c action only there due =
 
 -- ---- a quiet round
 
-module _ (setup : Setup) (ds after : List Drainer) (h past : List Entry) (b left : ℕ) (q : IsQuietRound setup ds after h past b left) (p : HasParts all_pass past left ds h b after) (cached : AreCached setup ds h) (only : OnlyPrepares setup (world setup h))
+module _ (setup : Setup) (ds after : List Drainer) (h past : List Entry) (b left : ℕ) (q : IsQuietRound setup ds after h past b left)
+    (p : HasParts all_pass past left ds h b after) (cached : AreCached setup ds h) (only : OnlyPrepares setup (world setup h))
     (key : Key) (d : ClaimData) (is : row_at key (world setup past).store.rows ≡ Some (Claim d)) (none : has_key selected_node d.meta.annotations ≡ false) where
   abbrev middle : List Entry
   middle = p.first.middle
@@ -133,8 +154,10 @@ module _ (setup : Setup) (ds after : List Drainer) (h past : List Entry) (b left
       let s = stands_alike setup p.second.middle past key (Claim d) alike is in
       let n = claim_near (world setup p.second.middle) (world setup past) key d (near_ahead setup h past q.run q.order paid up p.second.middle (at_second setup ds after h past b left q p)) is in
       let same : content_of (Claim n.claim) ≡ content_of (Claim d) = sym (ap content_of (one s.object (Claim n.claim) (sym s.there ∙ n.there))) ∙ s.same in
-      taken_were_due setup p.second.drainer.seat p.second.drainer.actor p.second.ran.actor middle p.second.middle p.first.rest p.second.rest true key behind.claim n.claim (ap (λ (r : Role). r.kind) p.ops)
-      (second_run setup ds after h past b left q p) (second_order setup ds after h past b left q p) (ops_idle setup ds after h past b left q p cached) p.second.runs (ops_paid setup ds after h past b left q p) (ops_stays setup ds after h past b left q p)
+      taken_were_due setup p.second.drainer.seat p.second.drainer.actor p.second.ran.actor middle p.second.middle p.first.rest p.second.rest true key
+      behind.claim n.claim (ap (λ (r : Role). r.kind) p.ops)
+      (second_run setup ds after h past b left q p) (second_order setup ds after h past b left q p)
+      (ops_idle setup ds after h past b left q p cached) p.second.runs (ops_paid setup ds after h past b left q p) (ops_stays setup ds after h past b left q p)
       behind.there n.there had (ap is_some (one_node_so n.claim d same) ∙ none)
 
   -- so it was not so when the round began
@@ -155,14 +178,16 @@ module _ (setup : Setup) (ds after : List Drainer) (h past : List Entry) (b left
   written : has_key selected_node behind.claim.meta.annotations ≡ true → IsWritten setup p.first.drainer h middle key
   written had =
       let grown = run_grows all_pass p.first.drainer.seat p.first.ran.actor middle p.first.rest true (woken p.first.drainer.actor) h b p.first.runs in
-      let x = change setup key h middle stands_at before.claim before.there [] grown.longer.added behind.claim grown.longer.are (ap (λ es. row_at key (world setup es).store.rows) (sym grown.longer.are) ∙ behind.there) (other had) in
+      let x = change setup key h middle stands_at before.claim before.there [] grown.longer.added behind.claim grown.longer.are
+      (ap (λ es. row_at key (world setup es).store.rows) (sym grown.longer.are) ∙ behind.there) (other had) in
       record {
         newer = x.newer;
         older = x.older;
         entry = x.entry;
         are = x.are;
         call =
-            lasting_are_decided setup p.first.drainer.seat p.first.drainer.actor p.first.ran.actor h middle b p.first.rest true x.newer x.older x.entry (subst IsBuiltKind (sym kind) tt) run (scheduler_idle setup ds after h past b left q p cached) p.first.runs x.are
+            lasting_are_decided setup p.first.drainer.seat p.first.drainer.actor p.first.ran.actor h middle b p.first.rest true x.newer x.older
+            x.entry (subst IsBuiltKind (sym kind) tt) run (scheduler_idle setup ds after h past b left q p cached) p.first.runs x.are
             (change_lasts setup key h middle x);
         before = x.before;
         stood = x.stood;
@@ -189,4 +214,5 @@ module _ (setup : Setup) (ds after : List Drainer) (h past : List Entry) (b left
   }
 
 pub taken_were_given : TakenWereGiven
-taken_were_given setup ds after h past b left key d q cached only is none = given setup ds after h past b left q (parts_of all_pass past left ds h b after q.may.may.stand.roles q.round) cached only key d is none
+taken_were_given setup ds after h past b left key d q cached only is none =
+    given setup ds after h past b left q (parts_of all_pass past left ds h b after q.may.may.stand.roles q.round) cached only key d is none

@@ -4,18 +4,18 @@ use Rattle.std.specs.Prelude.{◌&&◌, ◌||◌, is_some, nat_lt, not, slice_ge
 use Rattle.std.specs.List.{list_all, list_any}
 use Rattle.std.proofs.lemmas.Bool.Decides.{Decides-eqb}
 use Rattle.plain_data.specs.Pairs.{value_at}
-use Rattle.kube_types.specs.declared.key.Key.{Key}
-use Rattle.kube_types.specs.declared.uid.Uid.{Uid}
-use Rattle.kube_types.specs.declared.names.Due.TheVariants as dues
-use Rattle.kube_types.specs.declared.objects.Claim.{Claim as ClaimData}
-use Rattle.kube_types.specs.declared.objects.Object.{Object}
-use Rattle.kube_types.specs.declared.objects.Object.TheVariants.{Class, Node, Volume, Claim, Pod}
-use Rattle.kube_types.specs.declared.objects.Node.{Node as NodeData}
-use Rattle.kube_types.specs.declared.objects.Pod.{Pod as PodData}
-use Rattle.kube_types.specs.declared.parts.Kind.TheVariants as kinds
-use Rattle.kube_types.specs.Bindings.{has_key, is_completed, is_scheduled, is_uid, selected_node}
-use Rattle.kube_types.specs.Keys.{key_of, row_at, rows_of}
-use Rattle.kube_types.proofs.KeyOrder.{row_at_key}
+use Rattle.kube_objects.specs.declared.key.Key.{Key}
+use Rattle.kube_parts.specs.declared.uid.Uid.{Uid}
+use Rattle.kube_parts.specs.declared.names.Due.TheVariants as dues
+use Rattle.kube_objects.specs.declared.objects.Claim.{Claim as ClaimData}
+use Rattle.kube_objects.specs.declared.objects.Object.{Object}
+use Rattle.kube_objects.specs.declared.objects.Object.TheVariants.{Class, Node, Volume, Claim, Pod}
+use Rattle.kube_objects.specs.declared.objects.Node.{Node as NodeData}
+use Rattle.kube_objects.specs.declared.objects.Pod.{Pod as PodData}
+use Rattle.kube_parts.specs.declared.parts.Kind.TheVariants as kinds
+use Rattle.kube_objects.specs.Bindings.{has_key, is_completed, is_scheduled, is_uid, selected_node}
+use Rattle.kube_objects.specs.Keys.{key_of, row_at, rows_of}
+use Rattle.kube_objects.proofs.KeyOrder.{row_at_key}
 use Rattle.call_types.specs.declared.entry.Entry.{Entry}
 use Rattle.call_types.specs.declared.request.Request.{Request}
 use Rattle.call_types.specs.declared.request.Request.TheVariants.{Update}
@@ -23,7 +23,23 @@ use Rattle.call_types.specs.declared.request.SeatKind.TheVariants as seats
 use Rattle.call_types.specs.declared.reply.Reply.{Reply}
 use Rattle.call_types.specs.declared.reply.Reply.TheVariants.{Done}
 use Rattle.call_types.specs.declared.setup.Setup.{Setup}
-use Rattle.binder_model.specs.Choice.{GoesNowhere, Searches, Waits, are_completed, assigned_node, claim_in, claim_named, claims_of, first_taking, has_carrier, is_other, is_served_elsewhere, is_under_way, lacks_claim, step_of}
+use Rattle.binder_model.specs.Choice.{
+  GoesNowhere,
+  Searches,
+  Waits,
+  are_completed,
+  assigned_node,
+  claim_in,
+  claim_named,
+  claims_of,
+  first_taking,
+  has_carrier,
+  is_other,
+  is_served_elsewhere,
+  is_under_way,
+  lacks_claim,
+  step_of,
+}
 use Rattle.binder_model.specs.Due.{IsDue}
 use Rattle.binder_model.specs.ObjectKeys.{claim_key}
 use Rattle.binder_model.specs.At.{HasUid}
@@ -108,12 +124,20 @@ module _ (rows : List Object) (p : PodData) (uid : Uid) where
   claimed_in [] all e = absurd (true≢false (sym e))
   claimed_in (name ∷ names) all e = by (claim_named rows p.meta.namespace name) refl e (claimed_in names (λ n i. all n (inr i)))
     where
-      by : (o : Option ClaimData) → claim_named rows p.meta.namespace name ≡ o → (is_claim_of uid o || list_any is_it names) ≡ true → (list_any is_it names ≡ true → ClaimsUid rows p uid) → ClaimsUid rows p uid
+      by : (o : Option ClaimData) → claim_named rows p.meta.namespace name ≡ o → (is_claim_of uid o || list_any is_it names) ≡ true
+          → (list_any is_it names ≡ true → ClaimsUid rows p uid) → ClaimsUid rows p uid
       by None at f more = more f
       by (Some c) at f more = test (is_uid c.meta.uid uid) refl f
         where
           test : (b : Bool) → is_uid c.meta.uid uid ≡ b → (b || list_any is_it names) ≡ true → ClaimsUid rows p uid
-          test true is g = record { name = name; among = all name (inl refl); claim = c; there = row_of_claim (row_at (claim_key p.meta.namespace name) rows) c at; known = uid_found c.meta.uid uid is }
+          test true is g = record {
+            name = name;
+            among = all name (inl refl);
+            claim = c;
+            there = row_of_claim
+                (row_at (claim_key p.meta.namespace name) rows) c at;
+            known = uid_found c.meta.uid uid is;
+          }
           test false is g = more g
 
   pub claimed : is_tried_for rows p uid ≡ true → ClaimsUid rows p uid
@@ -152,7 +176,8 @@ under_false rows p e = by (lacks_claim rows p) (are_completed rows p) (list_any 
     assigned None = refl
     assigned (Some n) = refl
 
-    by : (a b c d : Bool) → is_searching (if a then GoesNowhere else if b then assigned_node (first_taking rows p (rows_of kinds.Node rows)) else if c then Waits else if d then Waits else Searches) ≡ true → d ≡ false
+    by : (a b c d : Bool) → is_searching (if a then GoesNowhere else if b then assigned_node (first_taking rows p (rows_of kinds.Node rows)) else if
+        c then Waits else if d then Waits else Searches) ≡ true → d ≡ false
     by true b c d e = absurd (true≢false (sym e))
     by false true c d e = absurd (true≢false (sym e ∙ assigned (first_taking rows p (rows_of kinds.Node rows))))
     by false false true d e = absurd (true≢false (sym e))
@@ -165,8 +190,10 @@ not_completed false b e = refl
 
 -- ---- two rounds
 
-module _ (setup : Setup) (ds mid between after : List Drainer) (h middle past : List Entry) (b left c rest : ℕ) (key : Key) (p : PodData) (q : IsQuietRound setup ds mid h middle b left) (r : IsQuietRound setup between after middle past c rest)
-    (cached : AreCached setup ds h) (only : OnlyPrepares setup (world setup h)) (again : AreCached setup between middle) (there : row_at key (world setup middle).store.rows ≡ Some (Pod p)) (open_ : is_scheduled p ≡ false) (due : IsDue setup (world setup middle) (Pod p) (Some dues.Prepare))
+module _ (setup : Setup) (ds mid between after : List Drainer) (h middle past : List Entry) (b left c rest : ℕ) (key : Key) (p : PodData)
+    (q : IsQuietRound setup ds mid h middle b left) (r : IsQuietRound setup between after middle past c rest)
+    (cached : AreCached setup ds h) (only : OnlyPrepares setup (world setup h)) (again : AreCached setup between middle)
+    (there : row_at key (world setup middle).store.rows ≡ Some (Pod p)) (open_ : is_scheduled p ≡ false) (due : IsDue setup (world setup middle) (Pod p) (Some dues.Prepare))
     (first : WasTried setup ds mid h middle b left key) (second : WasTried setup between after middle past c rest key)
     (same_seat : second.tried.scheduler.seat ≡ first.tried.scheduler.seat) where
   abbrev front : IsSlotOf ds mid h middle b left first.tried.scheduler first.slot
@@ -229,7 +256,9 @@ module _ (setup : Setup) (ds mid between after : List Drainer) (h middle past : 
 
   first_pod : content_of (Pod first.pod) ≡ content_of (Pod pod)
   first_pod =
-      let near = then_near (world setup h) (world setup middle) (world setup point) (slot_behind setup ds mid h middle b left q cached first.tried.scheduler slot front middle (record { newer = []; older = (at_end.0); ahead = refl; behind = at_end.1 })) (near_point point second.tried.within) in
+      let near = then_near (world setup h) (world setup middle) (world setup point)
+      (slot_behind setup ds mid h middle b left q cached first.tried.scheduler slot front middle
+      (record { newer = []; older = (at_end.0); ahead = refl; behind = at_end.1 })) (near_point point second.tried.within) in
       let n = pod_near (world setup h) (world setup point) key pod near second.tried.stands in
       ap content_of (one (Pod first.pod) (Pod n.pod) (sym first.there ∙ n.there)) ∙ n.same
     where
@@ -243,9 +272,11 @@ module _ (setup : Setup) (ds mid between after : List Drainer) (h middle past : 
   spaced x same = ap space_of same
 
   -- up to the second decision nobody wrote the claims
-  stands_still : (x : List Entry) → IsWithin middle x point → (name : List ℕ) → SomeOf (λ n. n ≡ name) pod.claims → row_at (claim_key pod.meta.namespace name) (world setup x).store.rows ≡ row_at (claim_key pod.meta.namespace name) (world setup middle).store.rows
+  stands_still : (x : List Entry) → IsWithin middle x point → (name : List ℕ) → SomeOf (λ n. n ≡ name) pod.claims
+      → row_at (claim_key pod.meta.namespace name) (world setup x).store.rows ≡ row_at (claim_key pod.meta.namespace name) (world setup middle).store.rows
   stands_still x w name among =
-      subst (λ space. row_at (claim_key space name) (world setup x).store.rows ≡ row_at (claim_key space name) (world setup middle).store.rows) (spaced second.pod second_pod) (second.still x w name (named second.pod second_pod name among))
+      subst (λ space. row_at (claim_key space name) (world setup x).store.rows ≡ row_at (claim_key space name) (world setup middle).store.rows)
+      (spaced second.pod second_pod) (second.still x w name (named second.pod second_pod name among))
 
   at_middle : IsWithin middle middle point
   at_middle = record { newer = second.tried.within.older; older = []; ahead = second.tried.within.behind; behind = refl }
@@ -273,7 +304,9 @@ module _ (setup : Setup) (ds mid between after : List Drainer) (h middle past : 
     mine : is_tried_for rows pod uid ≡ true
     not_other : is_other (world setup slot).store.rows it.claim ≡ false
 
-  placed_there : (name : List ℕ) → SomeOf (λ n. n ≡ name) pod.claims → (x : ClaimData) → row_at (claim_key pod.meta.namespace name) (world setup slot).store.rows ≡ Some (Claim x) → is_other (world setup slot).store.rows x ≡ true → value_at selected_node x.meta.annotations ≡ Some node
+  placed_there : (name : List ℕ) → SomeOf (λ n. n ≡ name) pod.claims → (x : ClaimData)
+      → row_at (claim_key pod.meta.namespace name) (world setup slot).store.rows ≡ Some (Claim x) → is_other (world setup slot).store.rows x ≡ true
+      → value_at selected_node x.meta.annotations ≡ Some node
   placed_there name among x at other =
       first.placed name (named first.pod first_pod name among) x (ap claim_in (ap (λ space. row_at (claim_key space name) (world setup slot).store.rows) (spaced first.pod first_pod) ∙ at)) other
 
@@ -290,13 +323,17 @@ module _ (setup : Setup) (ds mid between after : List Drainer) (h middle past : 
           test false not_other = inr (record { it = x; mine = ours; not_other = not_other })
           test true other =
               let k = claim_key pod.meta.namespace x.name in
-              let keyed : row_at (key_of (Claim x.claim)) (world setup slot).store.rows ≡ Some (Claim x.claim) = ap (λ j. row_at j (world setup slot).store.rows) (row_at_key k (Claim x.claim) (world setup slot).store.rows x.stood_there) ∙ x.stood_there in
-              let sees = sees_node setup seat slot run_slot uid t at x.claim keyed (told_slot k x.claim x.stood_there) x.known (not_completed (is_completed x.claim) (has_carrier (world setup slot).store.rows x.claim) other) in
+              let keyed : row_at (key_of (Claim x.claim)) (world setup slot).store.rows ≡ Some (Claim x.claim) =
+              ap (λ j. row_at j (world setup slot).store.rows) (row_at_key k (Claim x.claim) (world setup slot).store.rows x.stood_there) ∙ x.stood_there in
+              let sees = sees_node setup seat slot run_slot uid t at x.claim keyed (told_slot k x.claim x.stood_there) x.known
+              (not_completed (is_completed x.claim) (has_carrier (world setup slot).store.rows x.claim) other) in
               inl (one t.node node (sym sees ∙ placed_there x.name x.among x.claim x.stood_there other))
 
   -- a claim of the pod that has no node again
   open_claim : HasOpen (world setup middle).store.rows p
-  open_claim = open_of (world setup middle).store.rows p (under_false (world setup middle).store.rows p (prepare_due setup (world setup middle) p (step_of (world setup middle).store.rows p) (waiting_due setup (world setup middle) p (Some dues.Prepare) open_ due)).0)
+  open_claim = open_of (world setup middle).store.rows p
+      (under_false (world setup middle).store.rows p
+      (prepare_due setup (world setup middle) p (step_of (world setup middle).store.rows p) (waiting_due setup (world setup middle) p (Some dues.Prepare) open_ due)).0)
 
   abbrev name : List ℕ
   name = open_claim.named.name
@@ -320,7 +357,8 @@ module _ (setup : Setup) (ds mid between after : List Drainer) (h middle past : 
   was = claim_near (world setup slot) (world setup middle) claim_at again_open near_slot in_middle
 
   was_other : is_other (world setup slot).store.rows was.claim ≡ true
-  was_other = other_near (world setup slot) (world setup middle) was.claim again_open near_slot was.same ∙ open_is_other (world setup middle).store.rows again_open open_claim.undone open_claim.uncarried
+  was_other = other_near (world setup slot) (world setup middle) was.claim again_open near_slot was.same
+      ∙ open_is_other (world setup middle).store.rows again_open open_claim.undone open_claim.uncarried
 
   had : value_at selected_node was.claim.meta.annotations ≡ Some node
   had = placed_there name among was.claim was.there was_other
@@ -348,7 +386,8 @@ module _ (setup : Setup) (ds mid between after : List Drainer) (h middle past : 
   reached_slot : KindsHaveReached base seat first.tried.scheduler.actor.role.kind slot
   reached_slot =
       slot_reaches setup seat first.tried.scheduler.actor front.ran.actor h slot b front.rest (runs_are_histories setup slot run_slot.run)
-      (others_stay_awake all_pass seat (woken first.tried.scheduler.actor) front.ran.actor h slot b front.rest (not_agent _ (ap is_agent kind_first)) front.runs) (subst IsBuiltKind (sym kind_first) tt) front.runs
+      (others_stay_awake all_pass seat (woken first.tried.scheduler.actor) front.ran.actor h slot b front.rest
+      (not_agent _ (ap is_agent kind_first)) front.runs) (subst IsBuiltKind (sym kind_first) tt) front.runs
 
   reached_middle : KindsHaveReached base second.tried.scheduler.seat second.tried.scheduler.actor.role.kind middle
   reached_middle kind from f is =
@@ -362,7 +401,8 @@ module _ (setup : Setup) (ds mid between after : List Drainer) (h middle past : 
   late_slot : HaveLate setup second.tried.scheduler.seat base middle second.slot
   late_slot =
       let run_second = slot_run setup between after middle past c rest r again second.tried.scheduler second.slot back in
-      slot_late setup second.tried.scheduler.seat base second.tried.scheduler.actor back.ran.actor middle second.slot c back.rest (runs_are_histories setup second.slot run_second.run) kind_second begun reached_middle back.runs
+      slot_late setup second.tried.scheduler.seat base second.tried.scheduler.actor back.ran.actor middle second.slot c back.rest
+      (runs_are_histories setup second.slot run_second.run) kind_second begun reached_middle back.runs
 
   module _ (uid : Uid) (known : again_open.meta.uid ≡ Some uid) where
     ours : is_tried_for rows pod uid ≡ true
@@ -370,7 +410,8 @@ module _ (setup : Setup) (ds mid between after : List Drainer) (h middle past : 
 
     selected : Stands uid (tries_of (own seat slot))
     selected =
-        slot_stands setup ds mid h middle b left q cached first.tried.scheduler slot front only claim_at was.claim again_open was.there (ap is_some had) in_middle open_claim.none uid node (ap uid_of was.same ∙ known) had
+        slot_stands setup ds mid h middle b left q cached first.tried.scheduler slot front only claim_at was.claim again_open was.there
+        (ap is_some had) in_middle open_claim.none uid node (ap uid_of was.same ∙ known) had
 
     -- an entry of the second slot before the decision
     module _ (ahead behind : List Entry) (e : Entry) (are : second.tried.within.older ≡ ahead ++ (e ∷ behind)) where
@@ -392,8 +433,10 @@ module _ (setup : Setup) (ds mid between after : List Drainer) (h middle past : 
       late_entry : TellsLate setup second.tried.scheduler.seat base e before
       late_entry =
           let x = second.reached in
-          let split : second.slot ≡ (x.newer ++ (ahead ++ (e ∷ behind))) ++ middle = x.ahead ∙ (ap (λ es. x.newer ++ es) (second.tried.within.behind ∙ ap (λ es. es ++ middle) are) ∙ sym (append_assoc x.newer (ahead ++ (e ∷ behind)) middle)) in
-          let same : late_slot.newer ≡ (x.newer ++ ahead) ++ (e ∷ behind) = append_cancel_right late_slot.newer (x.newer ++ (ahead ++ (e ∷ behind))) middle (sym late_slot.are ∙ split) ∙ sym (append_assoc x.newer ahead (e ∷ behind)) in
+          let split : second.slot ≡ (x.newer ++ (ahead ++ (e ∷ behind))) ++ middle = x.ahead
+          ∙ (ap (λ es. x.newer ++ es) (second.tried.within.behind ∙ ap (λ es. es ++ middle) are) ∙ sym (append_assoc x.newer (ahead ++ (e ∷ behind)) middle)) in
+          let same : late_slot.newer ≡ (x.newer ++ ahead) ++ (e ∷ behind) =
+          append_cancel_right late_slot.newer (x.newer ++ (ahead ++ (e ∷ behind))) middle (sym late_slot.are ∙ split) ∙ sym (append_assoc x.newer ahead (e ∷ behind)) in
           late_at setup second.tried.scheduler.seat base (x.newer ++ ahead) e behind middle (subst (λ es. AllLate setup second.tried.scheduler.seat base es middle) same late_slot.all)
 
       -- it writes no claim of the pod
@@ -402,16 +445,20 @@ module _ (setup : Setup) (ds mid between after : List Drainer) (h middle past : 
         where
           done : (asked d : ClaimData) (given : Option ℕ) → e.request ≡ Update (Claim asked) given → e.reply ≡ Done (Claim d) → HasUid t.claim d → ⊥
           done asked d given er ea is =
-              let said : reply_to (effect setup (world setup before) e.kind (Update (Claim asked) given)) ≡ Done (Claim d) = sym (ap (λ r. reply_to (effect setup (world setup before) e.kind r)) er) ∙ (sym history_it.1 ∙ ea) in
+              let said : reply_to (effect setup (world setup before) e.kind (Update (Claim asked) given)) ≡ Done (Claim d) =
+              sym (ap (λ r. reply_to (effect setup (world setup before) e.kind r)) er) ∙ (sym history_it.1 ∙ ea) in
               let x = claimed rows pod t.claim mine in
               let k = claim_key pod.meta.namespace x.name in
               let stands_ : row_at (key_of (Claim d)) (world setup (e ∷ before)).store.rows ≡ Some (Claim d) =
-              ap (λ r. row_at (key_of (Claim d)) (world_after (world setup before) (effect setup (world setup before) e.kind r)).store.rows) er ∙ done_stands setup (world setup before) e.kind (Update (Claim asked) given) (Claim d) said in
+              ap (λ r. row_at (key_of (Claim d)) (world_after (world setup before) (effect setup (world setup before) e.kind r)).store.rows) er
+              ∙ done_stands setup (world setup before) e.kind (Update (Claim asked) given) (Claim d) said in
               let stood_ = subst (λ es. Stood setup es (Claim d)) (sym whole) (stood_grows setup ahead (e ∷ before) (Claim d) (stood setup (e ∷ before) (Claim d) stands_)) in
               let keyed = row_at_key k (Claim x.claim) rows x.there in
-              let same_key = one_uid_one_key setup point run_point.imports run_point.short (Claim d) (Claim x.claim) t.claim stood_ (stood setup point (Claim x.claim) (ap (λ j. row_at j rows) keyed ∙ x.there)) is x.known ∙ keyed in
+              let same_key = one_uid_one_key setup point run_point.imports run_point.short (Claim d) (Claim x.claim) t.claim stood_
+              (stood setup point (Claim x.claim) (ap (λ j. row_at j rows) keyed ∙ x.there)) is x.known ∙ keyed in
               let there_ : row_at k (world setup (e ∷ before)).store.rows ≡ Some (Claim d) = ap (λ j. row_at j (world setup (e ∷ before)).store.rows) (sym same_key) ∙ stands_ in
-              let was_there : row_at k (world setup before).store.rows ≡ Some (Claim d) = stands_still before before_it x.name x.among ∙ (sym (stands_still (e ∷ before) after_it x.name x.among) ∙ there_) in
+              let was_there : row_at k (world setup before).store.rows ≡ Some (Claim d) = stands_still before before_it x.name x.among
+              ∙ (sym (stands_still (e ∷ before) after_it x.name x.among) ∙ there_) in
               let low = version_stood setup before (Claim d) (stood setup before (Claim d) (ap (λ j. row_at j (world setup before).store.rows) same_key ∙ was_there)) in
               let version = (done_version setup (world setup before) e.kind (Claim asked) given (Claim d) said).0 in
               omega (arith, low, version)
@@ -421,7 +468,8 @@ module _ (setup : Setup) (ds mid between after : List Drainer) (h middle past : 
           by _ _ er ea x = absurd x
 
       -- what it tells of a claim that was set aside refuses no node
-      module _ (x : ClaimData) (told_x : IsIn (Claim x) (objects_in e.reply)) (u : Uid) (its : x.meta.uid ≡ Some u) (a : IsAside u) (t : Tried) (at : tried_of u (tries_of (own seat before)).selected ≡ Some t)
+      module _ (x : ClaimData) (told_x : IsIn (Claim x) (objects_in e.reply)) (u : Uid) (its : x.meta.uid ≡ Some u) (a : IsAside u) (t : Tried)
+          (at : tried_of u (tries_of (own seat before)).selected ≡ Some t)
           (never : (a2 b2 : List Entry) (y : Entry) → second.tried.within.older ≡ a2 ++ (y ∷ b2) → (v : Tried) → Selecting v y.request y.reply → is_tried_for rows pod v.claim ≡ true → ⊥) where
         abbrev k : Key
         k = claim_key pod.meta.namespace a.it.name
@@ -430,7 +478,8 @@ module _ (setup : Setup) (ds mid between after : List Drainer) (h middle past : 
         was_it = a.it.claim
 
         stood_x : Stood setup point (Claim x)
-        stood_x = subst (λ es. Stood setup es (Claim x)) (sym whole) (stood_grows setup ahead (e ∷ before) (Claim x) (entry_stood setup e before (Claim x) (subst (λ rr. IsIn (Claim x) (objects_in rr)) history_it.1 told_x)))
+        stood_x = subst (λ es. Stood setup es (Claim x)) (sym whole)
+            (stood_grows setup ahead (e ∷ before) (Claim x) (entry_stood setup e before (Claim x) (subst (λ rr. IsIn (Claim x) (objects_in rr)) history_it.1 told_x)))
 
         to_point : point ≡ (second.tried.within.older ++ at_slot.newer) ++ slot
         to_point = second.tried.within.behind ∙ (ap (λ es. second.tried.within.older ++ es) at_slot.ahead ∙ sym (append_assoc second.tried.within.older at_slot.newer slot))
@@ -440,7 +489,9 @@ module _ (setup : Setup) (ds mid between after : List Drainer) (h middle past : 
 
         keyed_x : key_of (Claim x) ≡ k
         keyed_x =
-            let stood_it = subst (λ es. Stood setup es (Claim was_it)) (sym to_point) (stood_grows setup (second.tried.within.older ++ at_slot.newer) slot (Claim was_it) (stood setup slot (Claim was_it) (ap (λ j. row_at j (world setup slot).store.rows) it_keyed ∙ a.it.stood_there))) in
+            let stood_it = subst (λ es. Stood setup es (Claim was_it)) (sym to_point)
+            (stood_grows setup (second.tried.within.older ++ at_slot.newer) slot (Claim was_it)
+            (stood setup slot (Claim was_it) (ap (λ j. row_at j (world setup slot).store.rows) it_keyed ∙ a.it.stood_there))) in
             one_uid_one_key setup point run_point.imports run_point.short (Claim x) (Claim was_it) u stood_x stood_it its a.it.known ∙ it_keyed
 
         -- it stood so at a point of the first round
@@ -458,7 +509,8 @@ module _ (setup : Setup) (ds mid between after : List Drainer) (h middle past : 
           z = older_z ++ slot;
           within_z = record { newer = newer_z; older = older_z ++ at_slot.older; ahead = split; behind = ap (λ es. older_z ++ es) at_slot.behind ∙ sym (append_assoc older_z at_slot.older h) };
           there_z = is;
-          same_z = λ has. keeps setup ds mid h middle b left q cached only first.tried.scheduler slot front k was_it a.it.stood_there a.not_other has last_it.claim last_it.there newer_z older_z split x is;
+          same_z = λ has. keeps setup ds mid h middle b left q cached only first.tried.scheduler slot front k was_it a.it.stood_there a.not_other has
+              last_it.claim last_it.there newer_z older_z split x is;
         }
 
         in_middle_so : row_at k (world setup middle).store.rows ≡ Some (Claim x) → Stood_
@@ -473,14 +525,22 @@ module _ (setup : Setup) (ds mid between after : List Drainer) (h middle past : 
               still_so (s.behind ++ middle)
               (record { newer = s.ahead; older = s.behind; ahead = second.tried.within.behind ∙ (ap (λ es. es ++ middle) s.are ∙ append_assoc s.ahead s.behind middle); behind = refl }) s.there
           | inr first_ ↦ elim (stood_where setup at_slot.newer slot (Claim x) (subst (λ es. Stood setup es (Claim x)) at_slot.ahead first_)) [
-            | inl s ↦ behind_slot s.ahead s.behind (at_slot.ahead ∙ (ap (λ es. es ++ slot) s.are ∙ append_assoc s.ahead s.behind slot)) (ap (λ j. row_at j (world setup (s.behind ++ slot)).store.rows) (sym keyed_x) ∙ s.there)
+            | inl s ↦ behind_slot s.ahead s.behind (at_slot.ahead ∙ (ap (λ es. es ++ slot) s.are ∙ append_assoc s.ahead s.behind slot))
+                (ap (λ j. row_at j (world setup (s.behind ++ slot)).store.rows) (sym keyed_x) ∙ s.there)
             | inr second_ ↦ elim (stood_where setup at_slot.older h (Claim x) (subst (λ es. Stood setup es (Claim x)) at_slot.behind second_)) [
               | inl s ↦
-                  let w : IsWithin h (s.behind ++ h) slot = record { newer = s.ahead; older = s.behind; ahead = at_slot.behind ∙ (ap (λ es. es ++ h) s.are ∙ append_assoc s.ahead s.behind h); behind = refl } in
+                  let w : IsWithin h (s.behind ++ h) slot =
+                  record { newer = s.ahead; older = s.behind; ahead = at_slot.behind ∙ (ap (λ es. es ++ h) s.are ∙ append_assoc s.ahead s.behind h); behind = refl } in
                   let is : row_at k (world setup (s.behind ++ h)).store.rows ≡ Some (Claim x) = ap (λ j. row_at j (world setup (s.behind ++ h)).store.rows) (sym keyed_x) ∙ s.there in
                   record {
                     z = s.behind ++ h;
-                    within_z = record { newer = at_slot.newer ++ s.ahead; older = s.behind; ahead = at_slot.ahead ∙ (ap (λ es. at_slot.newer ++ es) w.ahead ∙ sym (append_assoc at_slot.newer s.ahead (s.behind ++ h))); behind = refl };
+                    within_z = record {
+                      newer = at_slot.newer ++ s.ahead;
+                      older = s.behind;
+                      ahead = at_slot.ahead
+                          ∙ (ap (λ es. at_slot.newer ++ es) w.ahead ∙ sym (append_assoc at_slot.newer s.ahead (s.behind ++ h)));
+                      behind = refl;
+                    };
                     there_z = is;
                     same_z = λ has. slot_so setup ds mid h middle b left q cached only first.tried.scheduler slot front k was_it a.it.stood_there a.not_other (s.behind ++ h) w x is;
                   }
@@ -499,7 +559,8 @@ module _ (setup : Setup) (ds mid between after : List Drainer) (h middle past : 
         spared_x = by (is_completed was_it) refl
           where
             near_z : AreNear (world setup stood_so.z) (world setup slot)
-            near_z = then_near (world setup stood_so.z) (world setup middle) (world setup slot) (slot_ahead setup ds mid h middle b left q cached first.tried.scheduler slot front stood_so.z stood_so.within_z) (back_near (world setup slot) (world setup middle) near_slot)
+            near_z = then_near (world setup stood_so.z) (world setup middle) (world setup slot)
+                (slot_ahead setup ds mid h middle b left q cached first.tried.scheduler slot front stood_so.z stood_so.within_z) (back_near (world setup slot) (world setup middle) near_slot)
 
             completed_same : is_completed x ≡ is_completed was_it
             completed_same =
@@ -518,14 +579,19 @@ module _ (setup : Setup) (ds mid between after : List Drainer) (h middle past : 
             by : (o : Bool) → is_completed was_it ≡ o → is_refusal t x ≡ false
             by true done = first_false (is_completed x) (nat_lt t.version x.meta.version) (is_other_node t.node (node_selected_for x)) (completed_same ∙ done)
             by false open_it =
-                let at_middle_ = tried_back seat u t behind middle (λ a2 b2 y is v s claims. never (ahead ++ (e ∷ a2)) b2 y (are ∙ (ap (λ es. ahead ++ (e ∷ es)) is ∙ sym (append_assoc ahead (e ∷ a2) (y ∷ b2)))) v s (ap (is_tried_for rows pod) claims ∙ a.mine)) at in
+                let at_middle_ = tried_back seat u t behind middle
+                (λ a2 b2 y is v s claims. never (ahead ++ (e ∷ a2)) b2 y
+                (are ∙ (ap (λ es. ahead ++ (e ∷ es)) is ∙ sym (append_assoc ahead (e ∷ a2) (y ∷ b2)))) v s (ap (is_tried_for rows pod) claims ∙ a.mine)) at in
                 let at_slot_ = subst (λ m. tried_of u (tries_of m).selected ≡ Some t) mine_same at_middle_ in
                 let sees : node_selected_for was_it ≡ Some t.node =
-                sees_node setup seat slot run_slot u t at_slot_ was_it (ap (λ j. row_at j (world setup slot).store.rows) it_keyed ∙ a.it.stood_there) (told_slot k was_it a.it.stood_there) a.it.known open_it in
+                sees_node setup seat slot run_slot u t at_slot_ was_it (ap (λ j. row_at j (world setup slot).store.rows) it_keyed ∙ a.it.stood_there)
+                (told_slot k was_it a.it.stood_there) a.it.known open_it in
                 let same : node_selected_for x ≡ Some t.node = one_node_so x was_it (stood_so.same_z (ap is_some sees)) ∙ sees in
-                last_false (not (is_completed x)) (nat_lt t.version x.meta.version) (is_other_node t.node (node_selected_for x)) (ap (is_other_node t.node) same ∙ ap not ((bytes_eq-Decides t.node t.node).1 refl))
+                last_false (not (is_completed x)) (nat_lt t.version x.meta.version) (is_other_node t.node (node_selected_for x))
+                (ap (is_other_node t.node) same ∙ ap not ((bytes_eq-Decides t.node t.node).1 refl))
 
-      passes : ((a2 b2 : List Entry) (y : Entry) → second.tried.within.older ≡ a2 ++ (y ∷ b2) → (v : Tried) → Selecting v y.request y.reply → is_tried_for rows pod v.claim ≡ true → ⊥) → Passes setup seat rows pod node IsAside uid ours e before
+      passes : ((a2 b2 : List Entry) (y : Entry) → second.tried.within.older ≡ a2 ++ (y ∷ b2) → (v : Tried) → Selecting v y.request y.reply
+          → is_tried_for rows pod v.claim ≡ true → ⊥) → Passes setup seat rows pod node IsAside uid ours e before
       passes never = record { spares = λ o i x is u its aside t at. spared_x x (subst (λ y. IsIn y (objects_in e.reply)) is i) u its aside t at never; none = none_selected }
 
     holds : Holds rows pod node IsAside uid ours (tries_of (own seat point))
@@ -546,7 +612,8 @@ module _ (setup : Setup) (ds mid between after : List Drainer) (h middle past : 
     follows_on : second.from ≡ Some node
     follows_on =
         let remembered : second.tried.state.memory.tries ≡ tries_of (own seat point) =
-        ap (λ (m : Memory). m.tries) second.tried.sees.ready.stands.told.memory ∙ (tries_are_told second.tried.state.role (own second.tried.scheduler.seat point) second_kind ∙ ap (λ n. tries_of (own n point)) same_seat) in
+        ap (λ (m : Memory). m.tries) second.tried.sees.ready.stands.told.memory
+        ∙ (tries_are_told second.tried.state.role (own second.tried.scheduler.seat point) second_kind ∙ ap (λ n. tries_of (own n point)) same_seat) in
         sym second.tried.refused ∙ (ap (λ (m : Tries). last_refused rows pod m.refused) remembered ∙ last)
 
   goes_on : second.from ≡ Some node
@@ -560,5 +627,6 @@ pub searches_go_on : SearchesGoOn
 searches_go_on setup ds between after h middle past b left c rest key p q r cached only again there open_ due first second =
     let seats_ : first.tried.scheduler.seat ≡ second.tried.scheduler.seat =
     one first.tried.scheduler.seat second.tried.scheduler.seat
-    (ap (λ ds_. slice_get (seats_of ds_) 0) (sym first.at.ds_are) ∙ (ap (λ ns. slice_get ns 0) (sym (round_seats all_pass middle left ds h b between true q.round)) ∙ ap (λ ds_. slice_get (seats_of ds_) 0) second.at.ds_are)) in
+    (ap (λ ds_. slice_get (seats_of ds_) 0) (sym first.at.ds_are)
+    ∙ (ap (λ ns. slice_get ns 0) (sym (round_seats all_pass middle left ds h b between true q.round)) ∙ ap (λ ds_. slice_get (seats_of ds_) 0) second.at.ds_are)) in
     goes_on setup ds between between after h middle past b left c rest key p q r cached only again there open_ due first second (sym seats_)

@@ -1,17 +1,17 @@
 -- What is written in a slot of the scheduler for other pods leaves the claims of a pod as they stand.
 use Rattle.std.proofs.Common.{◌≡◌, ◌≢◌, ◌∙◌, ◌⊎◌, ℕ, ◌+◌, ◌≤◌, List, [], ◌∷◌, ◌++◌, append_assoc, Bool, true, false, true≢false, Some, inl, inr, refl, sym, ap, subst}
 use Rattle.std.proofs.lemmas.List.{append_cancel_right}
-use Rattle.kube_types.specs.declared.key.Key.{Key}
-use Rattle.kube_types.specs.declared.parts.Kind.{Kind}
-use Rattle.kube_types.specs.declared.parts.Kind.TheVariants as kinds
-use Rattle.kube_types.specs.declared.uid.Uid.{Uid}
-use Rattle.kube_types.specs.declared.objects.Claim.{Claim as ClaimData}
-use Rattle.kube_types.specs.declared.objects.Object.{Object}
-use Rattle.kube_types.specs.declared.objects.Object.TheVariants.{Claim, Pod}
-use Rattle.kube_types.specs.declared.objects.Pod.{Pod as PodData}
-use Rattle.kube_types.specs.Bindings.{is_scheduled}
-use Rattle.kube_types.specs.Keys.{key_of, row_at}
-use Rattle.kube_types.proofs.KeyOrder.{row_at-put_row_other, row_at-without_row_other}
+use Rattle.kube_objects.specs.declared.key.Key.{Key}
+use Rattle.kube_parts.specs.declared.parts.Kind.{Kind}
+use Rattle.kube_parts.specs.declared.parts.Kind.TheVariants as kinds
+use Rattle.kube_parts.specs.declared.uid.Uid.{Uid}
+use Rattle.kube_objects.specs.declared.objects.Claim.{Claim as ClaimData}
+use Rattle.kube_objects.specs.declared.objects.Object.{Object}
+use Rattle.kube_objects.specs.declared.objects.Object.TheVariants.{Claim, Pod}
+use Rattle.kube_objects.specs.declared.objects.Pod.{Pod as PodData}
+use Rattle.kube_objects.specs.Bindings.{is_scheduled}
+use Rattle.kube_objects.specs.Keys.{key_of, row_at}
+use Rattle.kube_objects.proofs.KeyOrder.{row_at-put_row_other, row_at-without_row_other}
 use Rattle.call_types.specs.declared.entry.Entry.{Entry}
 use Rattle.call_types.specs.declared.request.Request.TheVariants.{BindPod}
 use Rattle.call_types.specs.declared.request.SeatKind.TheVariants as seats
@@ -56,7 +56,9 @@ module _ (setup : Setup) (e : Entry) (g : List Entry) (k : Key) where
 
       by : ComesTo (world setup g) (effect setup (world setup g) e.kind e.request) → Unwritten
       by (Leaves same) = ap (λ (s : State). row_at k s.rows) same
-      by (Wrote o written version moved) = by_move o (apart o (write_asked setup (world setup g) e.kind e.request o (effect setup (world setup g) e.kind e.request) (effect_form setup (world setup g) e.kind e.request (rows_stand_in_order setup g)) written)) moved
+      by (Wrote o written version moved) = by_move o (apart o
+          (write_asked setup (world setup g) e.kind e.request o (effect setup (world setup g) e.kind e.request)
+          (effect_form setup (world setup g) e.kind e.request (rows_stand_in_order setup g)) written)) moved
 
   -- a claim that gets a node leaves the others
   pub place_keeps : (name : List ℕ) (c : ClaimData) → e.request ≡ placing name c → key_of (Claim c) ≢ k → Unwritten
@@ -85,7 +87,8 @@ module _ (setup : Setup) (e : Entry) (g : List Entry) (k : Key) where
 
 -- they stand as they stood then
 abbrev pub RowsStay : Setup → PodData → List Entry → List Entry → Type 0
-RowsStay setup pod start x = (name : List ℕ) → SomeOf (λ n. n ≡ name) pod.claims → row_at (claim_key pod.meta.namespace name) (world setup x).store.rows ≡ row_at (claim_key pod.meta.namespace name) (world setup start).store.rows
+RowsStay setup pod start x = (name : List ℕ) → SomeOf (λ n. n ≡ name) pod.claims
+    → row_at (claim_key pod.meta.namespace name) (world setup x).store.rows ≡ row_at (claim_key pod.meta.namespace name) (world setup start).store.rows
 
 -- at each point from then on
 abbrev pub StayUpTo : Setup → PodData → List Entry → List Entry → Type 0
@@ -107,7 +110,8 @@ within_step e g start x w = by w.newer w.ahead
     by (f ∷ newer) ahead = inr (record { newer = newer; older = w.older; ahead = ap rest_of_list ahead; behind = w.behind })
 
 pub stay_here : (setup : Setup) (pod : PodData) (start : List Entry) → StayUpTo setup pod start start
-stay_here setup pod start x w name among = ap (λ es. row_at (claim_key pod.meta.namespace name) (world setup es).store.rows) (same w.newer w.older (w.ahead ∙ ap (λ es. w.newer ++ es) w.behind) w.behind)
+stay_here setup pod start x w name among =
+    ap (λ es. row_at (claim_key pod.meta.namespace name) (world setup es).store.rows) (same w.newer w.older (w.ahead ∙ ap (λ es. w.newer ++ es) w.behind) w.behind)
   where
     same : (newer older : List Entry) → start ≡ newer ++ (older ++ start) → x ≡ older ++ start → x ≡ start
     same newer older are behind = behind ∙ ap (λ es. es ++ start) (none older (append_cancel_right [] (newer ++ older) start (are ∙ sym (append_assoc newer older start))))
@@ -119,12 +123,15 @@ stay_here setup pod start x w name among = ap (λ es. row_at (claim_key pod.meta
             by_newer [] f = sym f
             by_newer (n ∷ ns) f = absurd (true≢false (ap is_empty_entries f))
 
-module _ (setup : Setup) (seat : ℕ) (role : Role) (kind : role.kind ≡ seats.Scheduler) (h past : List Entry) (run : IsRunOf setup past) (order : AreAlwaysInOrder setup past) (paid : HavePaid setup h past) (le : work_left setup (world setup h) ≤ work_left setup (world setup past))
+module _ (setup : Setup) (seat : ℕ) (role : Role) (kind : role.kind ≡ seats.Scheduler) (h past : List Entry) (run : IsRunOf setup past)
+    (order : AreAlwaysInOrder setup past) (paid : HavePaid setup h past) (le : work_left setup (world setup h) ≤ work_left setup (world setup past))
     (shares : SharesWell (world setup h)) (key : Key) (pod : PodData) (there : row_at key (world setup h).store.rows ≡ Some (Pod pod)) (waits : is_scheduled pod ≡ false) where
   -- an entry that is for no decision of the pod
-  rows_keep : (start g newer older : List Entry) (e : Entry) → start ≡ older ++ h → past ≡ newer ++ (e ∷ g) → EntrySo setup seat role kind key start e g → RowsStay setup pod start g → RowsStay setup pod start (e ∷ g)
+  rows_keep : (start g newer older : List Entry) (e : Entry) → start ≡ older ++ h → past ≡ newer ++ (e ∷ g)
+      → EntrySo setup seat role kind key start e g → RowsStay setup pod start g → RowsStay setup pod start (e ∷ g)
   rows_keep start g newer older e since are (Reads same) stay name among = ap (λ (s : State). row_at (claim_key pod.meta.namespace name) s.rows) same ∙ stay name among
-  rows_keep start g newer older e since are (Calls c other) stay name among = by (calls_are setup seat role kind h past run order paid le start g newer older c.under since c.decided made) ∙ stay name among
+  rows_keep start g newer older e since are (Calls c other) stay name among =
+      by (calls_are setup seat role kind h past run order paid le start g newer older c.under since c.decided made) ∙ stay name among
     where
       made : past ≡ newer ++ (own_entry setup seat role.kind g c.under.call ∷ g)
       made = are ∙ ap (λ x. newer ++ (x ∷ g)) (sym c.is)
@@ -135,13 +142,16 @@ module _ (setup : Setup) (seat : ℕ) (role : Role) (kind : role.kind ≡ seats.
       asked : e.request ≡ c.under.call
       asked = ap (λ (x : Entry). x.request) (sym c.is)
 
-      by : IsBinding c.under.call ⊎ IsPlacing setup c.decided.point c.decided.state c.decided.first.key c.under.call → row_at (claim_key pod.meta.namespace name) (world setup (e ∷ g)).store.rows ≡ row_at (claim_key pod.meta.namespace name) (world setup g).store.rows
+      by : IsBinding c.under.call ⊎ IsPlacing setup c.decided.point c.decided.state c.decided.first.key c.under.call
+          → row_at (claim_key pod.meta.namespace name) (world setup (e ∷ g)).store.rows ≡ row_at (claim_key pod.meta.namespace name) (world setup g).store.rows
       by (inl b) = bind_keeps setup e g (claim_key pod.meta.namespace name) b.key b.uid b.name (asked ∙ b.is) refl
       by (inr x) =
           place_keeps setup e g (claim_key pod.meta.namespace name) x.searched.name x.claim (asked ∙ x.is)
-          (λ keyed. other (own_claim setup h c.decided.point (run_within setup h past run order paid le c.decided.point within) shares (near_behind setup h past run order paid le c.decided.point within) key pod there waits c.decided.state c.decided.first.key c.under.call x name among keyed))
+          (λ keyed. other (own_claim setup h c.decided.point (run_within setup h past run order paid le c.decided.point within) shares
+          (near_behind setup h past run order paid le c.decided.point within) key pod there waits c.decided.state c.decided.first.key c.under.call x name among keyed))
 
-  pub keep : (start before : List Entry) → start ≡ before ++ h → (e : Entry) (g newer older : List Entry) → past ≡ newer ++ (e ∷ g) → g ≡ older ++ start → EntrySo setup seat role kind key start e g → StayUpTo setup pod start g → StayUpTo setup pod start (e ∷ g)
+  pub keep : (start before : List Entry) → start ≡ before ++ h → (e : Entry) (g newer older : List Entry) → past ≡ newer ++ (e ∷ g)
+      → g ≡ older ++ start → EntrySo setup seat role kind key start e g → StayUpTo setup pod start g → StayUpTo setup pod start (e ∷ g)
   keep start before since e g newer older are behind so stay x w = by (within_step e g start x w)
     where
       here : IsWithin start g g

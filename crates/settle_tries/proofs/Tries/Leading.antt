@@ -13,7 +13,8 @@ use Rattle.settle_slot.specs.Slot.Slots.{own_entry}
 use Rattle.settle_slot.specs.Slot.Would.{Here, Leads, On}
 
 -- what leads on keeps what each answer keeps
-pub leads_keep : (setup : Setup) (seat : ℕ) (kind : SeatKind) (P : Under → Type 0) → ((u next : Under) (reply : Reply) → under_after u reply ≡ Some next → P u → P next) → {h g : List Entry} {u v : Under} → Leads setup seat kind h u g v → P u → P v
+pub leads_keep : (setup : Setup) (seat : ℕ) (kind : SeatKind) (P : Under → Type 0)
+    → ((u next : Under) (reply : Reply) → under_after u reply ≡ Some next → P u → P next) → {h g : List Entry} {u v : Under} → Leads setup seat kind h u g v → P u → P v
 leads_keep setup seat kind P step Here p = p
 leads_keep setup seat kind P step (On next follows more) p = leads_keep setup seat kind P step more (step _ next _ follows p)
 

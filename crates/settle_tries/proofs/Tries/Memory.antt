@@ -1,11 +1,11 @@
 -- What a scheduler remembers of nodes, object by object: what stands selected, and which node was refused last for a pod.
 use Rattle.std.proofs.Common.{ℕ, ◌≡◌, ◌∙◌, ◌⊎◌, Bool, true, false, true≢false, not, List, [], ◌∷◌, Option, Some, None, inl, inr, refl, sym, ap, subst, if◌then◌else◌}
 use Rattle.std.proofs.lemmas.Bool.Decides.{Decides-eqb}
-use Rattle.kube_types.specs.declared.uid.Uid.{Uid}
-use Rattle.kube_types.specs.declared.objects.Claim.{Claim as ClaimData}
-use Rattle.kube_types.specs.declared.objects.Object.{Object}
-use Rattle.kube_types.specs.declared.objects.Object.TheVariants.{Class, Node, Volume, Claim, Pod}
-use Rattle.kube_types.specs.declared.objects.Pod.{Pod as PodData}
+use Rattle.kube_parts.specs.declared.uid.Uid.{Uid}
+use Rattle.kube_objects.specs.declared.objects.Claim.{Claim as ClaimData}
+use Rattle.kube_objects.specs.declared.objects.Object.{Object}
+use Rattle.kube_objects.specs.declared.objects.Object.TheVariants.{Class, Node, Volume, Claim, Pod}
+use Rattle.kube_objects.specs.declared.objects.Pod.{Pod as PodData}
 use Rattle.call_types.specs.declared.request.Request.{Request}
 use Rattle.call_types.specs.declared.request.Request.TheVariants.{Update}
 use Rattle.call_types.specs.declared.reply.Reply.{Reply}
@@ -100,7 +100,8 @@ see_spares c m uid t known e = by (is_refusal t c) refl
     by false is = is
 
 -- it stays selected where it is not refused
-see_stays : (o : Object) (m : Tries) (uid : Uid) (t : Tried) → tried_of uid m.selected ≡ Some t → ((c : ClaimData) → o ≡ Claim c → c.meta.uid ≡ Some uid → is_refusal t c ≡ false) → tried_of uid (see o m).selected ≡ Some t
+see_stays : (o : Object) (m : Tries) (uid : Uid) (t : Tried) → tried_of uid m.selected ≡ Some t
+    → ((c : ClaimData) → o ≡ Claim c → c.meta.uid ≡ Some uid → is_refusal t c ≡ false) → tried_of uid (see o m).selected ≡ Some t
 see_stays (Claim c) m uid t at spares = by c.meta.uid refl
   where
     refused : (u : Uid) → same_uid u uid ≡ false → (x : Option Tried) → ((y : Tried) → x ≡ Some y → y.claim ≡ u) → tried_of uid (refuse_if x m).selected ≡ Some t
@@ -118,7 +119,8 @@ see_stays (Claim c) m uid t at spares = by c.meta.uid refl
     test : (u : Uid) → c.meta.uid ≡ Some u → (b : Bool) → same_uid u uid ≡ b → tried_of uid (see_claim (Some u) c m).selected ≡ Some t
     test u known true same =
         let is = uid_is u uid same in
-        let none : refused_in c (tried_of u m.selected) ≡ None = ap (λ v. refused_in c (tried_of v m.selected)) is ∙ (ap (refused_in c) at ∙ ap (λ b. if b then Some t else None) (spares c refl (known ∙ ap Some is))) in
+        let none : refused_in c (tried_of u m.selected) ≡ None = ap (λ v. refused_in c (tried_of v m.selected)) is
+        ∙ (ap (refused_in c) at ∙ ap (λ b. if b then Some t else None) (spares c refl (known ∙ ap Some is))) in
         ap (λ x. tried_of uid (refuse_if x m).selected) none ∙ at
     test u known false other = refused u other (refused_in c (tried_of u m.selected)) (claims_of_it u (tried_of u m.selected) refl)
 
@@ -130,7 +132,8 @@ see_stays (Node x) m uid t at spares = at
 see_stays (Volume x) m uid t at spares = at
 see_stays (Pod x) m uid t at spares = at
 
-pub all_stay : (os : List Object) (m : Tries) (uid : Uid) (t : Tried) → tried_of uid m.selected ≡ Some t → ((c : ClaimData) → IsIn (Claim c) os → c.meta.uid ≡ Some uid → is_refusal t c ≡ false) → tried_of uid (see_all os m).selected ≡ Some t
+pub all_stay : (os : List Object) (m : Tries) (uid : Uid) (t : Tried) → tried_of uid m.selected ≡ Some t
+    → ((c : ClaimData) → IsIn (Claim c) os → c.meta.uid ≡ Some uid → is_refusal t c ≡ false) → tried_of uid (see_all os m).selected ≡ Some t
 all_stay [] m uid t at spares = at
 all_stay (o ∷ os) m uid t at spares = all_stay os (see o m) uid t (see_stays o m uid t at (λ c is. spares c (inl is))) (λ c there. spares c (inr there))
 
@@ -138,26 +141,34 @@ pub all_keeps : (os : List Object) (m : Tries) (uid : Uid) (t : Tried) → tried
 all_keeps [] m uid t e = e
 all_keeps (o ∷ os) m uid t e = see_keeps o m uid t (all_keeps os (see o m) uid t e)
 
-pub all_spare : (os : List Object) (m : Tries) (uid : Uid) (t : Tried) (c : ClaimData) → tried_of uid (see_all os m).selected ≡ Some t → IsIn (Claim c) os → c.meta.uid ≡ Some uid → is_refusal t c ≡ false
+pub all_spare : (os : List Object) (m : Tries) (uid : Uid) (t : Tried) (c : ClaimData) → tried_of uid (see_all os m).selected ≡ Some t
+    → IsIn (Claim c) os → c.meta.uid ≡ Some uid → is_refusal t c ≡ false
 all_spare [] m uid t c e there known = absurd there
 all_spare (o ∷ os) m uid t c e (inl is) known = see_spares c m uid t known (subst (λ x. tried_of uid (see x m).selected ≡ Some t) is (all_keeps os (see o m) uid t e))
 all_spare (o ∷ os) m uid t c e (inr more) known = all_spare os (see o m) uid t c e more known
 
 -- ---- a write selects
 
-pub select_finds : (request : Request) (reply : Reply) (m : Tries) (uid : Uid) (t : Tried) → tried_of uid (select_if request reply m).selected ≡ Some t → (tried_of uid m.selected ≡ Some t) ⊎ (Selecting t request reply × (t.claim ≡ uid))
+pub select_finds : (request : Request) (reply : Reply) (m : Tries) (uid : Uid) (t : Tried)
+    → tried_of uid (select_if request reply m).selected ≡ Some t → (tried_of uid m.selected ≡ Some t) ⊎ (Selecting t request reply × (t.claim ≡ uid))
 select_finds (Update (Claim asked) given) (Done (Claim c)) m uid t e = by c.meta.uid (node_selected_for c) refl refl e
   where
-    by : (u : Option Uid) (n : Option (List ℕ)) → c.meta.uid ≡ u → node_selected_for c ≡ n → tried_of uid (select u n c m).selected ≡ Some t → (tried_of uid m.selected ≡ Some t) ⊎ (Selecting t (Update (Claim asked) given) (Done (Claim c)) × (t.claim ≡ uid))
+    by : (u : Option Uid) (n : Option (List ℕ)) → c.meta.uid ≡ u → node_selected_for c ≡ n → tried_of uid (select u n c m).selected ≡ Some t
+        → (tried_of uid m.selected ≡ Some t) ⊎ (Selecting t (Update (Claim asked) given) (Done (Claim c)) × (t.claim ≡ uid))
     by (Some u) (Some node) known on e = test (same_uid u uid) refl e
       where
         new : Tried
         new = record { claim = u; node = node; version = c.meta.version }
 
-        test : (b : Bool) → same_uid u uid ≡ b → (if b then Some new else tried_of uid (without_tried u m.selected)) ≡ Some t → (tried_of uid m.selected ≡ Some t) ⊎ (Selecting t (Update (Claim asked) given) (Done (Claim c)) × (t.claim ≡ uid))
+        test : (b : Bool) → same_uid u uid ≡ b → (if b then Some new else tried_of uid (without_tried u m.selected)) ≡ Some t
+            → (tried_of uid m.selected ≡ Some t) ⊎ (Selecting t (Update (Claim asked) given) (Done (Claim c)) × (t.claim ≡ uid))
         test true is e =
             let same = one new t e in
-            inr (subst (λ (y : Tried). Selecting y (Update (Claim asked) given) (Done (Claim c))) same (record { claim = known; node = on; version = refl }), sym (ap (λ (y : Tried). y.claim) same) ∙ uid_is u uid is)
+            inr (
+              subst (λ (y : Tried). Selecting y (Update (Claim asked) given) (Done (Claim c))) same
+                  (record { claim = known; node = on; version = refl }),
+              sym (ap (λ (y : Tried). y.claim) same) ∙ uid_is u uid is,
+            )
         test false other e = inl (tried_without u uid m.selected t e)
     by (Some u) None known on e = inl e
     by None n known on e = inl e
@@ -199,8 +210,10 @@ module _ (rows : List Object) (p : PodData) where
   last_without u [] other = refl
   last_without u (x ∷ ts) other = by (is_try_of u x) refl (last_without u ts other)
     where
-      by : (b : Bool) → is_try_of u x ≡ b → last_refused rows p (without_tried u ts) ≡ last_refused rows p ts → last_refused rows p (if not b then x ∷ without_tried u ts else without_tried u ts) ≡ last_refused rows p (x ∷ ts)
-      by true is more = let n : is_tried_for rows p x.claim ≡ false = ap (is_tried_for rows p) (uid_is x.claim u is) ∙ other in more ∙ sym (ap (λ b. if b then Some x.node else last_refused rows p ts) n)
+      by : (b : Bool) → is_try_of u x ≡ b → last_refused rows p (without_tried u ts) ≡ last_refused rows p ts
+          → last_refused rows p (if not b then x ∷ without_tried u ts else without_tried u ts) ≡ last_refused rows p (x ∷ ts)
+      by true is more = let n : is_tried_for rows p x.claim ≡ false = ap (is_tried_for rows p) (uid_is x.claim u is) ∙ other in more
+          ∙ sym (ap (λ b. if b then Some x.node else last_refused rows p ts) n)
       by false is more = kept (is_tried_for rows p x.claim)
         where
           kept : (b : Bool) → (if b then Some x.node else last_refused rows p (without_tried u ts)) ≡ (if b then Some x.node else last_refused rows p ts)
@@ -217,7 +230,8 @@ module _ (rows : List Object) (p : PodData) where
     abbrev pub Spares : Object → Tries → Type 0
     Spares o m = (c : ClaimData) → o ≡ Claim c → (uid : Uid) → c.meta.uid ≡ Some uid → aside uid → (t : Tried) → tried_of uid m.selected ≡ Some t → is_refusal t c ≡ false
 
-    refused_holds : (c : ClaimData) (m : Tries) (u : Uid) (t : Tried) → c.meta.uid ≡ Some u → Holds m → Spares (Claim c) m → tried_of u m.selected ≡ Some t → is_refusal t c ≡ true → Holds (refuse_if (Some t) m)
+    refused_holds : (c : ClaimData) (m : Tries) (u : Uid) (t : Tried) → c.meta.uid ≡ Some u → Holds m → Spares (Claim c) m
+        → tried_of u m.selected ≡ Some t → is_refusal t c ≡ true → Holds (refuse_if (Some t) m)
     refused_holds c m u t known h spares at refusal = record { marks = λ uid x ours e. h.marks uid x ours (tried_without t.claim uid m.selected x e); waits = by (is_tried_for rows p t.claim) refl }
       where
         is : t.claim ≡ u
@@ -265,7 +279,8 @@ module _ (rows : List Object) (p : PodData) where
         all_hold os (see o m) (see_holds o m h (spares o (inl refl)))
         (λ x i c is uid known set t at. spares x (inr i) c is uid known set t (see_keeps o m uid t at))
 
-    pub tells_hold : (request : Request) (reply : Reply) (os : List Object) (m : Tries) → Holds m → ((o : Object) → IsIn o os → Spares o m) → ((t : Tried) → Selecting t request reply → is_tried_for rows p t.claim ≡ true → ⊥) → Holds (select_if request reply (see_all os m))
+    pub tells_hold : (request : Request) (reply : Reply) (os : List Object) (m : Tries) → Holds m → ((o : Object) → IsIn o os → Spares o m)
+        → ((t : Tried) → Selecting t request reply → is_tried_for rows p t.claim ≡ true → ⊥) → Holds (select_if request reply (see_all os m))
     tells_hold request reply os m h spares none =
         let seen = all_hold os m h spares in
         record {

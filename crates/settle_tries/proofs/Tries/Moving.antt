@@ -9,14 +9,14 @@ use Rattle.std.proofs.lemmas.Cmp.{nat_list_cmp_total}
 use Rattle.plain_data.specs.Pairs.{Pair, pair_key, put_pair, value_at, without_key}
 use Rattle.plain_data.proofs.RowFacts.{find_gap}
 use Rattle.plain_data.proofs.RowLookups.{find-without}
-use Rattle.kube_types.specs.declared.key.Key.{Key}
-use Rattle.kube_types.specs.declared.objects.Claim.{Claim as ClaimData}
-use Rattle.kube_types.specs.declared.objects.Object.{Object}
-use Rattle.kube_types.specs.declared.objects.Object.TheVariants.{Class, Node, Volume, Claim, Pod}
-use Rattle.kube_types.specs.Bindings.{has_key, selected_node}
-use Rattle.kube_types.specs.Keys.{AreRows, key_cmp, key_of, meta_of, put_row, row_at}
-use Rattle.kube_types.proofs.KeyOrder.{key_cmp_total, row_at-put_row, row_at-put_row_other}
-use Rattle.kube_types.proofs.SameKeys.{key_tells}
+use Rattle.kube_objects.specs.declared.key.Key.{Key}
+use Rattle.kube_objects.specs.declared.objects.Claim.{Claim as ClaimData}
+use Rattle.kube_objects.specs.declared.objects.Object.{Object}
+use Rattle.kube_objects.specs.declared.objects.Object.TheVariants.{Class, Node, Volume, Claim, Pod}
+use Rattle.kube_objects.specs.Bindings.{has_key, selected_node}
+use Rattle.kube_objects.specs.Keys.{AreRows, key_cmp, key_of, meta_of, put_row, row_at}
+use Rattle.kube_objects.proofs.KeyOrder.{key_cmp_total, row_at-put_row, row_at-put_row_other}
+use Rattle.kube_objects.proofs.SameKeys.{key_tells}
 use Rattle.call_types.specs.declared.entry.Entry.{Entry}
 use Rattle.call_types.specs.declared.request.Request.{Request}
 use Rattle.call_types.specs.declared.request.Request.TheVariants as requests
@@ -100,7 +100,8 @@ one_node_so c d same = ap node_of_content same
 pub then_moves : (has : Bool) (a b c : World) → MovesNodes has a b → MovesNodes has b c → MovesNodes has a c
 then_moves has a b c ab bc = record { near = then_near a b c ab.near bc.near; claims = claims }
   where
-    on : (key : Key) (x : ClaimData) → (s : StoodSo b key x) → StoodSo a key s.claim ⊎ (has_key selected_node s.claim.meta.annotations ≡ has) → StoodSo a key x ⊎ (has_key selected_node x.meta.annotations ≡ has)
+    on : (key : Key) (x : ClaimData) → (s : StoodSo b key x) → StoodSo a key s.claim ⊎ (has_key selected_node s.claim.meta.annotations ≡ has)
+        → StoodSo a key x ⊎ (has_key selected_node x.meta.annotations ≡ has)
     on key x s (inl t) = inl (record { claim = t.claim; there = t.there; same = t.same ∙ s.same })
     on key x s (inr node) = inr (sym (ap is_some (one_node_so s.claim x s.same)) ∙ node)
 
@@ -120,7 +121,8 @@ pub record Rewrites (w : World) (new : ClaimData) (o : Object) (Row : ClaimData 
   pub is : o ≡ updated_object (Claim on) (Claim new) (w.store.version + 1)
 
 module _ (setup : Setup) (seat : ℕ) (h : List Entry) (history : IsHistory setup h) where
-  pub rewrites : (kind : SeatKind) (new : ClaimData) (given : Option ℕ) (o : Object) (Row : ClaimData → Type 0) → ToldClaim (λ c. IsWrittenAt given new.meta.namespace new.meta.name c.meta × Row c) (own seat h)
+  pub rewrites : (kind : SeatKind) (new : ClaimData) (given : Option ℕ) (o : Object) (Row : ClaimData → Type 0)
+      → ToldClaim (λ c. IsWrittenAt given new.meta.namespace new.meta.name c.meta × Row c) (own seat h)
       → IsUpdate (world setup h).store kind (Claim new) given o → Rewrites (world setup h) new o Row
   unfolding updated_object with_meta with_status_of
   rewrites kind new given o Row told u = by t.0 t.1 t.2
@@ -131,7 +133,8 @@ module _ (setup : Setup) (seat : ℕ) (h : List Entry) (history : IsHistory setu
       by : (x : Object) → ToldObject (λ y. y ≡ x) (own seat h) → IsClaimWith (λ c. IsWrittenAt given new.meta.namespace new.meta.name c.meta × Row c) x → Rewrites (world setup h) new o Row
       by (Claim c) it is =
           let keyed : key_of (Claim c) ≡ key_of (Claim new) = λ i. claim_key (is.0.placed i) (is.0.named i) in
-          let same : u.old ≡ Claim c = stands_it setup h (Claim c) u.old (key_of (Claim new)) (told_is_true setup h seat (Claim c) history it) keyed u.there (subst (λ g. is_other_version g (meta_of u.old).version ≡ false) is.0.version u.version) in
+          let same : u.old ≡ Claim c = stands_it setup h (Claim c) u.old (key_of (Claim new)) (told_is_true setup h seat (Claim c) history it) keyed
+          u.there (subst (λ g. is_other_version g (meta_of u.old).version ≡ false) is.0.version u.version) in
           let is_o : o ≡ updated_object (Claim c) (Claim new) ((world setup h).store.version + 1) = u.is ∙ ap (λ y. updated_object y (Claim new) ((world setup h).store.version + 1)) same in
           record { on = c; row = is.1; there = ap (λ y. row_at (key_of y) (world setup h).store.rows) is_o ∙ (u.there ∙ ap Some same); is = is_o }
       by (Class x) it is = absurd is
@@ -176,7 +179,12 @@ module _ (has : Bool) (w : World) (order : AreRows w.store.rows) (o : Object) (x
 
   put_moves : (new : World) → new.store.rows ≡ put_row o w.store.rows → new.devices ≡ w.devices → MovesNodes has w new
   put_moves new rows devices = record {
-    near = record { rows = sym (put_rest o (Claim x.on) w.store.rows order x.there rest_same) ∙ ap rests_of (sym rows); stored = ap (λ (d : Devices). d.stored) (sym devices); mounts = ap (λ (d : Devices). d.mounts) (sym devices) };
+    near = record {
+      rows = sym (put_rest o (Claim x.on) w.store.rows order x.there rest_same) ∙ ap rests_of (sym rows);
+      stored =
+          ap (λ (d : Devices). d.stored) (sym devices);
+      mounts = ap (λ (d : Devices). d.mounts) (sym devices);
+    };
     claims = λ key c there. elim (key_tells (key_of o) key) [
       | inl same ↦ inr (node_is c (one o (Claim c) (sym (row_at-put_row o w.store.rows) ∙ (ap (λ k. row_at k (put_row o w.store.rows)) same ∙ (ap (row_at key) (sym rows) ∙ there)))))
       | inr other ↦ inl (record { claim = c; there = sym (row_at-put_row_other key o w.store.rows other) ∙ (ap (row_at key) (sym rows) ∙ there); same = refl })
@@ -189,7 +197,8 @@ module _ (has : Bool) (w : World) (order : AreRows w.store.rows) (o : Object) (x
   stays_there request stays leaving = true≢false (sym (subst (IsLeaving request) x.is leaving) ∙ stays)
 
 -- a call that writes the node of a claim, if anything
-module _ (has : Bool) (setup : Setup) (h : List Entry) (kind : SeatKind) (request : Request) (none : device_answer setup (world setup h).devices request ≡ None) (writes : (o : Object) → Writes (world setup h) kind request o → WritesNode has (world setup h) o) where
+module _ (has : Bool) (setup : Setup) (h : List Entry) (kind : SeatKind) (request : Request)
+    (none : device_answer setup (world setup h).devices request ≡ None) (writes : (o : Object) → Writes (world setup h) kind request o → WritesNode has (world setup h) o) where
   effect_moves : (y : Effect) → EffectOf setup (world setup h) kind request y → MovesNodes has (world setup h) (world_after (world setup h) y)
   unfolding world_after after log_after
   effect_moves (OnStore (Says reply)) form = record { near = record { rows = refl; stored = refl; mounts = refl }; claims = λ key c there. inl (record { claim = c; there = there; same = refl }) }
@@ -233,7 +242,8 @@ then_by seats.VolumeProtect a b c ab bc = then_alike a b c ab bc
 then_by seats.Agent a b c ab bc = then_alike a b c ab bc
 
 module _ (setup : Setup) (seat : ℕ) (h : List Entry) (history : IsHistory setup h) (in_order : AnnotationsAreInOrder (world setup h)) where
-  pub selects : (new : ClaimData) (given : Option ℕ) (o : Object) → RowAllows seats.Scheduler (own seat h) (requests.Update (Claim new) given) → Writes (world setup h) seats.Scheduler (requests.Update (Claim new) given) o → WritesNode true (world setup h) o
+  pub selects : (new : ClaimData) (given : Option ℕ) (o : Object) → RowAllows seats.Scheduler (own seat h) (requests.Update (Claim new) given)
+      → Writes (world setup h) seats.Scheduler (requests.Update (Claim new) given) o → WritesNode true (world setup h) o
   selects new given o may u =
       let r = rewrites setup seat h history seats.Scheduler new given o (λ c. MaySelectNode (own seat h) c new) may u in
       record {
@@ -245,7 +255,8 @@ module _ (setup : Setup) (seat : ℕ) (h : List Entry) (history : IsHistory setu
         node = ap is_some (value_put selected_node r.row.node.meta.name r.on.meta.annotations);
       }
 
-  pub clears : (new : ClaimData) (given : Option ℕ) (o : Object) → RowAllows seats.Ops (own seat h) (requests.Update (Claim new) given) → Writes (world setup h) seats.Ops (requests.Update (Claim new) given) o → WritesNode false (world setup h) o
+  pub clears : (new : ClaimData) (given : Option ℕ) (o : Object) → RowAllows seats.Ops (own seat h) (requests.Update (Claim new) given)
+      → Writes (world setup h) seats.Ops (requests.Update (Claim new) given) o → WritesNode false (world setup h) o
   clears new given o may u =
       let r = rewrites setup seat h history seats.Ops new given o (λ c. MayClearNode (own seat h) c new) may u in
       record {
@@ -258,7 +269,8 @@ module _ (setup : Setup) (seat : ℕ) (h : List Entry) (history : IsHistory setu
       }
 
   -- a call is worth something, or moves nodes where it lasts
-  worth_or_moves : (kind : SeatKind) (r : Request) → Licensed kind (own seat h) r → (worth kind r ≡ 1) ⊎ MovesBy kind (world setup h) (world_after (world setup h) (effect setup (world setup h) kind r))
+  worth_or_moves : (kind : SeatKind) (r : Request) → Licensed kind (own seat h) r → (worth kind r ≡ 1)
+      ⊎ MovesBy kind (world setup h) (world_after (world setup h) (effect setup (world setup h) kind r))
   unfolding device_answer
   worth_or_moves seats.Scheduler (requests.Update (Claim new) given) may = inr (call_moves true setup h seats.Scheduler (requests.Update (Claim new) given) refl (λ o w. selects new given o may.1 w))
   worth_or_moves seats.Ops (requests.Update (Claim new) given) may = inr (call_moves false setup h seats.Ops (requests.Update (Claim new) given) refl (λ o w. clears new given o may.1 w))
@@ -275,7 +287,8 @@ pub in_order_before : (setup : Setup) (newer h : List Entry) → AreAlwaysInOrde
 in_order_before setup newer h order more older same = order (newer ++ more) older (ap (λ es. newer ++ es) same ∙ sym (append_assoc newer more older))
 
 -- an entry that is worth something and lasts leaves less to do
-pub worth_falls : (setup : Setup) (e : Entry) (h : List Entry) → IsHistory setup (e ∷ h) → HavePaid setup h (e ∷ h) → Lasts setup (world setup h) e.kind e.request → worth e.kind e.request ≡ 1 → work_left setup (world setup (e ∷ h)) + 1 ≤ work_left setup (world setup h)
+pub worth_falls : (setup : Setup) (e : Entry) (h : List Entry) → IsHistory setup (e ∷ h) → HavePaid setup h (e ∷ h)
+    → Lasts setup (world setup h) e.kind e.request → worth e.kind e.request ≡ 1 → work_left setup (world setup (e ∷ h)) + 1 ≤ work_left setup (world setup h)
 worth_falls setup e h history paid lasts one_ =
     (paid_is_less setup h (e ∷ h) history paid).falls
     (record { lasting = record { entry = e; newer = []; older = []; are = refl; lasts = subst (λ r. LastsBetween (world setup h) (world setup (e ∷ h)) r) (sym history.1) lasts }; worth_is = one_ })
@@ -305,7 +318,8 @@ module _ (setup : Setup) (h : List Entry) where
     near : AreNear (world setup h) (world setup (newer ++ h))
     kinds : (kind : SeatKind) → AreOfKind kind newer → MovesBy kind (world setup h) (world setup (newer ++ h))
 
-  all_move : (newer : List Entry) → IsRunOf setup (newer ++ h) → AreAlwaysInOrder setup (newer ++ h) → AllPay setup newer h → work_left setup (world setup h) ≤ work_left setup (world setup (newer ++ h)) → Moved newer
+  all_move : (newer : List Entry) → IsRunOf setup (newer ++ h) → AreAlwaysInOrder setup (newer ++ h) → AllPay setup newer h
+      → work_left setup (world setup h) ≤ work_left setup (world setup (newer ++ h)) → Moved newer
   all_move [] run order each le = record { near = no_nearer (world setup h); kinds = λ kind are. alike_by kind (world setup h) (world setup h) (record { rows = refl; stored = refl; mounts = refl }) }
   all_move (e ∷ newer) run order each le =
       let before = older_run setup (e ∷ []) (newer ++ h) run in
@@ -317,21 +331,25 @@ module _ (setup : Setup) (h : List Entry) where
       let here = entries_move_nodes setup e (newer ++ h) run (in_order_before setup (e ∷ []) (newer ++ h) order) one_paid (omega (arith, fell, le)) in
       record {
         near = then_near (world setup h) (world setup (newer ++ h)) (world setup (e ∷ newer ++ h)) rest.near (near_by e.kind (world setup (newer ++ h)) (world setup (e ∷ newer ++ h)) here);
-        kinds = λ kind are. then_by kind (world setup h) (world setup (newer ++ h)) (world setup (e ∷ newer ++ h)) (rest.kinds kind are.1) (subst (λ k. MovesBy k (world setup (newer ++ h)) (world setup (e ∷ newer ++ h))) are.0 here);
+        kinds = λ kind are. then_by kind (world setup h) (world setup (newer ++ h)) (world setup (e ∷ newer ++ h)) (rest.kinds kind are.1)
+            (subst (λ k. MovesBy k (world setup (newer ++ h)) (world setup (e ∷ newer ++ h))) are.0 here);
       }
 
 pub paid_leave_near : PaidLeaveNear
 paid_leave_near setup h past run order paid le =
     subst (λ es. AreNear (world setup h) (world setup es)) (sym paid.are)
-    (all_move setup h paid.newer (subst (IsRunOf setup) paid.are run) (subst (AreAlwaysInOrder setup) paid.are order) paid.each (subst (λ es. work_left setup (world setup h) ≤ work_left setup (world setup es)) paid.are le)).near
+    (all_move setup h paid.newer (subst (IsRunOf setup) paid.are run) (subst (AreAlwaysInOrder setup) paid.are order) paid.each
+    (subst (λ es. work_left setup (world setup h) ≤ work_left setup (world setup es)) paid.are le)).near
 
 -- those of one kind move nodes in its way
-pub kind_moves : (setup : Setup) (kind : SeatKind) (h past newer : List Entry) → past ≡ newer ++ h → AreOfKind kind newer → IsRunOf setup past → AreAlwaysInOrder setup past → HavePaid setup h past → work_left setup (world setup h) ≤ work_left setup (world setup past)
+pub kind_moves : (setup : Setup) (kind : SeatKind) (h past newer : List Entry) → past ≡ newer ++ h → AreOfKind kind newer → IsRunOf setup past
+    → AreAlwaysInOrder setup past → HavePaid setup h past → work_left setup (world setup h) ≤ work_left setup (world setup past)
     → MovesBy kind (world setup h) (world setup past)
 kind_moves setup kind h past newer are kinds run order paid le =
     let same : paid.newer ≡ newer = append_cancel_right paid.newer newer h (sym paid.are ∙ are) in
     subst (λ es. MovesBy kind (world setup h) (world setup es)) (sym paid.are)
-    ((all_move setup h paid.newer (subst (IsRunOf setup) paid.are run) (subst (AreAlwaysInOrder setup) paid.are order) paid.each (subst (λ es. work_left setup (world setup h) ≤ work_left setup (world setup es)) paid.are le)).kinds kind (subst (AreOfKind kind) (sym same) kinds))
+    ((all_move setup h paid.newer (subst (IsRunOf setup) paid.are run) (subst (AreAlwaysInOrder setup) paid.are order) paid.each
+    (subst (λ es. work_left setup (world setup h) ≤ work_left setup (world setup es)) paid.are le)).kinds kind (subst (AreOfKind kind) (sym same) kinds))
 
 -- ---- a part of entries that pay
 

@@ -4,12 +4,12 @@ use Rattle.std.specs.Prelude.{◌&&◌, ◌||◌, cond, filter}
 use Rattle.std.specs.List.{cons_option, list_all, list_any}
 use Rattle.std.specs.Ordering.{is_gt}
 use Rattle.std.proofs.lemmas.Bool.{and_parts, or_parts}
-use Rattle.kube_types.specs.declared.objects.Claim.{Claim as ClaimData}
-use Rattle.kube_types.specs.declared.objects.Object.{Object}
-use Rattle.kube_types.specs.declared.objects.Object.TheVariants.{Claim}
-use Rattle.kube_types.specs.declared.objects.Pod.{Pod as PodData}
-use Rattle.kube_types.specs.Bindings.{has_key, is_completed, selected_node}
-use Rattle.kube_types.specs.Keys.{row_at}
+use Rattle.kube_objects.specs.declared.objects.Claim.{Claim as ClaimData}
+use Rattle.kube_objects.specs.declared.objects.Object.{Object}
+use Rattle.kube_objects.specs.declared.objects.Object.TheVariants.{Claim}
+use Rattle.kube_objects.specs.declared.objects.Pod.{Pod as PodData}
+use Rattle.kube_objects.specs.Bindings.{has_key, is_completed, selected_node}
+use Rattle.kube_objects.specs.Keys.{row_at}
 use Rattle.binder_model.specs.Choice.{by_size, claim_cmp, claim_named, claims_of, has_carrier, insert_claim, is_other, is_under_way, others_of}
 use Rattle.binder_model.specs.ObjectKeys.{claim_key}
 use Rattle.binder_model.specs.Told.{SomeOf}
@@ -96,7 +96,8 @@ module _ (rows : List Object) (p : PodData) where
   those_named [] all = tt
   those_named (name ∷ names) all = by (claim_named rows p.meta.namespace name) refl (those_named names (λ n i. all n (inr i)))
     where
-      by : (o : Option ClaimData) → claim_named rows p.meta.namespace name ≡ o → Each (IsNamed rows p) (filter_map (claim_named rows p.meta.namespace) names) → Each (IsNamed rows p) (cons_option o (filter_map (claim_named rows p.meta.namespace) names))
+      by : (o : Option ClaimData) → claim_named rows p.meta.namespace name ≡ o
+          → Each (IsNamed rows p) (filter_map (claim_named rows p.meta.namespace) names) → Each (IsNamed rows p) (cons_option o (filter_map (claim_named rows p.meta.namespace) names))
       by None at rest = rest
       by (Some c) at rest = (record { name = name; among = all name (inl refl); there = claim_of_row (row_at (claim_key p.meta.namespace name) rows) c at }, rest)
 
@@ -125,7 +126,8 @@ module _ (rows : List Object) (p : PodData) where
 
   -- what holds of each that still needs a volume
   pub other_of : (P : ClaimData → Type 0) → Each P (others_of rows p) → (c : ClaimData) → IsNamed rows p c → is_other rows c ≡ true → P c
-  other_of P each c n other = each_in P c (filter (is_other rows) (claims_of rows p)) (each_unsized P (filter (is_other rows) (claims_of rows p)) each) (in_passing (is_other rows) c (claims_of rows p) (named_in c n) other)
+  other_of P each c n other = each_in P c (filter (is_other rows) (claims_of rows p)) (each_unsized P (filter (is_other rows) (claims_of rows p))
+      each) (in_passing (is_other rows) c (claims_of rows p) (named_in c n) other)
 
   -- ---- claims that are not under way
 
@@ -138,8 +140,16 @@ module _ (rows : List Object) (p : PodData) where
       by None at f more = more f
       by (Some c) at f more = test (is_completed c) (has_carrier rows c) (has_key selected_node c.meta.annotations) refl refl refl f
         where
-          test : (done carried has : Bool) → is_completed c ≡ done → has_carrier rows c ≡ carried → has_key selected_node c.meta.annotations ≡ has → ((done || carried || has) && list_all (is_under_way rows) (filter_map (claim_named rows p.meta.namespace) names)) ≡ false → HasOpen rows p
-          test false false false d k n g = record { claim = c; named = record { name = name; among = all name (inl refl); there = claim_of_row (row_at (claim_key p.meta.namespace name) rows) c at }; undone = d; uncarried = k; none = n }
+          test : (done carried has : Bool) → is_completed c ≡ done → has_carrier rows c ≡ carried → has_key selected_node c.meta.annotations ≡ has
+              → ((done || carried || has) && list_all (is_under_way rows) (filter_map (claim_named rows p.meta.namespace) names)) ≡ false → HasOpen rows p
+          test false false false d k n g = record {
+            claim = c;
+            named = record
+                { name = name; among = all name (inl refl); there = claim_of_row (row_at (claim_key p.meta.namespace name) rows) c at };
+            undone = d;
+            uncarried = k;
+            none = n;
+          }
           test false false true d k n g = more g
           test false true has d k n g = more g
           test true carried has d k n g = more g

@@ -2,17 +2,17 @@
 use Rattle.std.proofs.Common.{◌≡◌, ◌≢◌, ◌∙◌, ◌⊎◌, ℕ, ◌+◌, ◌≤◌, List, [], ◌∷◌, ◌++◌, append_assoc, Bool, true, false, true≢false, Option, Some, None, inl, inr, refl, sym, ap, subst, if◌then◌else◌}
 use Rattle.std.specs.Prelude.{◌&&◌, not, is_some}
 use Rattle.plain_data.specs.Pairs.{value_at}
-use Rattle.kube_types.specs.declared.key.Key.{Key}
-use Rattle.kube_types.specs.declared.uid.Uid.{Uid}
-use Rattle.kube_types.specs.declared.names.Due.{Due}
-use Rattle.kube_types.specs.declared.objects.Class.{Class as ClassData}
-use Rattle.kube_types.specs.declared.objects.Claim.{Claim as ClaimData}
-use Rattle.kube_types.specs.declared.objects.Volume.{Volume as VolumeData}
-use Rattle.kube_types.specs.declared.objects.Object.{Object}
-use Rattle.kube_types.specs.declared.objects.Object.TheVariants.{Class, Node, Volume, Claim, Pod}
-use Rattle.kube_types.specs.Bindings.{class_of_claim, has_key, selected_node}
-use Rattle.kube_types.specs.Keys.{key_of, row_at}
-use Rattle.kube_types.proofs.KeyOrder.{row_at-put_row, row_at-put_row_other, row_at-without_row, row_at-without_row_other, row_at_key}
+use Rattle.kube_objects.specs.declared.key.Key.{Key}
+use Rattle.kube_parts.specs.declared.uid.Uid.{Uid}
+use Rattle.kube_parts.specs.declared.names.Due.{Due}
+use Rattle.kube_objects.specs.declared.objects.Class.{Class as ClassData}
+use Rattle.kube_objects.specs.declared.objects.Claim.{Claim as ClaimData}
+use Rattle.kube_objects.specs.declared.objects.Volume.{Volume as VolumeData}
+use Rattle.kube_objects.specs.declared.objects.Object.{Object}
+use Rattle.kube_objects.specs.declared.objects.Object.TheVariants.{Class, Node, Volume, Claim, Pod}
+use Rattle.kube_objects.specs.Bindings.{class_of_claim, has_key, selected_node}
+use Rattle.kube_objects.specs.Keys.{key_of, row_at}
+use Rattle.kube_objects.proofs.KeyOrder.{row_at-put_row, row_at-put_row_other, row_at-without_row, row_at-without_row_other, row_at_key}
 use Rattle.call_types.specs.declared.entry.Entry.{Entry}
 use Rattle.call_types.specs.declared.reply.Refusal.TheVariants as refusals
 use Rattle.call_types.specs.declared.reply.Reply.{Reply}
@@ -125,7 +125,15 @@ pub provides_on : (c : ClaimData) (x : ClassData) (u next : Under) (reply : Repl
 unfolding provision_moved
 provides_on c x u next reply follows p =
     let g = goes_on u next reply (tasks.Provision (provision_moved p.op reply)) (ap (λ t. task_moved t reply) p.task) follows in
-    record { op = provision_moved p.op reply; task = g.task_is; claim = p.claim; class = p.class; late = subst (λ y. IsLate (provision_step_after p.op.step y reply) x) (sym p.class) (late_after p.op.step x reply); call = g.call }
+    record {
+      op = provision_moved p.op reply;
+      task = g.task_is;
+      claim = p.claim;
+      class = p.class;
+      late =
+          subst (λ y. IsLate (provision_step_after p.op.step y reply) x) (sym p.class) (late_after p.op.step x reply);
+      call = g.call;
+    }
 
 -- each call is worth something, or takes a node back
 pub provides_worth : (c : ClaimData) (x : ClassData) (u : Under) → ProvidesFor c x u → (worth seats.Ops u.call ≡ 1) ⊎ ((x.delayed ≡ true) × (u.call ≡ clear_call c))
@@ -158,7 +166,8 @@ late_of steps.Parked x e = tt
 first_late : (rows : List Object) (c : ClaimData) (x : ClassData) (step : ProvisionStep) → first_step rows c x ≡ Some step → IsLate step x
 first_late rows c x step e = by (provisions x) x.delayed refl e
   where
-    by : (real late : Bool) → x.delayed ≡ late → (if not real then None else if late then delayed_step rows (value_at selected_node c.meta.annotations) else Some (steps.Provisions None)) ≡ Some step → IsLate step x
+    by : (real late : Bool) → x.delayed ≡ late
+        → (if not real then None else if late then delayed_step rows (value_at selected_node c.meta.annotations) else Some (steps.Provisions None)) ≡ Some step → IsLate step x
     by false late is e_ = none_some e_
     by true true is e_ = late_of step x is
     by true false is e_ = subst (λ s. IsLate s x) (one (steps.Provisions None) step e_) tt
@@ -166,11 +175,19 @@ first_late rows c x step e = by (provisions x) x.delayed refl e
 begun_so : (rows : List Object) (c : ClaimData) (op : ProvisionOp) → claim_for rows c ≡ Some op → HasBegun rows c op
 begun_so rows c op e = by (is_wanting c && not (has_match rows c)) c.meta.uid (row_at (class_key (class_of_claim c)) rows) refl e
   where
-    stepped : (uid : Uid) (x : ClassData) (step : Option ProvisionStep) → row_at (class_key (class_of_claim c)) rows ≡ Some (Class x) → first_step rows c x ≡ step → begins_at c uid x step ≡ Some op → HasBegun rows c op
+    stepped : (uid : Uid) (x : ClassData) (step : Option ProvisionStep) → row_at (class_key (class_of_claim c)) rows ≡ Some (Class x)
+        → first_step rows c x ≡ step → begins_at c uid x step ≡ Some op → HasBegun rows c op
     stepped uid x None there at e_ = none_some e_
     stepped uid x (Some step) there at e_ =
         let same = one (at_step c uid x step) op e_ in
-        record { class = x; there = there; claim = ap (λ (o : ProvisionOp). o.claim) (sym same); is = ap (λ (o : ProvisionOp). o.class) (sym same); late = subst (λ (o : ProvisionOp). IsLate o.step x) same (first_late rows c x step at) }
+        record {
+          class = x;
+          there = there;
+          claim = ap (λ (o : ProvisionOp). o.claim) (sym same);
+          is =
+              ap (λ (o : ProvisionOp). o.class) (sym same);
+          late = subst (λ (o : ProvisionOp). IsLate o.step x) same (first_late rows c x step at);
+        }
 
     by : (b : Bool) (u : Option Uid) (row : Option Object) → row_at (class_key (class_of_claim c)) rows ≡ row → (if b then by_class rows c u row else None) ≡ Some op → HasBegun rows c op
     by false u row at e_ = none_some e_
@@ -220,7 +237,8 @@ erases_first : (x : Option EraseOp) (task : Task) → firsts.Begins task ≡ ops
 erases_first (Some op) task e = (op, ap (task_in task) e)
 erases_first None task e = absurd (true≢false (ap begins e))
 
-module _ (setup : Setup) (seat : ℕ) (role : Role) (kind : role.kind ≡ seats.Ops) (key : Key) (s : ActorState) (h : List Entry) (p : IsDecisionPoint setup seat role h s h) (u : Under) (own : u.key ≡ key) (gives : GivesCall s.role s.memory (all_objects s.caches) u) where
+module _ (setup : Setup) (seat : ℕ) (role : Role) (kind : role.kind ≡ seats.Ops) (key : Key) (s : ActorState) (h : List Entry)
+    (p : IsDecisionPoint setup seat role h s h) (u : Under) (own : u.key ≡ key) (gives : GivesCall s.role s.memory (all_objects s.caches) u) where
   s_kind : s.role.kind ≡ seats.Ops
   s_kind = ap (λ (r : Role). r.kind) p.role_is ∙ kind
 
@@ -228,7 +246,8 @@ module _ (setup : Setup) (seat : ℕ) (role : Role) (kind : role.kind ≡ seats.
   agree k f = p.sees k (ap (λ x. follows x k.kind) s_kind ∙ f)
 
   decided : firsts.Begins u.task ≡ ops_first (claim_begins (all_objects s.caches) (row_at key (all_objects s.caches))) (volume_begins (row_at key (all_objects s.caches)))
-  decided = subst (λ k. firsts.Begins u.task ≡ ops_first (claim_begins (all_objects s.caches) (row_at k (all_objects s.caches))) (volume_begins (row_at k (all_objects s.caches)))) own (subst (λ k. IsFirstOf k s.role.node s.memory (all_objects s.caches) u.key (firsts.Begins u.task)) s_kind gives.decided)
+  decided = subst (λ k. firsts.Begins u.task ≡ ops_first (claim_begins (all_objects s.caches) (row_at k (all_objects s.caches)))
+      (volume_begins (row_at k (all_objects s.caches)))) own (subst (λ k. IsFirstOf k s.role.node s.memory (all_objects s.caches) u.key (firsts.Begins u.task)) s_kind gives.decided)
 
   -- on a claim
 
@@ -240,7 +259,8 @@ module _ (setup : Setup) (seat : ℕ) (role : Role) (kind : role.kind ≡ seats.
   -- what begins is what the store says
   pub begins_on : (c : ClaimData) → row_at key (world setup h).store.rows ≡ Some (Claim c) → (op : ProvisionOp) × ((claim_for (world setup h).store.rows c ≡ Some op) × (u.task ≡ tasks.Provision op))
   begins_on c there =
-      let seen : row_at key (all_objects s.caches) ≡ Some (Claim c) = agree key (ap (λ (k : Key). follows seats.Ops k.kind) (sym (row_at_key key (Claim c) (world setup h).store.rows there))) ∙ there in
+      let seen : row_at key (all_objects s.caches) ≡ Some (Claim c) =
+      agree key (ap (λ (k : Key). follows seats.Ops k.kind) (sym (row_at_key key (Claim c) (world setup h).store.rows there))) ∙ there in
       let f = provides_first (claim_for (all_objects s.caches) c) u.task (decided ∙ ap (λ y. ops_first (claim_begins (all_objects s.caches) y) (volume_begins y)) seen) in
       (f.0, (sym (begins_same (all_objects s.caches) (world setup h).store.rows c agree p.ready.rows (rows_stand_in_order setup h)) ∙ f.1.0, f.1.1))
 
@@ -253,7 +273,8 @@ module _ (setup : Setup) (seat : ℕ) (role : Role) (kind : role.kind ≡ seats.
   -- on a volume
   pub erases_it : (v : VolumeData) → row_at key (world setup h).store.rows ≡ Some (Volume v) → ErasesIt u
   erases_it v there =
-      let seen : row_at key (all_objects s.caches) ≡ Some (Volume v) = agree key (ap (λ (k : Key). follows seats.Ops k.kind) (sym (row_at_key key (Volume v) (world setup h).store.rows there))) ∙ there in
+      let seen : row_at key (all_objects s.caches) ≡ Some (Volume v) =
+      agree key (ap (λ (k : Key). follows seats.Ops k.kind) (sym (row_at_key key (Volume v) (world setup h).store.rows there))) ∙ there in
       let f = erases_first (volume_begins (Some (Volume v))) u.task (decided ∙ ap (λ y. ops_first (claim_begins (all_objects s.caches) y) (volume_begins y)) seen) in
       record { op = f.0; task = f.1; call = sym (ap task_call f.1) ∙ gives.call }
 
@@ -278,10 +299,12 @@ module _ (setup : Setup) (seat : ℕ) (role : Role) (kind : role.kind ≡ seats.
 
 -- ---- a claim without a node has nothing due under a delayed class
 
-no_node_no_due : (setup : Setup) (w : World) (c : ClaimData) (x : ClassData) → row_at (class_key (class_of_claim c)) w.store.rows ≡ Some (Class x) → x.delayed ≡ true → value_at selected_node c.meta.annotations ≡ None → provision_due setup w c ≡ None
+no_node_no_due : (setup : Setup) (w : World) (c : ClaimData) (x : ClassData) → row_at (class_key (class_of_claim c)) w.store.rows ≡ Some (Class x)
+    → x.delayed ≡ true → value_at selected_node c.meta.annotations ≡ None → provision_due setup w c ≡ None
 no_node_no_due setup w c x there late none = by (is_wanting c && not (has_match w.store.rows c)) c.meta.uid
   where
-    by_real : (uid : Uid) (real : Bool) → (if not real then None else if x.delayed then delayed_due setup w c uid x (value_at selected_node c.meta.annotations) else immediate_due setup w c uid x) ≡ None
+    by_real : (uid : Uid) (real : Bool) → (if not real then None else if x.delayed then delayed_due setup w c uid x
+        (value_at selected_node c.meta.annotations) else immediate_due setup w c uid x) ≡ None
     by_real uid false = refl
     by_real uid true = rw (late, none) refl
 
@@ -320,7 +343,8 @@ moves_by w (OnStore (Removes p)) o e = subst (IsMoved w.store.rows (world_after 
 moves_by w (OnDevices a) o e = none_some e
 moves_by w (SetsMoment at) o e = none_some e
 
-module _ (setup : Setup) (e : Entry) (h : List Entry) (run : IsRunOf setup (e ∷ h)) (in_order : AnnotationsAreInOrder (world setup h)) (kind : e.kind ≡ seats.Ops) (c : ClaimData) (call : e.request ≡ clear_call c) (lasts : Lasts setup (world setup h) e.kind e.request) where
+module _ (setup : Setup) (e : Entry) (h : List Entry) (run : IsRunOf setup (e ∷ h)) (in_order : AnnotationsAreInOrder (world setup h))
+    (kind : e.kind ≡ seats.Ops) (c : ClaimData) (call : e.request ≡ clear_call c) (lasts : Lasts setup (world setup h) e.kind e.request) where
   history : IsHistory setup (e ∷ h)
   history = runs_are_histories setup (e ∷ h) run.run
 
@@ -335,8 +359,11 @@ module _ (setup : Setup) (e : Entry) (h : List Entry) (run : IsRunOf setup (e �
       let stored = stored_effect setup (world setup h) e.kind e.request (ap is_for_store call) in
       let writes = lasting_writes (world setup h) stored.0 stored.1.1 (subst (λ y. LastsBetween (world setup h) (world_after (world setup h) y) (reply_to y)) stored.1.0 lasts) in
       let written = ap written_by stored.1.0 ∙ writes.written in
-      let asked : Writes (world setup h) e.kind e.request writes.object = write_asked setup (world setup h) e.kind e.request writes.object (effect setup (world setup h) e.kind e.request) (effect_form setup (world setup h) e.kind e.request (rows_stand_in_order setup h)) written in
-      let u : IsUpdate (world setup h).store seats.Ops (Claim (unselected c)) (Some c.meta.version) writes.object = subst (λ (x : SeatKind × Request). Writes (world setup h) x.0 x.1 writes.object) (λ i. (kind i, call i)) asked in
+      let asked : Writes (world setup h) e.kind e.request writes.object =
+      write_asked setup (world setup h) e.kind e.request writes.object (effect setup (world setup h) e.kind e.request)
+      (effect_form setup (world setup h) e.kind e.request (rows_stand_in_order setup h)) written in
+      let u : IsUpdate (world setup h).store seats.Ops (Claim (unselected c)) (Some c.meta.version) writes.object =
+      subst (λ (x : SeatKind × Request). Writes (world setup h) x.0 x.1 writes.object) (λ i. (kind i, call i)) asked in
       let may : Licensed seats.Ops (own e.seat h) (clear_call c) = subst (λ (x : SeatKind × Request). Licensed x.0 (own e.seat h) x.1) (λ i. (kind i, call i)) run.run.2 in
       let n = clears setup e.seat h history.0 in_order (unselected c) (Some c.meta.version) writes.object may.1 u in (
         writes.object,
@@ -352,8 +379,10 @@ module _ (setup : Setup) (e : Entry) (h : List Entry) (run : IsRunOf setup (e �
   none_then key d own there = by taken_back.0 taken_back.1
     where
       by_move : (x : Object) → IsTakenBack x → IsMoved (world setup h).store.rows (world setup (e ∷ h)).store.rows x → has_key selected_node d.meta.annotations ≡ false
-      by_move x t (inl put) = t.none d (one x (Claim d) (sym (row_at-put_row x (world setup h).store.rows) ∙ (ap (row_at (key_of x)) (sym put) ∙ (ap (λ k. row_at k (world setup (e ∷ h)).store.rows) (t.key ∙ sym own) ∙ there))))
-      by_move x t (inr gone) = none_some (sym (row_at-without_row (key_of x) (world setup h).store.rows (rows_stand_in_order setup h)) ∙ (ap (row_at (key_of x)) (sym gone) ∙ (ap (λ k. row_at k (world setup (e ∷ h)).store.rows) (t.key ∙ sym own) ∙ there)))
+      by_move x t (inl put) = t.none d (one x (Claim d)
+          (sym (row_at-put_row x (world setup h).store.rows) ∙ (ap (row_at (key_of x)) (sym put) ∙ (ap (λ k. row_at k (world setup (e ∷ h)).store.rows) (t.key ∙ sym own) ∙ there))))
+      by_move x t (inr gone) = none_some (sym (row_at-without_row (key_of x) (world setup h).store.rows (rows_stand_in_order setup h)) ∙
+          (ap (row_at (key_of x)) (sym gone) ∙ (ap (λ k. row_at k (world setup (e ∷ h)).store.rows) (t.key ∙ sym own) ∙ there)))
 
       by : (x : Object) → IsTakenBack x → has_key selected_node d.meta.annotations ≡ false
       by x t = by_move x t t.moved
@@ -362,7 +391,8 @@ module _ (setup : Setup) (e : Entry) (h : List Entry) (run : IsRunOf setup (e �
   pub others_stay : (key : Key) → key_of (Claim c) ≢ key → row_at key (world setup (e ∷ h)).store.rows ≡ row_at key (world setup h).store.rows
   others_stay key other = by taken_back.0 taken_back.1
     where
-      by_move : (x : Object) → IsTakenBack x → IsMoved (world setup h).store.rows (world setup (e ∷ h)).store.rows x → row_at key (world setup (e ∷ h)).store.rows ≡ row_at key (world setup h).store.rows
+      by_move : (x : Object) → IsTakenBack x → IsMoved (world setup h).store.rows (world setup (e ∷ h)).store.rows x
+          → row_at key (world setup (e ∷ h)).store.rows ≡ row_at key (world setup h).store.rows
       by_move x t (inl put) = ap (row_at key) put ∙ row_at-put_row_other key x (world setup h).store.rows (λ same. other (sym t.key ∙ same))
       by_move x t (inr gone) = ap (row_at key) gone ∙ row_at-without_row_other (key_of x) key (world setup h).store.rows (λ same. other (sym t.key ∙ same))
 
@@ -378,7 +408,8 @@ record IsDueAt (setup : Setup) (key : Key) (c : ClaimData) (action : Due) (x : L
   same : rest_of (Claim claim) ≡ rest_of (Claim c)
   due_there : provision_due setup (world setup x) claim ≡ Some action
 
-module _ (setup : Setup) (seat : ℕ) (old after : ActorState) (h past : List Entry) (b left : ℕ) (kind : old.role.kind ≡ seats.Ops) (run : IsRunOf setup past) (order : AreAlwaysInOrder setup past) (idle : old.under ≡ None)
+module _ (setup : Setup) (seat : ℕ) (old after : ActorState) (h past : List Entry) (b left : ℕ) (kind : old.role.kind ≡ seats.Ops)
+    (run : IsRunOf setup past) (order : AreAlwaysInOrder setup past) (idle : old.under ≡ None)
     (runs : Runs all_pass seat after past left true (woken old) h b) (paid : HavePaid setup h past) (le : work_left setup (world setup h) ≤ work_left setup (world setup past)) where
   built : IsBuiltKind old.role.kind
   built = subst IsBuiltKind (sym kind) tt
@@ -397,7 +428,8 @@ module _ (setup : Setup) (seat : ℕ) (old after : ActorState) (h past : List En
 
   -- a volume that ops had cached is not to be reclaimed
 
-  pub no_reclaim : (key : Key) (v : VolumeData) (action : Due) (o : Object) → row_at key (world setup past).store.rows ≡ Some (Volume v) → reclaim_due v ≡ Some action → row_at key (all_objects old.caches) ≡ Some o → ⊥
+  pub no_reclaim : (key : Key) (v : VolumeData) (action : Due) (o : Object) → row_at key (world setup past).store.rows ≡ Some (Volume v)
+      → reclaim_due v ≡ Some action → row_at key (all_objects old.caches) ≡ Some o → ⊥
   no_reclaim key v action o there due cached = by acted
     where
       at_point : (x : List Entry) → IsWithin h x past → VolumeNear (world setup x) key v
@@ -429,7 +461,8 @@ module _ (setup : Setup) (seat : ℕ) (old after : ActorState) (h past : List En
 
   -- nothing is to be provisioned for a claim that it had cached, and no node to be taken back
 
-  pub no_provision : (key : Key) (c : ClaimData) (action : Due) (o : Object) → row_at key (world setup past).store.rows ≡ Some (Claim c) → provision_due setup (world setup past) c ≡ Some action → row_at key (all_objects old.caches) ≡ Some o → ⊥
+  pub no_provision : (key : Key) (c : ClaimData) (action : Due) (o : Object) → row_at key (world setup past).store.rows ≡ Some (Claim c)
+      → provision_due setup (world setup past) c ≡ Some action → row_at key (all_objects old.caches) ≡ Some o → ⊥
   no_provision key c action o there due cached = by acted
     where
       -- without a node its class does not wait
@@ -454,7 +487,13 @@ module _ (setup : Setup) (seat : ℕ) (old after : ActorState) (h past : List En
           }
           by_claims (inr none) =
               let n = claim_near (world setup x) (world setup past) key c (moves x w).near there in
-              record { claim = n.claim; stands = n.there; same = n.same; due_there = sym (near_immediates setup (world setup past) (world setup x) c n.claim (back_near (world setup x) (world setup past) (moves x w).near) (sym n.same) (at_once none)) ∙ due }
+              record {
+                claim = n.claim;
+                stands = n.there;
+                same = n.same;
+                due_there =
+                    sym (near_immediates setup (world setup past) (world setup x) c n.claim (back_near (world setup x) (world setup past) (moves x w).near) (sym n.same) (at_once none)) ∙ due;
+              }
 
       acts : (x : List Entry) → IsWithin h x past → ActsOn setup all_pass seat old.role x key
       acts x w =
@@ -499,17 +538,21 @@ module _ (setup : Setup) (seat : ℕ) (old after : ActorState) (h past : List En
 
           -- the node was taken back, and under a class that waits nothing is due then
           cleared : begun.class.delayed ≡ true → a.reaches.last.call ≡ clear_call d.claim → ⊥
-          cleared late call = none_some (sym (no_node_no_due setup (world setup past) c class.class (ap (λ name. row_at (class_key name) (world setup past).store.rows) (sym named) ∙ class.there) (class.delayed ∙ late) (no_value c none)) ∙ due)
+          cleared late call = none_some (sym
+              (no_node_no_due setup (world setup past) c class.class
+              (ap (λ name. row_at (class_key name) (world setup past).store.rows) (sym named) ∙ class.there) (class.delayed ∙ late) (no_value c none)) ∙ due)
             where
               named : class_of_claim d.claim ≡ class_of_claim c
               named = sym (class_rest d.claim) ∙ (ap class_of_claim (one_rest_claim d.claim c d.same) ∙ class_rest c)
 
               class : ClassNear (world setup past) (class_key (class_of_claim d.claim)) begun.class
-              class = class_near (world setup past) (world setup a.point) (class_key (class_of_claim d.claim)) begun.class (back_near (world setup a.point) (world setup past) (moves a.point a.within).near) begun.there
+              class = class_near (world setup past) (world setup a.point) (class_key (class_of_claim d.claim)) begun.class
+                  (back_near (world setup a.point) (world setup past) (moves a.point a.within).near) begun.there
 
               then_none : (x : ClaimData) → row_at key (world setup (e ∷ a.reaches.at)).store.rows ≡ Some (Claim x) → has_key selected_node x.meta.annotations ≡ false
               then_none x at =
-                  none_then setup e a.reaches.at (run_within setup h past run order paid le (e ∷ a.reaches.at) next) (order_within setup h past run order paid le a.reaches.at w [] a.reaches.at refl) kind d.claim call a.reaches.lasts key x
+                  none_then setup e a.reaches.at (run_within setup h past run order paid le (e ∷ a.reaches.at) next)
+                  (order_within setup h past run order paid le a.reaches.at w [] a.reaches.at refl) kind d.claim call a.reaches.lasts key x
                   (sym (row_at_key key (Claim d.claim) (world setup a.point).store.rows d.stands)) at
 
               by_claims : StoodSo (world setup (e ∷ a.reaches.at)) key c ⊎ (has_key selected_node c.meta.annotations ≡ false) → has_key selected_node c.meta.annotations ≡ false

@@ -32,7 +32,8 @@ abbrev pub IsAny : List Role → Type 0
 IsAny [] = ⊥
 IsAny (role ∷ roles) = ⊤
 
-pub slot_of : (lets : Lets) (past : List Entry) (left : ℕ) (ds : List Drainer) (h : List Entry) (b : ℕ) (after : List Drainer) (whole : Bool) → IsRound lets past left ds h b after whole → whole ≡ true → IsAny (roles_of ds) → HasSlot lets past left ds h b after
+pub slot_of : (lets : Lets) (past : List Entry) (left : ℕ) (ds : List Drainer) (h : List Entry) (b : ℕ) (after : List Drainer) (whole : Bool)
+    → IsRound lets past left ds h b after whole → whole ≡ true → IsAny (roles_of ds) → HasSlot lets past left ds h b after
 slot_of lets past left _ h b _ _ (Ends entries rest) is_whole any = absurd any
 slot_of lets past left _ h b _ _ (Turns {ds = ds} {after = after} {whole = whole} d ran middle rest idle seat runs more) is_whole any =
     let parts = and_parts idle whole is_whole in
@@ -67,7 +68,8 @@ abbrev pub rest_of_roles : List Role → List Role
 rest_of_roles [] = []
 rest_of_roles (role ∷ roles) = roles
 
-pub parts_of : (lets : Lets) (past : List Entry) (left : ℕ) (ds : List Drainer) (h : List Entry) (b : ℕ) (after : List Drainer) → AreRoles (roles_of ds) → IsRound lets past left ds h b after true → HasParts lets past left ds h b after
+pub parts_of : (lets : Lets) (past : List Entry) (left : ℕ) (ds : List Drainer) (h : List Entry) (b : ℕ) (after : List Drainer)
+    → AreRoles (roles_of ds) → IsRound lets past left ds h b after true → HasParts lets past left ds h b after
 parts_of lets past left ds h b after roles round =
     let first = slot_of lets past left ds h b after true round refl (subst IsAny (sym roles.are) tt) in
     let split : first.drainer.actor.role ∷ roles_of first.behind ≡ of_kind seats.Scheduler ∷ of_kind seats.Ops ∷ roles_behind roles.nodes = sym (ap roles_of first.ds_are) ∙ roles.are in

@@ -46,7 +46,8 @@ module _ (lets : Lets) (seat : ℕ) (kind : SeatKind) (after : ActorState) (past
         are = rest.are ∙ sym (append_assoc rest.newer (told_entry seat given request reply ∷ []) h);
         kinds = then_kind kind rest.newer (told_entry seat given request reply) rest.kinds (ap (λ (r : Role). r.kind) (turn_role s given (Call request) turn) ∙ is);
       }
-  run_kinds s h b (IsHeld given next request some ready turn held absorbs more) is = run_kinds next h (b - 1) more (ap (λ (r : Role). r.kind) (still_role s given next (Call request) request Lost turn absorbs) ∙ is)
+  run_kinds s h b (IsHeld given next request some ready turn held absorbs more) is =
+      run_kinds next h (b - 1) more (ap (λ (r : Role). r.kind) (still_role s given next (Call request) request Lost turn absorbs) ∙ is)
 
 kinds_ahead : (kind : SeatKind) (newer older : List Entry) → AreOfKind kind (newer ++ older) → AreOfKind kind newer
 kinds_ahead kind [] older are = tt
@@ -64,7 +65,8 @@ pub record IsQuietAt (setup : Setup) (h x past : List Entry) : Type 0 where
   pub up : work_left setup (world setup x) ≤ work_left setup (world setup past)
   pub down : work_left setup (world setup h) ≤ work_left setup (world setup x)
 
-module _ (setup : Setup) (h past : List Entry) (run : IsRunOf setup past) (order : AreAlwaysInOrder setup past) (paid : HavePaid setup h past) (le : work_left setup (world setup h) ≤ work_left setup (world setup past)) where
+module _ (setup : Setup) (h past : List Entry) (run : IsRunOf setup past) (order : AreAlwaysInOrder setup past) (paid : HavePaid setup h past)
+    (le : work_left setup (world setup h) ≤ work_left setup (world setup past)) where
   pub run_within : (x : List Entry) → IsWithin h x past → IsRunOf setup x
   run_within x w = older_run setup w.newer x (subst (IsRunOf setup) w.ahead run)
 
@@ -100,7 +102,8 @@ module _ (setup : Setup) (h past : List Entry) (run : IsRunOf setup past) (order
   -- where the entries are of one kind they move nodes in its way
   module _ (kind : SeatKind) (k : HaveKind kind h past) where
     kinds_at : (x : List Entry) (w : IsWithin h x past) → AreOfKind kind (w.newer ++ w.older)
-    kinds_at x w = subst (AreOfKind kind) (append_cancel_right k.newer (w.newer ++ w.older) h (sym k.are ∙ (w.ahead ∙ (ap (λ es. w.newer ++ es) w.behind ∙ sym (append_assoc w.newer w.older h))))) k.kinds
+    kinds_at x w = subst (AreOfKind kind) (append_cancel_right k.newer (w.newer ++ w.older) h
+        (sym k.are ∙ (w.ahead ∙ (ap (λ es. w.newer ++ es) w.behind ∙ sym (append_assoc w.newer w.older h))))) k.kinds
 
     pub moves_ahead : (x : List Entry) → IsWithin h x past → MovesBy kind (world setup x) (world setup past)
     moves_ahead x w = let q = quiet_at x w in kind_moves setup kind x past w.newer w.ahead (kinds_ahead kind w.newer w.older (kinds_at x w)) run order q.ahead q.up

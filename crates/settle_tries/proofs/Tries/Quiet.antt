@@ -2,15 +2,15 @@
 use Rattle.std.proofs.Common.{◌≡◌, ◌∙◌, ◌⊎◌, ℕ, zero, suc, ◌≤◌, List, [], ◌∷◌, ◌++◌, append_assoc, Bool, true, false, true≢false, Option, Some, None, inl, inr, refl, sym, ap, subst, arith}
 use Rattle.std.proofs.lemmas.List.{append_cancel_right}
 use Rattle.std.specs.Prelude.{is_some, option_map, slice_get, ⊤}
-use Rattle.kube_types.specs.declared.key.Key.{Key}
-use Rattle.kube_types.specs.declared.names.Due.{Due}
-use Rattle.kube_types.specs.declared.names.Due.TheVariants as dues
-use Rattle.kube_types.specs.declared.objects.Object.{Object}
-use Rattle.kube_types.specs.declared.objects.Object.TheVariants.{Class, Node, Volume, Claim, Pod}
-use Rattle.kube_types.specs.declared.objects.Pod.{Pod as PodData}
-use Rattle.kube_types.specs.Bindings.{is_scheduled}
-use Rattle.kube_types.specs.Keys.{key_of, row_at}
-use Rattle.kube_types.proofs.KeyOrder.{row_at_key}
+use Rattle.kube_objects.specs.declared.key.Key.{Key}
+use Rattle.kube_parts.specs.declared.names.Due.{Due}
+use Rattle.kube_parts.specs.declared.names.Due.TheVariants as dues
+use Rattle.kube_objects.specs.declared.objects.Object.{Object}
+use Rattle.kube_objects.specs.declared.objects.Object.TheVariants.{Class, Node, Volume, Claim, Pod}
+use Rattle.kube_objects.specs.declared.objects.Pod.{Pod as PodData}
+use Rattle.kube_objects.specs.Bindings.{is_scheduled}
+use Rattle.kube_objects.specs.Keys.{key_of, row_at}
+use Rattle.kube_objects.proofs.KeyOrder.{row_at_key}
 use Rattle.call_types.specs.declared.entry.Entry.{Entry}
 use Rattle.call_types.specs.declared.request.Request.{Request}
 use Rattle.call_types.specs.declared.request.SeatKind.{SeatKind}
@@ -42,7 +42,21 @@ use Rattle.settle_progress.specs.Epochs.Epochs.{IsCurrent}
 use Rattle.settle_progress.proofs.Epochs.Epochs.{run_stays}
 use Rattle.settle_progress.proofs.Epochs.Silent.{current_are_awake}
 use Rattle.settle_progress.specs.Agents.Rounds.{HasAwake}
-use Rattle.settle_progress.specs.Drains.Rounds.{DueFor, for_claim, for_volume, ForAgent, ForBinder, ForBinderOfClaims, ForClaimProtection, ForProvisioner, ForReclaimer, ForScheduler, ForVolumeProtection, HasCurrent, doer_of}
+use Rattle.settle_progress.specs.Drains.Rounds.{
+  DueFor,
+  for_claim,
+  for_volume,
+  ForAgent,
+  ForBinder,
+  ForBinderOfClaims,
+  ForClaimProtection,
+  ForProvisioner,
+  ForReclaimer,
+  ForScheduler,
+  ForVolumeProtection,
+  HasCurrent,
+  doer_of,
+}
 use Rattle.settle_progress.proofs.Drains.Doers.{due_is_for}
 use Rattle.settle_progress.proofs.Drains.Rounds.{HasRole, is_agent, not_agent, role_at}
 use Rattle.settle_pays.specs.Pays.Pays.{HavePaid, worth}
@@ -140,7 +154,8 @@ module _ (lets : Lets) (past : List Entry) (left : ℕ) where
         plain = plain_both later.newer slot.newer later.plain (of_kind_plain d.actor.role.kind slot.newer plain.0 slot.kinds);
       }
 
-none_lasts : (setup : Setup) (h past : List Entry) → IsHistory setup past → HavePaid setup h past → work_left setup (world setup h) ≤ work_left setup (world setup past) → HavePlain h past → HasLasting setup h past → ⊥
+none_lasts : (setup : Setup) (h past : List Entry) → IsHistory setup past → HavePaid setup h past
+    → work_left setup (world setup h) ≤ work_left setup (world setup past) → HavePlain h past → HasLasting setup h past → ⊥
 none_lasts setup h past history paid le p l =
     let same : p.newer ≡ l.newer ++ (l.entry ∷ l.older) = append_cancel_right p.newer (l.newer ++ (l.entry ∷ l.older)) h (sym p.are ∙ (l.are ∙ sym (append_assoc l.newer (l.entry ∷ l.older) h))) in
     let plain = plain_at l.newer l.entry l.older (subst ArePlain same p.plain) in
@@ -154,7 +169,8 @@ pub record StandsAlike (setup : Setup) (h : List Entry) (key : Key) (o : Object)
   pub there : row_at key (world setup h).store.rows ≡ Some object
   pub same : content_of object ≡ content_of o
 
-pub stands_alike : (setup : Setup) (h past : List Entry) (key : Key) (o : Object) → AreAlike (world setup h) (world setup past) → row_at key (world setup past).store.rows ≡ Some o → StandsAlike setup h key o
+pub stands_alike : (setup : Setup) (h past : List Entry) (key : Key) (o : Object) → AreAlike (world setup h) (world setup past)
+    → row_at key (world setup past).store.rows ≡ Some o → StandsAlike setup h key o
 stands_alike setup h past key o alike there = by (row_at key (world setup h).store.rows) refl
   where
     met : option_map content_of (row_at key (world setup h).store.rows) ≡ Some (content_of o)
@@ -210,7 +226,13 @@ module _ (setup : Setup) (ds after : List Drainer) (h past : List Entry) (b left
   at_second =
       let g = round_grows all_pass past left p.second.behind p.second.middle p.second.rest p.second.later true p.second.round in
       let s = run_grows all_pass p.second.drainer.seat p.second.ran.actor p.second.middle p.second.rest true (woken p.second.drainer.actor) p.first.middle p.first.rest p.second.runs in
-      record { newer = g.longer.added; older = s.longer.added ++ at_first.older; ahead = g.longer.are; behind = s.longer.are ∙ (ap (λ es. s.longer.added ++ es) at_first.behind ∙ sym (append_assoc s.longer.added at_first.older h)) }
+      record {
+        newer = g.longer.added;
+        older = s.longer.added ++ at_first.older;
+        ahead = g.longer.are;
+        behind = s.longer.are
+            ∙ (ap (λ es. s.longer.added ++ es) at_first.behind ∙ sym (append_assoc s.longer.added at_first.older h));
+      }
 
   pub second_run : IsRunOf setup p.second.middle
   second_run = run_within setup h past q.run q.order all_paid stays_up p.second.middle at_second
@@ -222,7 +244,8 @@ module _ (setup : Setup) (ds after : List Drainer) (h past : List Entry) (b left
   pub ops_paid : HavePaid setup p.first.middle p.second.middle
   ops_paid =
       let s = run_grows all_pass p.second.drainer.seat p.second.ran.actor p.second.middle p.second.rest true (woken p.second.drainer.actor) p.first.middle p.first.rest p.second.runs in
-      (paid_split setup h p.first.middle p.second.middle s.longer.added at_first.older s.longer.are at_first.behind (quiet_at setup h past q.run q.order all_paid stays_up p.second.middle at_second).behind).0
+      (paid_split setup h p.first.middle p.second.middle s.longer.added at_first.older s.longer.are at_first.behind
+      (quiet_at setup h past q.run q.order all_paid stays_up p.second.middle at_second).behind).0
 
   pub ops_stays : work_left setup (world setup p.first.middle) ≤ work_left setup (world setup p.second.middle)
   ops_stays =
@@ -237,12 +260,14 @@ module _ (setup : Setup) (ds after : List Drainer) (h past : List Entry) (b left
   tail_plain = round_plain all_pass past left p.second.behind p.second.middle p.second.rest p.second.later true p.second.round (subst RolesPlain (sym p.others) (behind_plain p.nodes))
 
   tail_lasts : HasLasting setup p.second.middle past → ⊥
-  tail_lasts l = let y = quiet_at setup h past q.run q.order all_paid stays_up p.second.middle at_second in none_lasts setup p.second.middle past (runs_are_histories setup past q.run.run) y.ahead y.up tail_plain l
+  tail_lasts l = let y = quiet_at setup h past q.run q.order all_paid stays_up p.second.middle at_second in
+      none_lasts setup p.second.middle past (runs_are_histories setup past q.run.run) y.ahead y.up tail_plain l
 
   pub tail_alike : AreAlike (world setup p.second.middle) (world setup past)
   tail_alike = by (entries_last_or_leave_alike setup tail_plain.newer p.second.middle (subst (IsHistory setup) tail_plain.are (runs_are_histories setup past q.run.run)))
     where
-      by : HasLasting setup p.second.middle (tail_plain.newer ++ p.second.middle) ⊎ AreAlike (world setup p.second.middle) (world setup (tail_plain.newer ++ p.second.middle)) → AreAlike (world setup p.second.middle) (world setup past)
+      by : HasLasting setup p.second.middle (tail_plain.newer ++ p.second.middle)
+          ⊎ AreAlike (world setup p.second.middle) (world setup (tail_plain.newer ++ p.second.middle)) → AreAlike (world setup p.second.middle) (world setup past)
       by (inl l) = absurd (tail_lasts (subst (HasLasting setup p.second.middle) (sym tail_plain.are) l))
       by (inr alike) = subst (λ es. AreAlike (world setup p.second.middle) (world setup es)) (sym tail_plain.are) alike
 
@@ -259,16 +284,20 @@ module _ (setup : Setup) (ds after : List Drainer) (h past : List Entry) (b left
 
   -- the agent of a node that was given
   awake_behind : (node : List ℕ) → HasCurrent setup ds h node → HasAwake setup p.second.behind p.second.middle node
-  awake_behind node c = by c.place c.drainer (ap (λ xs. slice_get xs c.place) (sym (p.first.ds_are ∙ ap (λ xs. p.first.drainer ∷ xs) p.second.ds_are)) ∙ c.there) c.role (current_are_awake setup ds h c.place c.drainer node q.may.only c.there c.role c.current)
+  awake_behind node c = by c.place c.drainer (ap (λ xs. slice_get xs c.place)
+      (sym (p.first.ds_are ∙ ap (λ xs. p.first.drainer ∷ xs) p.second.ds_are)) ∙ c.there) c.role (current_are_awake setup ds h c.place c.drainer node q.may.only c.there c.role c.current)
     where
       current_on : (d : Drainer) → IsCurrent setup h node d.seat → IsCurrent setup p.second.middle node d.seat
       current_on d current =
-          let on_first = run_stays setup all_pass p.first.drainer.seat d.seat node p.first.ran.actor p.first.middle p.first.rest true (runs_are_histories setup p.first.middle (run_within setup h past q.run q.order all_paid stays_up p.first.middle at_first).run) (woken p.first.drainer.actor) h b p.first.runs
+          let on_first = run_stays setup all_pass p.first.drainer.seat d.seat node p.first.ran.actor p.first.middle p.first.rest true
+          (runs_are_histories setup p.first.middle (run_within setup h past q.run q.order all_paid stays_up p.first.middle at_first).run) (woken p.first.drainer.actor) h b p.first.runs
           (subst (λ (r : Role). IsBuiltKind r.kind) (sym p.scheduler) tt) (λ same. absurd (not_agents seats.Scheduler node refl (sym p.scheduler ∙ same))) current in
-          run_stays setup all_pass p.second.drainer.seat d.seat node p.second.ran.actor p.second.middle p.second.rest true (runs_are_histories setup p.second.middle second_run.run) (woken p.second.drainer.actor) p.first.middle p.first.rest p.second.runs
+          run_stays setup all_pass p.second.drainer.seat d.seat node p.second.ran.actor p.second.middle p.second.rest true
+          (runs_are_histories setup p.second.middle second_run.run) (woken p.second.drainer.actor) p.first.middle p.first.rest p.second.runs
           (subst (λ (r : Role). IsBuiltKind r.kind) (sym p.ops) tt) (λ same. absurd (not_agents seats.Ops node refl (sym p.ops ∙ same))) on_first
 
-      by : (place : ℕ) (d : Drainer) → slice_get (p.first.drainer ∷ p.second.drainer ∷ p.second.behind) place ≡ Some d → d.actor.role ≡ agent_of node → IsAwake setup h node d → HasAwake setup p.second.behind p.second.middle node
+      by : (place : ℕ) (d : Drainer) → slice_get (p.first.drainer ∷ p.second.drainer ∷ p.second.behind) place ≡ Some d → d.actor.role ≡ agent_of node
+          → IsAwake setup h node d → HasAwake setup p.second.behind p.second.middle node
       by zero d at role awake = absurd (not_agents seats.Scheduler node refl (sym p.scheduler ∙ (ap (λ (x : Drainer). x.actor.role) (one p.first.drainer d at) ∙ role)))
       by (suc zero) d at role awake = absurd (not_agents seats.Ops node refl (sym p.ops ∙ (ap (λ (x : Drainer). x.actor.role) (one p.second.drainer d at) ∙ role)))
       by (suc (suc place)) d at role awake = record { place = place; drainer = d; there = at; role = role; awake = record { fresh = awake.fresh; current = current_on d awake.current } }
@@ -279,7 +308,8 @@ module _ (setup : Setup) (ds after : List Drainer) (h past : List Entry) (b left
   near_second : AreNear (world setup h) (world setup p.second.middle)
   near_second = near_behind setup h past q.run q.order all_paid stays_up p.second.middle at_second
 
-  awake_for : (key : Key) (o : Object) (role : Role) → row_at key (world setup p.second.middle).store.rows ≡ Some o → DueFor setup (world setup p.second.middle) o role → (node : List ℕ) → role ≡ agent_of node → HasAwake setup p.second.behind p.second.middle node
+  awake_for : (key : Key) (o : Object) (role : Role) → row_at key (world setup p.second.middle).store.rows ≡ Some o
+      → DueFor setup (world setup p.second.middle) o role → (node : List ℕ) → role ≡ agent_of node → HasAwake setup p.second.behind p.second.middle node
   awake_for key _ _ there (ForAgent pod action scheduled due) node same =
       let n = pod_near (world setup h) (world setup p.second.middle) key pod near_second there in
       let placed : n.pod.node ≡ node = ap (λ (x : Object). node_of x) n.same ∙ ap (λ (r : Role). r.node) same in
@@ -308,13 +338,15 @@ module _ (setup : Setup) (ds after : List Drainer) (h past : List Entry) (b left
     second_there = ap (λ xs. slice_get xs 1) (p.first.ds_are ∙ ap (λ xs. p.first.drainer ∷ xs) p.second.ds_are)
 
     -- what stands has been cached
-    ops_has : (key : Key) (o : Object) → row_at key (world setup p.second.middle).store.rows ≡ Some o → decides_kind seats.Ops (key_of o).kind ≡ true → (x : Object) × (row_at key (all_objects p.second.drainer.actor.caches) ≡ Some x)
+    ops_has : (key : Key) (o : Object) → row_at key (world setup p.second.middle).store.rows ≡ Some o → decides_kind seats.Ops (key_of o).kind ≡ true
+        → (x : Object) × (row_at key (all_objects p.second.drainer.actor.caches) ≡ Some x)
     ops_has key o there decides = by (row_at key (all_objects p.second.drainer.actor.caches)) refl
         (let s = stands_near (world setup h) (world setup p.second.middle) key o near_second there in
         cached 1 p.second.drainer second_there key s.object s.there
         (ap (λ (r : Role). decides_kind r.kind key.kind) p.ops ∙ (ap (λ (k : Key). decides_kind seats.Ops k.kind) (sym (row_at_key key o (world setup p.second.middle).store.rows there)) ∙ decides)))
       where
-        by : (x : Option Object) → row_at key (all_objects p.second.drainer.actor.caches) ≡ x → is_some (row_at key (all_objects p.second.drainer.actor.caches)) ≡ true → (y : Object) × (row_at key (all_objects p.second.drainer.actor.caches) ≡ Some y)
+        by : (x : Option Object) → row_at key (all_objects p.second.drainer.actor.caches) ≡ x
+            → is_some (row_at key (all_objects p.second.drainer.actor.caches)) ≡ true → (y : Object) × (row_at key (all_objects p.second.drainer.actor.caches) ≡ Some y)
         by (Some y) e has = (y, e)
         by None e has = absurd (true≢false (sym has ∙ ap is_some e))
 
@@ -327,10 +359,12 @@ module _ (setup : Setup) (ds after : List Drainer) (h past : List Entry) (b left
     ops_done : (key : Key) (o : Object) (role : Role) → row_at key (world setup p.second.middle).store.rows ≡ Some o → DueFor setup (world setup p.second.middle) o role → role.kind ≡ seats.Ops → ⊥
     ops_done key _ _ there (ForReclaimer v action due) is =
         let c = ops_has key (Volume v) there refl in
-        no_reclaim setup p.second.drainer.seat p.second.drainer.actor p.second.ran.actor p.first.middle p.second.middle p.first.rest p.second.rest (ap (λ (r : Role). r.kind) p.ops) second_run second_order ops_idle p.second.runs ops_paid ops_stays key v action c.0 there due c.1
+        no_reclaim setup p.second.drainer.seat p.second.drainer.actor p.second.ran.actor p.first.middle p.second.middle p.first.rest p.second.rest
+        (ap (λ (r : Role). r.kind) p.ops) second_run second_order ops_idle p.second.runs ops_paid ops_stays key v action c.0 there due c.1
     ops_done key _ _ there (ForProvisioner v action due) is =
         let c = ops_has key (Claim v) there refl in
-        no_provision setup p.second.drainer.seat p.second.drainer.actor p.second.ran.actor p.first.middle p.second.middle p.first.rest p.second.rest (ap (λ (r : Role). r.kind) p.ops) second_run second_order ops_idle p.second.runs ops_paid ops_stays key v action c.0 there due c.1
+        no_provision setup p.second.drainer.seat p.second.drainer.actor p.second.ran.actor p.first.middle p.second.middle p.first.rest p.second.rest
+        (ap (λ (r : Role). r.kind) p.ops) second_run second_order ops_idle p.second.runs ops_paid ops_stays key v action c.0 there due c.1
     ops_done key _ _ there (ForScheduler pod action open_ due) is = absurd (true≢false (sym (ap is_ops is)))
     ops_done key _ _ there (ForBinder v action due) is = absurd (true≢false (sym (ap is_ops is)))
     ops_done key _ _ there (ForBinderOfClaims c action due) is = absurd (true≢false (sym (ap is_ops is)))
@@ -341,10 +375,13 @@ module _ (setup : Setup) (ds after : List Drainer) (h past : List Entry) (b left
     only_pods : (key : Key) (o : Object) (action : Due) → row_at key (world setup past).store.rows ≡ Some o → IsDue setup (world setup past) o (Some action) → (doer_of o action).kind ≡ seats.Scheduler
     only_pods key o action there due =
         let s = stands_alike setup p.second.middle past key o tail_alike there in
-        let due_there : IsDue setup (world setup p.second.middle) s.object (Some action) = alike_is_due setup (world setup past) (world setup p.second.middle) o s.object (Some action) (record { rows = sym tail_alike.rows; stored = sym tail_alike.stored; mounts = sym tail_alike.mounts }) (sym s.same) due in
+        let due_there : IsDue setup (world setup p.second.middle) s.object (Some action) =
+        alike_is_due setup (world setup past) (world setup p.second.middle) o s.object (Some action)
+        (record { rows = sym tail_alike.rows; stored = sym tail_alike.stored; mounts = sym tail_alike.mounts }) (sym s.same) due in
         let for_it = due_is_for setup (world setup p.second.middle) action s.object due_there in
         let doer : doer_of s.object action ≡ doer_of o action = sym (doer_plain s.object action) ∙ (ap (λ x. doer_of x action) s.same ∙ doer_plain o action) in
-        elim (due_behind setup p.second.behind p.second.later p.second.middle past p.second.rest left key s.object (doer_of s.object action) q.run (subst AreBuilt (sym p.others) (behind_built p.nodes)) p.second.round s.there for_it role_behind (awake_for key s.object (doer_of s.object action) s.there for_it)) [
+        elim (due_behind setup p.second.behind p.second.later p.second.middle past p.second.rest left key s.object (doer_of s.object action) q.run
+        (subst AreBuilt (sym p.others) (behind_built p.nodes)) p.second.round s.there for_it role_behind (awake_for key s.object (doer_of s.object action) s.there for_it)) [
           | inl ops ↦ absurd (ops_done key s.object (doer_of s.object action) s.there for_it ops)
           | inr (inl scheduler) ↦ ap (λ (r : Role). r.kind) (sym doer) ∙ scheduler
           | inr (inr lasts) ↦ absurd (tail_lasts lasts)
@@ -359,7 +396,8 @@ module _ (setup : Setup) (ds after : List Drainer) (h past : List Entry) (b left
     scheduler_idle = q.may.rests 0 p.first.drainer first_there (scheduler_fresh (q.may.may.stand.each 0 p.first.drainer first_there))
       where
         scheduler_fresh : IsStanding p.first.drainer h → p.first.drainer.actor.memory.stale ≡ false
-        scheduler_fresh stands = ap (λ m. m.stale) stands.told.memory ∙ memory_awake p.first.drainer.actor.role (own p.first.drainer.seat h) (not_agent _ (ap (λ (r : Role). is_agent r.kind) p.scheduler))
+        scheduler_fresh stands = ap (λ m. m.stale) stands.told.memory
+            ∙ memory_awake p.first.drainer.actor.role (own p.first.drainer.seat h) (not_agent _ (ap (λ (r : Role). is_agent r.kind) p.scheduler))
 
     pub near_first : AreNear (world setup h) (world setup p.first.middle)
     near_first = near_behind setup h past q.run q.order all_paid stays_up p.first.middle at_first
@@ -368,9 +406,11 @@ module _ (setup : Setup) (ds after : List Drainer) (h past : List Entry) (b left
     pod_cached key pod there = by (row_at key (all_objects p.first.drainer.actor.caches)) refl
         (let s = stands_near (world setup h) (world setup p.first.middle) key (Pod pod) near_first there in
         cached 0 p.first.drainer first_there key s.object s.there
-        (ap (λ (r : Role). decides_kind r.kind key.kind) p.scheduler ∙ ap (λ (k : Key). decides_kind seats.Scheduler k.kind) (sym (row_at_key key (Pod pod) (world setup p.first.middle).store.rows there))))
+        (ap (λ (r : Role). decides_kind r.kind key.kind) p.scheduler
+        ∙ ap (λ (k : Key). decides_kind seats.Scheduler k.kind) (sym (row_at_key key (Pod pod) (world setup p.first.middle).store.rows there))))
       where
-        by : (x : Option Object) → row_at key (all_objects p.first.drainer.actor.caches) ≡ x → is_some (row_at key (all_objects p.first.drainer.actor.caches)) ≡ true → (y : Object) × (row_at key (all_objects p.first.drainer.actor.caches) ≡ Some y)
+        by : (x : Option Object) → row_at key (all_objects p.first.drainer.actor.caches) ≡ x
+            → is_some (row_at key (all_objects p.first.drainer.actor.caches)) ≡ true → (y : Object) × (row_at key (all_objects p.first.drainer.actor.caches) ≡ Some y)
         by (Some y) e has = (y, e)
         by None e has = absurd (true≢false (sym has ∙ ap is_some e))
 
@@ -383,8 +423,10 @@ module _ (setup : Setup) (ds after : List Drainer) (h past : List Entry) (b left
         let near : AreNear (world setup p.first.middle) (world setup past) = near_ahead setup h past q.run q.order all_paid stays_up p.first.middle at_first in
         let n = pod_near (world setup p.first.middle) (world setup past) key pod near there in
         let c = pod_cached key n.pod n.there in
-        no_assign setup p.first.drainer.seat p.first.drainer.actor p.first.ran.actor h p.first.middle b p.first.rest (ap (λ (r : Role). r.kind) p.scheduler) (run_within setup h past q.run q.order all_paid stays_up p.first.middle at_first)
-        (order_within setup h past q.run q.order all_paid stays_up p.first.middle at_first) scheduler_idle p.first.runs first_paid.behind first_paid.down key n.pod c.0 n.there (ap (λ (x : Object). scheduled_of x) n.same ∙ open_)
+        no_assign setup p.first.drainer.seat p.first.drainer.actor p.first.ran.actor h p.first.middle b p.first.rest
+        (ap (λ (r : Role). r.kind) p.scheduler) (run_within setup h past q.run q.order all_paid stays_up p.first.middle at_first)
+        (order_within setup h past q.run q.order all_paid stays_up p.first.middle at_first) scheduler_idle p.first.runs first_paid.behind
+        first_paid.down key n.pod c.0 n.there (ap (λ (x : Object). scheduled_of x) n.same ∙ open_)
         (near_assigns setup (world setup past) (world setup p.first.middle) pod n.pod (back_near (world setup p.first.middle) (world setup past) near) (sym n.same) open_ due) c.1
       where
         scheduled_of : Object → Bool

@@ -1,9 +1,9 @@
 -- What the scheduler is told in a slot: past its first pass it is told of each kind what was written since the slot before began, or what stands.
-use Rattle.kube_types.specs.declared.objects.Claim.{Claim as ClaimData}
-use Rattle.kube_types.specs.declared.objects.Object.{Object}
-use Rattle.kube_types.specs.declared.objects.Object.TheVariants.{Claim}
-use Rattle.kube_types.specs.Keys.{AreRows, key_of, meta_of, put_row, row_at}
-use Rattle.kube_types.proofs.KeyOrder.{row_at-put_row}
+use Rattle.kube_objects.specs.declared.objects.Claim.{Claim as ClaimData}
+use Rattle.kube_objects.specs.declared.objects.Object.{Object}
+use Rattle.kube_objects.specs.declared.objects.Object.TheVariants.{Claim}
+use Rattle.kube_objects.specs.Keys.{AreRows, key_of, meta_of, put_row, row_at}
+use Rattle.kube_objects.proofs.KeyOrder.{row_at-put_row}
 use Rattle.call_types.specs.declared.reply.Change.{Change}
 use Rattle.call_types.specs.declared.reply.Change.TheVariants as changes
 use Rattle.call_types.specs.declared.reply.Event.{Event}
@@ -23,8 +23,8 @@ use Rattle.worker_core.proofs.Answered.{answer_licensed}
 use Rattle.std.proofs.Common.{◌++◌, append_assoc}
 use Rattle.std.specs.Prelude.{⊤}
 use Rattle.std.proofs.Common.{◌≡◌, ◌∙◌, ◌⊎◌, ℕ, ◌+◌, ◌-◌, ◌≤◌, ◌<◌, List, [], ◌∷◌, Bool, true, false, true≢false, Some, None, inl, inr, refl, sym, ap, subst, arith}
-use Rattle.kube_types.specs.declared.parts.Kind.{Kind}
-use Rattle.kube_types.proofs.SameKeys.{same_kind-Decides}
+use Rattle.kube_parts.specs.declared.parts.Kind.{Kind}
+use Rattle.kube_objects.proofs.SameKeys.{same_kind-Decides}
 use Rattle.call_types.specs.declared.entry.Entry.{Entry}
 use Rattle.call_types.specs.declared.reply.Reply.{Reply}
 use Rattle.call_types.specs.declared.request.Request.{Request}
@@ -59,7 +59,9 @@ use Rattle.settle_calls.proofs.Passes.Reaching.{ReachedBehind, behind_on as behi
 
 module _ (setup : Setup) (seat base : ℕ) where
   -- one call on
-  module _ (s given next : ActorState) (request : Request) (reply : Reply) (h : List Entry) (built : IsBuiltKind s.role.kind) (ready : IsReady seat s h) (turn : IsTurn s given (Call request)) (whole : IsHistory setup (told_entry seat given request reply ∷ h)) (absorbs : next ≡ absorbed given next.caches request (Told reply)) (begun : base ≤ (world setup h).store.version) where
+  module _ (s given next : ActorState) (request : Request) (reply : Reply) (h : List Entry) (built : IsBuiltKind s.role.kind)
+      (ready : IsReady seat s h) (turn : IsTurn s given (Call request)) (whole : IsHistory setup (told_entry seat given request reply ∷ h))
+      (absorbs : next ≡ absorbed given next.caches request (Told reply)) (begun : base ≤ (world setup h).store.version) where
     g : IsCallGiven setup seat given request reply h
     g = given_at setup seat s given h request reply built ready turn whole
 
@@ -82,25 +84,30 @@ module _ (setup : Setup) (seat base : ℕ) where
         by (Renewed brought same) = let none = subst (λ (q : Pass). place < q.behind) same lt in absurd (omega (arith, none))
 
     pub behind_on : ReachedBehind setup seat base s.role s.pass h → ReachedBehind setup seat base next.role next.pass (told_entry seat given request reply ∷ h)
-    behind_on behind = subst (λ (y : ActorState). ReachedBehind setup seat base y.role y.pass (told_entry seat given request reply ∷ h)) (sym absorbs) (behind_told setup seat base given request reply h g begun (turned behind) next.caches)
+    behind_on behind = subst (λ (y : ActorState). ReachedBehind setup seat base y.role y.pass (told_entry seat given request reply ∷ h))
+        (sym absorbs) (behind_told setup seat base given request reply h g begun (turned behind) next.caches)
 
 -- ---- a slot that begins at this version leaves each kind so
 
 module _ (setup : Setup) (seat : ℕ) (after : ActorState) (past : List Entry) (left : ℕ) (history : IsHistory setup past) (fresh : after.memory.stale ≡ false) (base : ℕ) where
-  reaches : (s : ActorState) (h : List Entry) (b : ℕ) → Runs all_pass seat after past left true s h b → IsBuiltKind s.role.kind → base ≤ (world setup h).store.version → ReachedBehind setup seat base s.role s.pass h → KindsHaveReached base seat s.role.kind past
+  reaches : (s : ActorState) (h : List Entry) (b : ℕ) → Runs all_pass seat after past left true s h b → IsBuiltKind s.role.kind
+      → base ≤ (world setup h).store.version → ReachedBehind setup seat base s.role s.pass h → KindsHaveReached base seat s.role.kind past
   reaches s h b (IsSpent none state entries rest busy) built begun behind = absurd (true≢false busy)
   reaches s h b (IsIdle some ready turn entries rest calm) built begun behind =
       let awake : s.memory.stale ≡ false = ap (λ (m : Memory). m.stale) (sym (turn_memory s after Idle turn)) ∙ fresh in
       subst (KindsHaveReached base seat s.role.kind) (sym entries) (reached_all setup seat base s.role s.pass h behind (idle_rests s after turn awake).passed)
   reaches s h b (Asks given next request reply some ready turn passes absorbs more) built begun behind =
       let whole : IsHistory setup (told_entry seat given request reply ∷ h) = run_older setup all_pass seat after past left true next _ _ more history in
-      let role : next.role ≡ s.role = next_role setup seat base s given next request reply h built ready turn whole absorbs begun ∙ given_role setup seat base s given next request reply h built ready turn whole absorbs begun in
+      let role : next.role ≡ s.role = next_role setup seat base s given next request reply h built ready turn whole absorbs begun
+      ∙ given_role setup seat base s given next request reply h built ready turn whole absorbs begun in
       let up = rises setup (told_entry seat given request reply ∷ []) h in
       subst (λ (r : Role). KindsHaveReached base seat r.kind past) role
-      (reaches next (told_entry seat given request reply ∷ h) (b - 1) more (subst (λ (r : Role). IsBuiltKind r.kind) (sym role) built) (omega (arith, begun, up)) (behind_on setup seat base s given next request reply h built ready turn whole absorbs begun behind))
+      (reaches next (told_entry seat given request reply ∷ h) (b - 1) more (subst (λ (r : Role). IsBuiltKind r.kind) (sym role) built)
+      (omega (arith, begun, up)) (behind_on setup seat base s given next request reply h built ready turn whole absorbs begun behind))
   reaches s h b (IsHeld given next request some ready turn held absorbs more) built begun behind = absurd (true≢false held)
 
-pub slot_reaches : (setup : Setup) (seat : ℕ) (old after : ActorState) (h past : List Entry) (b left : ℕ) → IsHistory setup past → after.memory.stale ≡ false → IsBuiltKind old.role.kind → Runs all_pass seat after past left true (woken old) h b → KindsHaveReached (world setup h).store.version seat old.role.kind past
+pub slot_reaches : (setup : Setup) (seat : ℕ) (old after : ActorState) (h past : List Entry) (b left : ℕ) → IsHistory setup past
+    → after.memory.stale ≡ false → IsBuiltKind old.role.kind → Runs all_pass seat after past left true (woken old) h b → KindsHaveReached (world setup h).store.version seat old.role.kind past
 slot_reaches setup seat old after h past b left history fresh built runs =
     reaches setup seat after past left history fresh (world setup h).store.version (woken old) h b runs built (omega arith) (λ place kind from lt there is. absurd (omega (arith, lt)))
 
@@ -111,7 +118,9 @@ log_versions : (setup : Setup) (past : List Entry) (y : Event) → IsIn y (world
 log_versions setup [] y i = absurd i
 log_versions setup (e ∷ past) y i = by (versions_count_writes setup (world setup past) e.kind e.request) (log_versions setup past y)
   where
-    by : KeepsStore (world setup past) (world setup (e ∷ past)) ⊎ WritesOnce (world setup past) (world setup (e ∷ past)) (reply_to (effect setup (world setup past) e.kind e.request)) → (IsIn y (world setup past).log → y.version ≡ (meta_of y.object).version) → y.version ≡ (meta_of y.object).version
+    by : KeepsStore (world setup past) (world setup (e ∷ past))
+        ⊎ WritesOnce (world setup past) (world setup (e ∷ past)) (reply_to (effect setup (world setup past) e.kind e.request))
+        → (IsIn y (world setup past).log → y.version ≡ (meta_of y.object).version) → y.version ≡ (meta_of y.object).version
     by (inl k) before = before (subst (IsIn y) k.log i)
     by (inr k) before = elim (subst (IsIn y) k.log i) [
       | inl is ↦ subst (λ (z : Event). z.version ≡ (meta_of z.object).version) is k.at
@@ -148,7 +157,8 @@ no_device d setup mine _ may = absurd may.1
 abbrev IsNow : World → World → Object → Type 0
 IsNow old new o = (row_at (key_of o) old.store.rows ≡ Some o) ⊎ (row_at (key_of o) new.store.rows ≡ Some o)
 
-plain_tells : (setup : Setup) (w : World) (mine : List Entry) (r : Request) (o : Object) → AreRows w.store.rows → Licensed seats.Scheduler mine r → is_watch r ≡ false → IsIn o (objects_in (reply_to (effect setup w seats.Scheduler r))) → IsNow w (world_after w (effect setup w seats.Scheduler r)) o
+plain_tells : (setup : Setup) (w : World) (mine : List Entry) (r : Request) (o : Object) → AreRows w.store.rows → Licensed seats.Scheduler mine r
+    → is_watch r ≡ false → IsIn o (objects_in (reply_to (effect setup w seats.Scheduler r))) → IsNow w (world_after w (effect setup w seats.Scheduler r)) o
 unfolding reply_to reply_of world_after after log_after
 plain_tells setup w mine r o order may plain i = by (effect setup w seats.Scheduler r) (effect_form setup w seats.Scheduler r order) i
   where
@@ -188,7 +198,8 @@ module _ (setup : Setup) (seat base : ℕ) where
     pub are : past ≡ newer ++ h
     pub all : AllLate newer h
 
-  tells_late : (s given : ActorState) (request : Request) (reply : Reply) (h : List Entry) → s.role.kind ≡ seats.Scheduler → IsReady seat s h → IsTurn s given (Call request) → IsHistory setup (told_entry seat given request reply ∷ h) → KindsHaveReached base seat given.role.kind h → TellsLate (told_entry seat given request reply) h
+  tells_late : (s given : ActorState) (request : Request) (reply : Reply) (h : List Entry) → s.role.kind ≡ seats.Scheduler → IsReady seat s h
+      → IsTurn s given (Call request) → IsHistory setup (told_entry seat given request reply ∷ h) → KindsHaveReached base seat given.role.kind h → TellsLate (told_entry seat given request reply) h
   tells_late s given request reply h kind ready turn whole reached c i = by (given_so given request g.ask)
     where
       built : IsBuiltKind s.role.kind
@@ -211,7 +222,8 @@ module _ (setup : Setup) (seat base : ℕ) where
           inl (subst (λ k. IsNow (world setup h) (world_after (world setup h) (effect setup (world setup h) k request)) (Claim c)) (sym given_kind)
           (plain_tells setup (world setup h) (own seat h) request (Claim c) (rows_stand_in_order setup h) may other (subst (λ r. IsIn (Claim c) (objects_in r)) said i)))
 
-      read : (k : Kind) → follows given.role.kind k ≡ true → Reads setup seat given k request reply h → IsNow (world setup h) (world setup (told_entry seat given request reply ∷ h)) (Claim c) ⊎ (base < c.meta.version)
+      read : (k : Kind) → follows given.role.kind k ≡ true → Reads setup seat given k request reply h
+          → IsNow (world setup h) (world setup (told_entry seat given request reply ∷ h)) (Claim c) ⊎ (base < c.meta.version)
       read k f (Lists none asks answered) = plain (ap is_watch asks)
       read k f (FindsGone from version some passes asks old answered) = absurd (subst (λ r. IsIn (Claim c) (objects_in r)) answered i)
       read k f (IsTold from some passes asks low within answered) =
@@ -225,7 +237,8 @@ module _ (setup : Setup) (seat base : ℕ) where
       by (GivesRead k eg) = let r = read_called setup seat given request reply h g k eg in read k r.follows_it r.reads
 
   module _ (after : ActorState) (past : List Entry) (left : ℕ) (idle : Bool) (history : IsHistory setup past) where
-    run_late : (s : ActorState) (h : List Entry) (b : ℕ) → Runs all_pass seat after past left idle s h b → s.role.kind ≡ seats.Scheduler → base ≤ (world setup h).store.version → KindsHaveReached base seat s.role.kind h → HaveLate h past
+    run_late : (s : ActorState) (h : List Entry) (b : ℕ) → Runs all_pass seat after past left idle s h b → s.role.kind ≡ seats.Scheduler
+        → base ≤ (world setup h).store.version → KindsHaveReached base seat s.role.kind h → HaveLate h past
     run_late s h b (IsSpent none state entries rest busy) kind begun reached = record { newer = []; are = entries; all = tt }
     run_late s h b (IsIdle some ready turn entries rest calm) kind begun reached = record { newer = []; are = entries; all = tt }
     run_late s h b (IsHeld given next request some ready turn held absorbs more) kind begun reached = absurd (true≢false held)
@@ -234,12 +247,15 @@ module _ (setup : Setup) (seat base : ℕ) where
         let up = rises setup (told_entry seat given request reply ∷ []) h in
         let next_kind : next.role.kind ≡ seats.Scheduler = ap (λ (r : Role). r.kind) (still_role s given next (Call request) request (Told reply) turn absorbs) ∙ kind in
         let given_reached : KindsHaveReached base seat given.role.kind h = subst (λ (r : Role). KindsHaveReached base seat r.kind h) (sym (turn_role s given (Call request) turn)) reached in
-        let rest = run_late next (told_entry seat given request reply ∷ h) (b - 1) more next_kind (omega (arith, begun, up)) (all_on setup seat base s given next request reply h (subst IsBuiltKind (sym kind) tt) ready turn whole absorbs begun reached) in
+        let rest = run_late next (told_entry seat given request reply ∷ h) (b - 1) more next_kind (omega (arith, begun, up))
+        (all_on setup seat base s given next request reply h (subst IsBuiltKind (sym kind) tt) ready turn whole absorbs begun reached) in
         record {
           newer = rest.newer ++ (told_entry seat given request reply ∷ []);
           are = rest.are ∙ sym (append_assoc rest.newer (told_entry seat given request reply ∷ []) h);
           all = late_with rest.newer (told_entry seat given request reply) h rest.all (tells_late s given request reply h kind ready turn whole given_reached);
         }
 
-pub slot_late : (setup : Setup) (seat base : ℕ) (old after : ActorState) (h past : List Entry) (b left : ℕ) → IsHistory setup past → old.role.kind ≡ seats.Scheduler → base ≤ (world setup h).store.version → KindsHaveReached base seat old.role.kind h → Runs all_pass seat after past left true (woken old) h b → HaveLate setup seat base h past
+pub slot_late : (setup : Setup) (seat base : ℕ) (old after : ActorState) (h past : List Entry) (b left : ℕ) → IsHistory setup past
+    → old.role.kind ≡ seats.Scheduler → base ≤ (world setup h).store.version → KindsHaveReached base seat old.role.kind h
+    → Runs all_pass seat after past left true (woken old) h b → HaveLate setup seat base h past
 slot_late setup seat base old after h past b left history kind begun reached runs = run_late setup seat base after past left true history (woken old) h b runs kind begun reached

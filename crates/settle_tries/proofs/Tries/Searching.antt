@@ -4,22 +4,37 @@ use Rattle.std.proofs.Common.{◌≡◌, ◌∙◌, ℕ, ◌≤◌, List, [], �
 use Rattle.std.specs.Prelude.{is_some, map, slice_get}
 use Rattle.std.specs.List.{list_all, list_any}
 use Rattle.plain_data.specs.Pairs.{value_at}
-use Rattle.kube_types.specs.declared.key.Key.{Key}
-use Rattle.kube_types.specs.declared.names.Due.TheVariants as dues
-use Rattle.kube_types.specs.declared.objects.Claim.{Claim as ClaimData}
-use Rattle.kube_types.specs.declared.objects.Node.{Node as NodeData}
-use Rattle.kube_types.specs.declared.objects.Object.{Object}
-use Rattle.kube_types.specs.declared.objects.Object.TheVariants.{Claim, Pod}
-use Rattle.kube_types.specs.declared.objects.Pod.{Pod as PodData}
-use Rattle.kube_types.specs.Bindings.{is_completed, is_scheduled, selected_node}
-use Rattle.kube_types.specs.declared.parts.Kind.TheVariants as kinds
-use Rattle.kube_types.specs.Keys.{key_of, row_at, rows_of}
-use Rattle.kube_types.proofs.KeyOrder.{row_at_key}
+use Rattle.kube_objects.specs.declared.key.Key.{Key}
+use Rattle.kube_parts.specs.declared.names.Due.TheVariants as dues
+use Rattle.kube_objects.specs.declared.objects.Claim.{Claim as ClaimData}
+use Rattle.kube_objects.specs.declared.objects.Node.{Node as NodeData}
+use Rattle.kube_objects.specs.declared.objects.Object.{Object}
+use Rattle.kube_objects.specs.declared.objects.Object.TheVariants.{Claim, Pod}
+use Rattle.kube_objects.specs.declared.objects.Pod.{Pod as PodData}
+use Rattle.kube_objects.specs.Bindings.{is_completed, is_scheduled, selected_node}
+use Rattle.kube_parts.specs.declared.parts.Kind.TheVariants as kinds
+use Rattle.kube_objects.specs.Keys.{key_of, row_at, rows_of}
+use Rattle.kube_objects.proofs.KeyOrder.{row_at_key}
 use Rattle.call_types.specs.declared.entry.Entry.{Entry}
 use Rattle.call_types.specs.declared.request.Request.{Request}
 use Rattle.call_types.specs.declared.request.SeatKind.TheVariants as seats
 use Rattle.call_types.specs.declared.setup.Setup.{Setup}
-use Rattle.binder_model.specs.Choice.{GoesNowhere, Searches, Waits, are_completed, assigned_node, claims_of, first_taking, has_carrier, is_other, is_served_elsewhere, is_under_way, lacks_claim, others_of, step_of}
+use Rattle.binder_model.specs.Choice.{
+  GoesNowhere,
+  Searches,
+  Waits,
+  are_completed,
+  assigned_node,
+  claims_of,
+  first_taking,
+  has_carrier,
+  is_other,
+  is_served_elsewhere,
+  is_under_way,
+  lacks_claim,
+  others_of,
+  step_of,
+}
 use Rattle.binder_model.specs.Due.{IsDue}
 use Rattle.binder_model.specs.ObjectKeys.{claim_key}
 use Rattle.binder_model.specs.Promises.{IsRunOf}
@@ -88,7 +103,8 @@ searched_waits rows p e = by (lacks_claim rows p) (are_completed rows p) (list_a
     never None f = true≢false (sym f)
     never (Some n) f = true≢false (sym f)
 
-    by : (l d s u : Bool) → is_searching (if l then GoesNowhere else if d then assigned_node (first_taking rows p (rows_of kinds.Node rows)) else if s then Waits else if u then Waits else Searches) ≡ true → u ≡ false
+    by : (l d s u : Bool) → is_searching (if l then GoesNowhere else if d then assigned_node (first_taking rows p (rows_of kinds.Node rows)) else if
+        s then Waits else if u then Waits else Searches) ≡ true → u ≡ false
     by true d s u f = absurd (true≢false (sym f))
     by false true s u f = absurd (never (first_taking rows p (rows_of kinds.Node rows)) f)
     by false false true u f = absurd (true≢false (sym f))
@@ -99,7 +115,8 @@ pub due_open : (setup : Setup) (w : World) (p : PodData) → is_scheduled p ≡ 
 due_open setup w p waits due = open_of w.store.rows p (searched_waits w.store.rows p (prepare_due setup w p (step_of w.store.rows p) (waiting_due setup w p (Some dues.Prepare) waits due)).0)
 
 -- a claim that a pod names in one world it names in another where it stands so
-pub named_there : (rows : List Object) (p q : PodData) (c d : ClaimData) → content_of (Pod p) ≡ content_of (Pod q) → (n : IsNamed rows p c) → (others : List Object) → row_at (claim_key p.meta.namespace n.name) others ≡ Some (Claim d) → IsNamed others q d
+pub named_there : (rows : List Object) (p q : PodData) (c d : ClaimData) → content_of (Pod p) ≡ content_of (Pod q) → (n : IsNamed rows p c)
+    → (others : List Object) → row_at (claim_key p.meta.namespace n.name) others ≡ Some (Claim d) → IsNamed others q d
 named_there rows p q c d same n others there = record {
   name = n.name;
   among = subst (SomeOf (λ m. m ≡ n.name)) (ap pods_claims same) n.among;
@@ -134,12 +151,16 @@ pub record HasSearched (setup : Setup) (seat : ℕ) (role : Role) (h past : List
   pub writes : List Request
   pub searched : IsSearched (world setup point).store.rows now (last_refused (world setup point).store.rows now state.memory.tries.refused) writes
   pub stay : StayUpTo setup pod h point
-  pub placed : (name : List ℕ) → SomeOf (λ n. n ≡ name) pod.claims → (c : ClaimData) → row_at (claim_key pod.meta.namespace name) (world setup past).store.rows ≡ Some (Claim c) → is_completed c ≡ false → has_carrier (world setup past).store.rows c ≡ false
+  pub placed : (name : List ℕ) → SomeOf (λ n. n ≡ name) pod.claims → (c : ClaimData)
+      → row_at (claim_key pod.meta.namespace name) (world setup past).store.rows ≡ Some (Claim c) → is_completed c ≡ false → has_carrier (world setup past).store.rows c ≡ false
       → value_at selected_node c.meta.annotations ≡ Some searched.name
 
-module _ (setup : Setup) (seat : ℕ) (old after : ActorState) (h past : List Entry) (b left : ℕ) (kind : old.role.kind ≡ seats.Scheduler) (run : IsRunOf setup past) (order : AreAlwaysInOrder setup past) (idle : old.under ≡ None)
-    (runs : Runs all_pass seat after past left true (woken old) h b) (paid : HavePaid setup h past) (le : work_left setup (world setup h) ≤ work_left setup (world setup past)) (shares : SharesWell (world setup h))
-    (key : Key) (pod : PodData) (there : row_at key (world setup h).store.rows ≡ Some (Pod pod)) (waits : is_scheduled pod ≡ false) (due : IsDue setup (world setup h) (Pod pod) (Some dues.Prepare)) (o : Object) (cached : row_at key (all_objects old.caches) ≡ Some o) where
+module _ (setup : Setup) (seat : ℕ) (old after : ActorState) (h past : List Entry) (b left : ℕ) (kind : old.role.kind ≡ seats.Scheduler)
+    (run : IsRunOf setup past) (order : AreAlwaysInOrder setup past) (idle : old.under ≡ None)
+    (runs : Runs all_pass seat after past left true (woken old) h b) (paid : HavePaid setup h past)
+    (le : work_left setup (world setup h) ≤ work_left setup (world setup past)) (shares : SharesWell (world setup h))
+    (key : Key) (pod : PodData) (there : row_at key (world setup h).store.rows ≡ Some (Pod pod)) (waits : is_scheduled pod ≡ false)
+    (due : IsDue setup (world setup h) (Pod pod) (Some dues.Prepare)) (o : Object) (cached : row_at key (all_objects old.caches) ≡ Some o) where
   history : IsHistory setup past
   history = runs_are_histories setup past run.run
 
@@ -179,24 +200,28 @@ module _ (setup : Setup) (seat : ℕ) (old after : ActorState) (h past : List En
     stay : StayUpTo setup pod start g
     near : AreNear (world setup h) (world setup g)
 
-  keeps : (start before : List Entry) → start ≡ before ++ h → (e : Entry) (g newer older : List Entry) → past ≡ newer ++ (e ∷ g) → g ≡ older ++ start → EntrySo setup seat old.role kind key start e g → Kept start g → Kept start (e ∷ g)
+  keeps : (start before : List Entry) → start ≡ before ++ h → (e : Entry) (g newer older : List Entry) → past ≡ newer ++ (e ∷ g) → g ≡ older ++ start
+      → EntrySo setup seat old.role kind key start e g → Kept start g → Kept start (e ∷ g)
   keeps start before since e g newer older are behind so k = record {
     stay = keep setup seat old.role kind h past run order paid le shares key pod there waits start before since e g newer older are behind so k.stay;
-    near = near_at (e ∷ g) (record { newer = newer; older = e ∷ older ++ before; ahead = are; behind = ap (λ es. e ∷ es) (behind ∙ (ap (λ es. older ++ es) since ∙ sym (append_assoc older before h))) });
+    near = near_at (e ∷ g) (record
+        { newer = newer; older = e ∷ older ++ before; ahead = are; behind = ap (λ es. e ∷ es) (behind ∙ (ap (λ es. older ++ es) since ∙ sym (append_assoc older before h))) });
   }
 
   at_start : OnRun setup seat old.role kind key after past left history fresh (woken old) h
   at_start = record { budget = b; runs = runs; role_is = refl; knows = nothing_behind setup seat old h }
 
   first : IsTakenUp setup seat old.role kind key after past left history fresh h (Kept h)
-  first = elim (walks setup seat old.role kind key after past left history fresh h (Kept h) (keeps h [] refl) true drop (woken old) h [] at_start refl (λ u e. none_some (sym idle ∙ e)) (record { stay = stay_here setup pod h; near = no_nearer (world setup h) }) waiting) [
-    | inl t ↦ t
-    | inr x ↦ absurd (true≢false x.0)
-  ]
+  first = elim (walks setup seat old.role kind key after past left history fresh h (Kept h) (keeps h [] refl) true drop
+      (woken old) h [] at_start refl (λ u e. none_some (sym idle ∙ e)) (record { stay = stay_here setup pod h; near = no_nearer (world setup h) }) waiting) [
+        | inl t ↦ t
+        | inr x ↦ absurd (true≢false x.0)
+      ]
     where
       drop : true ≡ true → (s : ActorState) (g older : List Entry) → g ≡ older ++ h → Kept h g → IsDropped setup seat old.role kind key s g → ⊥
       drop m s g older since k d =
-          (pods_act setup seat old.role g key (pod_at g k.near).pod dues.Prepare run.imports kind (pod_at g k.near).there (waits_at g k.near) (due_at g k.near (k.stay g (record { newer = []; older = older; ahead = refl; behind = since })))).acts s g d.first d.sees d.none
+          (pods_act setup seat old.role g key (pod_at g k.near).pod dues.Prepare run.imports kind (pod_at g k.near).there (waits_at g k.near)
+          (due_at g k.near (k.stay g (record { newer = []; older = older; ahead = refl; behind = since })))).acts s g d.first d.sees d.none
 
       waiting : true ≡ true → waits_in key (woken old).work ≡ true
       waiting m = cached_waits all_pass seat key o old after h past b left idle
@@ -205,7 +230,8 @@ module _ (setup : Setup) (seat : ℕ) (old after : ActorState) (h past : List En
   -- ---- the decision
 
   grown : (more : List Entry) × (past ≡ more ++ (own_entry setup seat old.role.kind first.point first.under.call ∷ first.point))
-  grown = let on = first.asked.on in let g = run_grows all_pass seat after past left true first.asked.next (own_entry setup seat old.role.kind first.point first.under.call ∷ first.point) on.budget on.runs in (g.longer.added, g.longer.are)
+  grown = let on = first.asked.on in let g =
+      run_grows all_pass seat after past left true first.asked.next (own_entry setup seat old.role.kind first.point first.under.call ∷ first.point) on.budget on.runs in (g.longer.added, g.longer.are)
 
   within : IsWithin h first.point past
   within = record {
@@ -253,7 +279,8 @@ module _ (setup : Setup) (seat : ℕ) (old after : ActorState) (h past : List En
   ends : (cs : List ClaimData) → is_one.writes ≡ map (placing searched.name) cs → Each (Stands (world setup first.point).store.rows) cs → AreApart cs → Ends cs
   ends [] are stand apart = none_some (sym (ap (λ ws. slice_get ws 0) are) ∙ is_one.first)
   ends (c ∷ cs) are stand apart =
-      through setup seat old.role kind key run_x.imports searched.name is_one.writes after past left history fresh c cs 0 first.point (subst (Asked setup seat old.role kind key after past left history fresh first.point) under_is first.asked)
+      through setup seat old.role kind key run_x.imports searched.name is_one.writes after past left history fresh c cs 0 first.point
+      (subst (Asked setup seat old.role kind key after past left history fresh first.point) under_is first.asked)
       (subst (AreFrom is_one.writes 0) are (all_from is_one.writes)) stand apart
     where
       op_is : is_one.schedules.op ≡ record { writes = is_one.writes; step = steps.Writes 0 }
@@ -279,7 +306,8 @@ module _ (setup : Setup) (seat : ℕ) (old after : ActorState) (h past : List En
   since_end = end.behind ∙ (ap (λ es. end.older ++ es) first.behind ∙ sym (append_assoc end.older first.older h))
 
   end_within : IsWithin h end.at past
-  end_within = let on = end.on in let g = run_grows all_pass seat after past left true end.state end.at on.budget on.runs in record { newer = g.longer.added; older = end.older ++ first.older; ahead = g.longer.are; behind = since_end }
+  end_within = let on = end.on in let g = run_grows all_pass seat after past left true end.state end.at on.budget on.runs in
+      record { newer = g.longer.added; older = end.older ++ first.older; ahead = g.longer.are; behind = since_end }
 
   near_end : AreNear (world setup h) (world setup end.at)
   near_end = near_at end.at end_within
@@ -287,7 +315,9 @@ module _ (setup : Setup) (seat : ℕ) (old after : ActorState) (h past : List En
   near_x_end : AreNear (world setup first.point) (world setup end.at)
   near_x_end = then_near (world setup first.point) (world setup h) (world setup end.at) (back_near (world setup h) (world setup first.point) first.holds.near) near_end
 
-  module _ (name : List ℕ) (among : SomeOf (λ n. n ≡ name) pod.claims) (c : ClaimData) (there_c : row_at (claim_key pod.meta.namespace name) (world setup end.at).store.rows ≡ Some (Claim c)) (undone : is_completed c ≡ false) (uncarried : has_carrier (world setup end.at).store.rows c ≡ false) where
+  module _ (name : List ℕ) (among : SomeOf (λ n. n ≡ name) pod.claims) (c : ClaimData)
+      (there_c : row_at (claim_key pod.meta.namespace name) (world setup end.at).store.rows ≡ Some (Claim c)) (undone : is_completed c ≡ false)
+      (uncarried : has_carrier (world setup end.at).store.rows c ≡ false) where
     -- a claim that needs a volume needed one when the pod was decided
     its_claim : ClaimNear (world setup first.point) (claim_key pod.meta.namespace name) c
     its_claim = claim_near (world setup first.point) (world setup end.at) (claim_key pod.meta.namespace name) c near_x_end there_c
@@ -300,7 +330,8 @@ module _ (setup : Setup) (seat : ℕ) (old after : ActorState) (h past : List En
     }
 
     it_needs_one : is_other (world setup first.point).store.rows its_claim.claim ≡ true
-    it_needs_one = open_is_other (world setup first.point).store.rows its_claim.claim (completed_near its_claim.claim c its_claim.same ∙ undone) (carrier_near (world setup first.point) (world setup end.at) its_claim.claim c near_x_end its_claim.same ∙ uncarried)
+    it_needs_one = open_is_other (world setup first.point).store.rows its_claim.claim (completed_near its_claim.claim c its_claim.same ∙ undone)
+        (carrier_near (world setup first.point) (world setup end.at) its_claim.claim c near_x_end its_claim.same ∙ uncarried)
 
     its_node : NodeAt setup seat old.role kind key run_x.imports searched.name end.at its_claim.claim
     its_node = other_of (world setup first.point).store.rows is_one.pod (NodeAt setup seat old.role kind key run_x.imports searched.name end.at) end.placed its_claim.claim its_name it_needs_one
@@ -323,12 +354,14 @@ module _ (setup : Setup) (seat : ℕ) (old after : ActorState) (h past : List En
   open_there = ap (λ s. row_at (claim_key s open_x.named.name) (world setup first.point).store.rows) (sym (ap pods_namespace pod_same)) ∙ open_x.named.there
 
   open_end : ClaimNear (world setup end.at) (claim_key pod.meta.namespace open_x.named.name) open_x.claim
-  open_end = claim_near (world setup end.at) (world setup first.point) (claim_key pod.meta.namespace open_x.named.name) open_x.claim (back_near (world setup first.point) (world setup end.at) near_x_end) open_there
+  open_end = claim_near (world setup end.at) (world setup first.point) (claim_key pod.meta.namespace open_x.named.name) open_x.claim
+      (back_near (world setup first.point) (world setup end.at) near_x_end) open_there
 
   -- the pod is not decided with a call again
   module _ (t : IsTakenUp setup seat old.role kind key after past left history fresh end.at (Kept end.at)) where
     made : (more : List Entry) × (past ≡ more ++ (own_entry setup seat old.role.kind t.point t.under.call ∷ t.point))
-    made = let on = t.asked.on in let g = run_grows all_pass seat after past left true t.asked.next (own_entry setup seat old.role.kind t.point t.under.call ∷ t.point) on.budget on.runs in (g.longer.added, g.longer.are)
+    made = let on = t.asked.on in let g = run_grows all_pass seat after past left true t.asked.next (own_entry setup seat old.role.kind t.point
+        t.under.call ∷ t.point) on.budget on.runs in (g.longer.added, g.longer.are)
 
     within_y : IsWithin h t.point past
     within_y = record {
@@ -393,13 +426,15 @@ module _ (setup : Setup) (seat : ℕ) (old after : ActorState) (h past : List En
         by (SearchesOne s) = open_never (open_of (world setup t.point).store.rows again.pod s.search.waiting)
 
   kept_end : Kept end.at past
-  kept_end = elim (walks setup seat old.role kind key after past left history fresh end.at (Kept end.at) (keeps end.at (end.older ++ first.older) since_end) false (λ m. absurd (true≢false (sym m))) end.state end.at [] end.on refl (λ u e. none_some (sym end.idle ∙ e))
+  kept_end = elim (walks setup seat old.role kind key after past left history fresh end.at (Kept end.at)
+      (keeps end.at (end.older ++ first.older) since_end) false (λ m. absurd (true≢false (sym m))) end.state end.at [] end.on refl (λ u e. none_some (sym end.idle ∙ e))
       (record { stay = stay_here setup pod end.at; near = near_end }) (λ m. absurd (true≢false (sym m)))) [
         | inl t ↦ absurd (taken_never t)
         | inr k ↦ k.1
       ]
 
-  placed_past : (name : List ℕ) → SomeOf (λ n. n ≡ name) pod.claims → (c : ClaimData) → row_at (claim_key pod.meta.namespace name) (world setup past).store.rows ≡ Some (Claim c) → is_completed c ≡ false → has_carrier (world setup past).store.rows c ≡ false
+  placed_past : (name : List ℕ) → SomeOf (λ n. n ≡ name) pod.claims → (c : ClaimData)
+      → row_at (claim_key pod.meta.namespace name) (world setup past).store.rows ≡ Some (Claim c) → is_completed c ≡ false → has_carrier (world setup past).store.rows c ≡ false
       → value_at selected_node c.meta.annotations ≡ Some searched.name
   placed_past name among c there_c undone uncarried =
       let here : IsWithin end.at past past = record { newer = []; older = end_within.newer; ahead = refl; behind = end_within.ahead } in

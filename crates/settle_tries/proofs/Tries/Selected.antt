@@ -2,13 +2,13 @@
 use Rattle.std.proofs.Common.{ℕ, ◌≡◌, ◌∙◌, ◌⊎◌, ◌≤◌, ◌+◌, Bool, true, false, true≢false, List, [], ◌∷◌, ◌++◌, append_assoc, Option, Some, inl, inr, refl, sym, ap, subst, arith, if◌then◌else◌}
 use Rattle.std.specs.Prelude.{◌==◌}
 use Rattle.std.proofs.lemmas.Bool.Decides.{nat_tests}
-use Rattle.kube_types.specs.declared.key.Key.{Key}
-use Rattle.kube_types.specs.declared.uid.Uid.{Uid}
-use Rattle.kube_types.specs.declared.objects.Claim.{Claim as ClaimData}
-use Rattle.kube_types.specs.declared.objects.Object.TheVariants.{Class, Node, Volume, Claim, Pod}
-use Rattle.kube_types.specs.declared.parts.Kind.{Kind}
-use Rattle.kube_types.specs.declared.parts.Kind.TheVariants as kinds
-use Rattle.kube_types.specs.Keys.{key_of, kind_of, row_at}
+use Rattle.kube_objects.specs.declared.key.Key.{Key}
+use Rattle.kube_parts.specs.declared.uid.Uid.{Uid}
+use Rattle.kube_objects.specs.declared.objects.Claim.{Claim as ClaimData}
+use Rattle.kube_objects.specs.declared.objects.Object.TheVariants.{Class, Node, Volume, Claim, Pod}
+use Rattle.kube_parts.specs.declared.parts.Kind.{Kind}
+use Rattle.kube_parts.specs.declared.parts.Kind.TheVariants as kinds
+use Rattle.kube_objects.specs.Keys.{key_of, kind_of, row_at}
 use Rattle.call_types.specs.declared.entry.Entry.{Entry}
 use Rattle.call_types.specs.declared.request.Request.{Request}
 use Rattle.call_types.specs.declared.request.Request.TheVariants as requests
@@ -53,7 +53,8 @@ pub record Updates (r : Request) : Type 0 where
 pub scheduler_updates : (w : World) (mine : List Entry) (r : Request) (c : ClaimData) → Licensed seats.Scheduler mine r → Writes w seats.Scheduler r (Claim c) → Updates r
 unfolding at_version with_meta
 scheduler_updates w mine (requests.Update (Claim new) given) c may u = record { asked = new; given = given; is = refl }
-scheduler_updates w mine (requests.Update (Volume new) given) c may u = absurd (true≢false (ap (λ (k : Key). is_claim_kind k.kind) (ap key_of u.is ∙ key-updated u.old (Volume new) (w.store.version + 1))))
+scheduler_updates w mine (requests.Update (Volume new) given) c may u =
+    absurd (true≢false (ap (λ (k : Key). is_claim_kind k.kind) (ap key_of u.is ∙ key-updated u.old (Volume new) (w.store.version + 1))))
 scheduler_updates w mine (requests.Update (Class x) given) c may u = absurd may.1
 scheduler_updates w mine (requests.Update (Node x) given) c may u = absurd may.1
 scheduler_updates w mine (requests.Update (Pod x) given) c may u = absurd may.1
@@ -74,7 +75,8 @@ pub record WasPut (setup : Setup) (newer h : List Entry) (c : ClaimData) : Type 
   pub are : newer ≡ ahead ++ (entry ∷ behind)
   pub put : IsPut (world setup (behind ++ h)) (effect setup (world setup (behind ++ h)) entry.kind entry.request) (Claim c)
 
-pub was_put : (setup : Setup) (k : Key) (c : ClaimData) (newer h : List Entry) → row_at k (world setup (newer ++ h)).store.rows ≡ Some (Claim c) → (row_at k (world setup h).store.rows ≡ Some (Claim c)) ⊎ WasPut setup newer h c
+pub was_put : (setup : Setup) (k : Key) (c : ClaimData) (newer h : List Entry) → row_at k (world setup (newer ++ h)).store.rows ≡ Some (Claim c)
+    → (row_at k (world setup h).store.rows ≡ Some (Claim c)) ⊎ WasPut setup newer h c
 was_put setup k c [] h at = inl at
 was_put setup k c (e ∷ newer) h at = elim (row_step setup e (newer ++ h) k (Claim c) at) [
   | inr new ↦ inr (record { ahead = []; entry = e; behind = newer; are = refl; put = new })
@@ -100,7 +102,8 @@ module _ (setup : Setup) (seat : ℕ) (uid : Uid) (c : ClaimData) (known : c.met
   of_uid t u b = if b then Some t else Some u
 
   -- the entry selects it
-  selected_then : (m : Tries) (asked : ClaimData) (given : Option ℕ) (node : List ℕ) → node_selected_for c ≡ Some node → StandsSince (select_if (requests.Update (Claim asked) given) (Done (Claim c)) m)
+  selected_then : (m : Tries) (asked : ClaimData) (given : Option ℕ) (node : List ℕ) → node_selected_for c ≡ Some node
+      → StandsSince (select_if (requests.Update (Claim asked) given) (Done (Claim c)) m)
   selected_then m asked given node on = subst (λ u. StandsSince (select u (node_selected_for c) c m)) (sym known) (subst (λ n. StandsSince (select (Some uid) n c m)) (sym on) here)
     where
       new : Tried
@@ -109,8 +112,10 @@ module _ (setup : Setup) (seat : ℕ) (uid : Uid) (c : ClaimData) (known : c.met
       here : StandsSince (select (Some uid) (Some node) c m)
       here = record { tried = new; at = ap (λ b. if b then Some new else tried_of uid (without_tried uid m.selected)) (uid_same uid); since = omega arith }
 
-  select_since : (w : World) (kind : SeatKind) (request : Request) (reply : Reply) (m : Tries) → reply ≡ reply_to (effect setup w kind request) → c.meta.version ≤ w.store.version → StandsSince m → StandsSince (select_if request reply m)
-  select_since w kind request reply m said low s = let after = select_stands request reply m uid (s.tried, s.at) in record { tried = after.0; at = after.1; since = by after.0 (select_finds request reply m uid after.0 after.1) }
+  select_since : (w : World) (kind : SeatKind) (request : Request) (reply : Reply) (m : Tries) → reply ≡ reply_to (effect setup w kind request)
+      → c.meta.version ≤ w.store.version → StandsSince m → StandsSince (select_if request reply m)
+  select_since w kind request reply m said low s = let after = select_stands request reply m uid (s.tried, s.at) in
+      record { tried = after.0; at = after.1; since = by after.0 (select_finds request reply m uid after.0 after.1) }
     where
       newly : (r : Request) (a : Reply) (t : Tried) → request ≡ r → reply ≡ a → Selecting t r a → c.meta.version ≤ t.version
       newly (requests.Update (Claim asked) given) (Done (Claim d)) t er ea x =
@@ -134,7 +139,8 @@ module _ (setup : Setup) (seat : ℕ) (uid : Uid) (c : ClaimData) (known : c.met
         let key = one_uid_one_key setup past run.imports run.short (Claim d) (Claim c) uid stood_ (stood setup past (Claim c) there) its known in
         stood_low setup past (Claim d) (Claim c) stood_ (ap (λ k. row_at k (world setup past).store.rows) key ∙ there)
 
-    since_on : (newer h : List Entry) → (ahead : List Entry) → past ≡ ahead ++ (newer ++ h) → Stood setup h (Claim c) → StandsSince (tries_of (own seat h)) → StandsSince (tries_of (own seat (newer ++ h)))
+    since_on : (newer h : List Entry) → (ahead : List Entry) → past ≡ ahead ++ (newer ++ h) → Stood setup h (Claim c)
+        → StandsSince (tries_of (own seat h)) → StandsSince (tries_of (own seat (newer ++ h)))
     since_on [] h ahead are stood_ s = s
     since_on (e ∷ newer) h ahead are stood_ s = by (e.seat == seat) refl (since_on newer h (ahead ++ (e ∷ [])) (are ∙ sym (append_assoc ahead (e ∷ []) (newer ++ h))) stood_ s)
       where
@@ -147,9 +153,11 @@ module _ (setup : Setup) (seat : ℕ) (uid : Uid) (c : ClaimData) (known : c.met
             let low = told_low d (subst (λ es. Stood setup es (Claim d)) (sym are) (stood_grows setup ahead (e ∷ newer ++ h) (Claim d) here)) its in
             never_newer t d (omega (arith, low, since))
 
-        told : (b : Bool) → StandsSince (tries_of (own seat (newer ++ h))) → StandsSince (if b then tries_after e.request e.reply (tries_of (own seat (newer ++ h))) else tries_of (own seat (newer ++ h)))
+        told : (b : Bool) → StandsSince (tries_of (own seat (newer ++ h)))
+            → StandsSince (if b then tries_after e.request e.reply (tries_of (own seat (newer ++ h))) else tries_of (own seat (newer ++ h)))
         told true x =
-            select_since (world setup (newer ++ h)) e.kind e.request e.reply (see_all (objects_in e.reply) (tries_of (own seat (newer ++ h)))) whole.1 (version_stood setup (newer ++ h) (Claim c) (stood_grows setup newer h (Claim c) stood_))
+            select_since (world setup (newer ++ h)) e.kind e.request e.reply
+            (see_all (objects_in e.reply) (tries_of (own seat (newer ++ h)))) whole.1 (version_stood setup (newer ++ h) (Claim c) (stood_grows setup newer h (Claim c) stood_))
             (record { tried = x.tried; at = all_stay (objects_in e.reply) (tries_of (own seat (newer ++ h))) uid x.tried x.at (spares x.tried x.since); since = x.since })
         told false x = x
 
@@ -158,7 +166,8 @@ module _ (setup : Setup) (seat : ℕ) (uid : Uid) (c : ClaimData) (known : c.met
         by false is x = x
 
     -- so where it was put by an entry of the scheduler that was told
-    pub stands_selected : (ahead behind : List Entry) (e : Entry) → past ≡ ahead ++ (e ∷ behind) → e.seat ≡ seat → e.told ≡ true → e.kind ≡ seats.Scheduler → IsPut (world setup behind) (effect setup (world setup behind) e.kind e.request) (Claim c) → (node : List ℕ) → node_selected_for c ≡ Some node
+    pub stands_selected : (ahead behind : List Entry) (e : Entry) → past ≡ ahead ++ (e ∷ behind) → e.seat ≡ seat → e.told ≡ true
+        → e.kind ≡ seats.Scheduler → IsPut (world setup behind) (effect setup (world setup behind) e.kind e.request) (Claim c) → (node : List ℕ) → node_selected_for c ≡ Some node
         → Stands uid (tries_of (own seat past))
     stands_selected ahead behind e are seat_same is_told kind put node on = let s = all in (s.tried, s.at)
       where
@@ -172,7 +181,8 @@ module _ (setup : Setup) (seat : ℕ) (uid : Uid) (c : ClaimData) (known : c.met
         written = subst (EffectOf setup (world setup behind) e.kind e.request) put.is (effect_form setup (world setup behind) e.kind e.request (rows_stand_in_order setup behind))
 
         u : Updates e.request
-        u = scheduler_updates (world setup behind) (own e.seat behind) e.request c (subst (λ k. Licensed k (own e.seat behind) e.request) kind may) (subst (λ k. Writes (world setup behind) k e.request (Claim c)) kind written)
+        u = scheduler_updates (world setup behind) (own e.seat behind) e.request c (subst (λ k. Licensed k (own e.seat behind) e.request) kind may)
+            (subst (λ k. Writes (world setup behind) k e.request (Claim c)) kind written)
 
         reply : e.reply ≡ Done (Claim c)
         reply = whole.1 ∙ put.done
@@ -183,7 +193,9 @@ module _ (setup : Setup) (seat : ℕ) (uid : Uid) (c : ClaimData) (known : c.met
         first : StandsSince (tries_of (own seat (e ∷ behind)))
         first =
             let x = selected_then (see_all (objects_in e.reply) (tries_of (own seat behind))) u.asked u.given node on in
-            let y : StandsSince (tries_after e.request e.reply (tries_of (own seat behind))) = subst (λ r. StandsSince (select_if r e.reply (see_all (objects_in e.reply) (tries_of (own seat behind))))) (sym u.is) (subst (λ a. StandsSince (select_if (requests.Update (Claim u.asked) u.given) a (see_all (objects_in e.reply) (tries_of (own seat behind))))) (sym reply) x) in
+            let y : StandsSince (tries_after e.request e.reply (tries_of (own seat behind))) =
+            subst (λ r. StandsSince (select_if r e.reply (see_all (objects_in e.reply) (tries_of (own seat behind))))) (sym u.is)
+            (subst (λ a. StandsSince (select_if (requests.Update (Claim u.asked) u.given) a (see_all (objects_in e.reply) (tries_of (own seat behind))))) (sym reply) x) in
             subst (λ b. StandsSince (tries_of (if b then e ∷ own seat behind else own seat behind))) (sym same_seat)
             (subst (λ b. StandsSince (if b then tries_after e.request e.reply (tries_of (own seat behind)) else tries_of (own seat behind))) (sym is_told) y)
 

@@ -2,20 +2,33 @@
 use Rattle.std.proofs.Common.{◌≡◌, ◌∙◌, ◌⊎◌, ℕ, List, [], ◌∷◌, Bool, true, false, true≢false, Option, Some, None, inl, inr, refl, sym, ap, subst}
 use Rattle.std.specs.Prelude.{is_none, is_some, not, ◌&&◌, unwrap_or}
 use Rattle.plain_data.specs.Pairs.{value_at}
-use Rattle.kube_types.specs.declared.key.Key.{Key}
-use Rattle.kube_types.specs.declared.parts.Kind.{Kind}
-use Rattle.kube_types.specs.declared.parts.Kind.TheVariants as kinds
-use Rattle.kube_types.specs.declared.objects.Claim.{Claim as ClaimData}
-use Rattle.kube_types.specs.declared.objects.Class.{Class as ClassData}
-use Rattle.kube_types.specs.declared.objects.Meta.{Meta}
-use Rattle.kube_types.specs.declared.objects.Object.{Object}
-use Rattle.kube_types.specs.declared.objects.Object.TheVariants.{Class, Node, Volume, Claim, Pod}
-use Rattle.kube_types.specs.declared.objects.Pod.{Pod as PodData}
-use Rattle.kube_types.specs.declared.objects.Volume.{Volume as VolumeData}
-use Rattle.kube_types.specs.Bindings.{beta_class, bind_completed, bound_by_controller, class_of_claim, has_key, is_completed, is_empty, is_protected_claim, is_scheduled, lacks_class, selected_node, yes}
-use Rattle.kube_types.specs.Keys.{key_of, kind_of, put_row, row_at, without_row}
-use Rattle.kube_types.proofs.KeyOrder.{row_at-put_row, row_at-put_row_other, row_at-without_row, row_at-without_row_other, row_at_key}
-use Rattle.kube_types.proofs.SameKeys.{key_tells}
+use Rattle.kube_objects.specs.declared.key.Key.{Key}
+use Rattle.kube_parts.specs.declared.parts.Kind.{Kind}
+use Rattle.kube_parts.specs.declared.parts.Kind.TheVariants as kinds
+use Rattle.kube_objects.specs.declared.objects.Claim.{Claim as ClaimData}
+use Rattle.kube_objects.specs.declared.objects.Class.{Class as ClassData}
+use Rattle.kube_objects.specs.declared.objects.Meta.{Meta}
+use Rattle.kube_objects.specs.declared.objects.Object.{Object}
+use Rattle.kube_objects.specs.declared.objects.Object.TheVariants.{Class, Node, Volume, Claim, Pod}
+use Rattle.kube_objects.specs.declared.objects.Pod.{Pod as PodData}
+use Rattle.kube_objects.specs.declared.objects.Volume.{Volume as VolumeData}
+use Rattle.kube_objects.specs.Bindings.{
+  beta_class,
+  bind_completed,
+  bound_by_controller,
+  class_of_claim,
+  has_key,
+  is_completed,
+  is_empty,
+  is_protected_claim,
+  is_scheduled,
+  lacks_class,
+  selected_node,
+  yes,
+}
+use Rattle.kube_objects.specs.Keys.{key_of, kind_of, put_row, row_at, without_row}
+use Rattle.kube_objects.proofs.KeyOrder.{row_at-put_row, row_at-put_row_other, row_at-without_row, row_at-without_row_other, row_at_key}
+use Rattle.kube_objects.proofs.SameKeys.{key_tells}
 use Rattle.call_types.specs.declared.entry.Entry.{Entry}
 use Rattle.call_types.specs.declared.reply.Reply.{Reply}
 use Rattle.call_types.specs.declared.request.NewStatus.TheVariants as statuses
@@ -64,10 +77,10 @@ use Rattle.settle_writes.specs.Writes.Valid.{IsValid}
 use Rattle.binder_model.specs.Fields.{create_fault, faulty, kind_fault}
 use Rattle.binder_model.specs.Told.{SomeOf}
 use Rattle.binder_model.specs.Choice.{claim_in}
-use Rattle.kube_types.specs.declared.names.Field.{Field}
-use Rattle.kube_types.specs.declared.names.Field.TheVariants as fields
+use Rattle.kube_parts.specs.declared.names.Field.{Field}
+use Rattle.kube_parts.specs.declared.names.Field.TheVariants as fields
 use Rattle.call_types.specs.declared.request.NewStatus.{NewStatus}
-use Rattle.kube_types.specs.Keys.{AreRows}
+use Rattle.kube_objects.specs.Keys.{AreRows}
 use Rattle.std.proofs.Common.{◌+◌}
 use Rattle.binder_model.specs.Fields.{is_subdomain}
 use Rattle.binder_model.specs.Store.{State}
@@ -77,8 +90,10 @@ use Rattle.settle_alike.proofs.Near.Near.{claim_or, pod_or}
 
 -- over a pod, over a claim, or a volume
 data Keeps (w : World) (o : Object) : Type 0 where
-  OverPod : (old p : PodData) → row_at (key_of o) w.store.rows ≡ Some (Pod old) → o ≡ Pod p → is_scheduled old ≡ false ⊎ (is_scheduled p ≡ is_scheduled old) → old.meta.namespace ≡ p.meta.namespace → old.claims ≡ p.claims → Keeps w o
-  OverClaim : (old c : ClaimData) → row_at (key_of o) w.store.rows ≡ Some (Claim old) → o ≡ Claim c → (is_completed old ≡ true → is_completed c ≡ true) → (class_of_claim old ≡ class_of_claim c) ⊎ (class_of_claim old ≡ []) → Keeps w o
+  OverPod : (old p : PodData) → row_at (key_of o) w.store.rows ≡ Some (Pod old) → o ≡ Pod p → is_scheduled old ≡ false
+      ⊎ (is_scheduled p ≡ is_scheduled old) → old.meta.namespace ≡ p.meta.namespace → old.claims ≡ p.claims → Keeps w o
+  OverClaim : (old c : ClaimData) → row_at (key_of o) w.store.rows ≡ Some (Claim old) → o ≡ Claim c
+      → (is_completed old ≡ true → is_completed c ≡ true) → (class_of_claim old ≡ class_of_claim c) ⊎ (class_of_claim old ≡ []) → Keeps w o
   OfVolume : (key_of o).kind ≡ kinds.PersistentVolume → Keeps w o
 
 abbrev is_kind_pod : Kind → Bool
@@ -117,7 +132,13 @@ module _ (w : World) (o : Object) (keeps : Keeps w o) where
       by : Keeps w o → StoodOpen w (key_of o) c
       by (OverClaim old d there same done class) =
           let d_is : d ≡ c = ap (claim_or c) (sym same ∙ is) in
-          record { claim = old; there = there; completed = λ e. subst (λ x. is_completed x ≡ true) d_is (done e); class = subst (λ x. (class_of_claim old ≡ class_of_claim x) ⊎ (class_of_claim old ≡ [])) d_is class }
+          record {
+            claim = old;
+            there = there;
+            completed = λ e. subst (λ x. is_completed x ≡ true) d_is (done e);
+            class =
+                subst (λ x. (class_of_claim old ≡ class_of_claim x) ⊎ (class_of_claim old ≡ [])) d_is class;
+          }
       by (OverPod old q there same open_ namespace claims) = absurd (true≢false (sym (ap (λ x. is_kind_claim (kind_of x)) (sym same ∙ is))))
       by (OfVolume kind) = absurd (true≢false (sym (sym (ap is_kind_claim kind) ∙ ap (λ x. is_kind_claim (key_of x).kind) is)))
 
@@ -137,11 +158,13 @@ module _ (w : World) (o : Object) (keeps : Keeps w o) where
   moved_keeps : (order : AreRows w.store.rows) (new : World) → IsMoved w.store.rows new.store.rows o → KeepsSharing w new
   moved_keeps order new (inl put) = record {
     pods = λ key p there waits. elim (key_tells (key_of o) key) [
-      | inl same ↦ subst (λ k. WaitedSo w k p) same (pod_kept p (one o (Pod p) (sym (row_at-put_row o w.store.rows) ∙ (ap (λ k. row_at k (put_row o w.store.rows)) same ∙ (ap (row_at key) (sym put) ∙ there)))) waits)
+      | inl same ↦ subst (λ k. WaitedSo w k p) same
+          (pod_kept p (one o (Pod p) (sym (row_at-put_row o w.store.rows) ∙ (ap (λ k. row_at k (put_row o w.store.rows)) same ∙ (ap (row_at key) (sym put) ∙ there)))) waits)
       | inr other ↦ record { pod = p; there = sym (row_at-put_row_other key o w.store.rows other) ∙ (ap (row_at key) (sym put) ∙ there); waits = waits; namespace = refl; claims = refl }
     ];
     claims = λ key c there. elim (key_tells (key_of o) key) [
-      | inl same ↦ subst (λ k. StoodOpen w k c) same (claim_kept c (one o (Claim c) (sym (row_at-put_row o w.store.rows) ∙ (ap (λ k. row_at k (put_row o w.store.rows)) same ∙ (ap (row_at key) (sym put) ∙ there)))))
+      | inl same ↦ subst (λ k. StoodOpen w k c) same
+          (claim_kept c (one o (Claim c) (sym (row_at-put_row o w.store.rows) ∙ (ap (λ k. row_at k (put_row o w.store.rows)) same ∙ (ap (row_at key) (sym put) ∙ there)))))
       | inr other ↦ record { claim = c; there = sym (row_at-put_row_other key o w.store.rows other) ∙ (ap (row_at key) (sym put) ∙ there); completed = λ e. e; class = inl refl }
     ];
     classes = λ key x there. elim (key_tells (key_of o) key) [
@@ -171,7 +194,8 @@ record LeavesClaim (old new : ClaimData) : Type 0 where
   class : (class_of_claim old ≡ class_of_claim new) ⊎ (class_of_claim old ≡ [])
 
 -- the same class, and it is completed if it was
-same_words : (old new : ClaimData) → value_at bind_completed new.meta.annotations ≡ value_at bind_completed old.meta.annotations → value_at beta_class new.meta.annotations ≡ value_at beta_class old.meta.annotations → new.class ≡ old.class → LeavesClaim old new
+same_words : (old new : ClaimData) → value_at bind_completed new.meta.annotations ≡ value_at bind_completed old.meta.annotations
+    → value_at beta_class new.meta.annotations ≡ value_at beta_class old.meta.annotations → new.class ≡ old.class → LeavesClaim old new
 same_words old new completed beta class = record { completed = λ e. ap is_some completed ∙ e; class = inl (λ i. unwrap_or (sym beta i) (unwrap_or (sym class i) [])) }
 
 completed_beta : (c : ClaimData) (v : VolumeData) → value_at beta_class (completed_with c v).meta.annotations ≡ value_at beta_class c.meta.annotations
@@ -216,7 +240,11 @@ module _ (mine : List Entry) (new c : ClaimData) where
   guard_leaves : (b : Bool) → ClaimMay (claim_guard b) mine new c → LeavesClaim c new
   guard_leaves true may =
       let annotations = ap (λ (m : Meta). m.annotations) may.guard.change in
-      record { completed = λ e. ap (λ ps. has_key bind_completed ps) annotations ∙ e; class = inl (λ i. unwrap_or (value_at beta_class (sym annotations i)) (unwrap_or (sym (ap (λ (x : ClaimData). x.class) may.rest) i) [])) }
+      record {
+        completed = λ e. ap (λ ps. has_key bind_completed ps) annotations ∙ e;
+        class =
+            inl (λ i. unwrap_or (value_at beta_class (sym annotations i)) (unwrap_or (sym (ap (λ (x : ClaimData). x.class) may.rest) i) []));
+      }
   guard_leaves false may = subst (LeavesClaim c) (sym may.change) (record { completed = λ e. e; class = inl refl })
 
   selected_leaves : MaySelectNode mine c new → LeavesClaim c new
@@ -284,7 +312,8 @@ module _ (setup : Setup) (seat : ℕ) (h : List Entry) (history : IsHistory setu
   unfolding updated_object with_meta with_status_of
   claim_written new Row leaves r =
       let l = leaves r.on r.row in
-      OverClaim r.on (claim_or new o) r.there (r.is ∙ ap (λ x. Claim (claim_or new x)) (sym r.is)) (λ e. ap (λ x. is_completed (claim_or new x)) r.is ∙ l.completed e) (elim l.class [ inl same ↦ inl (same ∙ sym (ap (λ x. class_of_claim (claim_or new x)) r.is)) | inr none ↦ inr none ])
+      OverClaim r.on (claim_or new o) r.there (r.is ∙ ap (λ x. Claim (claim_or new x)) (sym r.is))
+      (λ e. ap (λ x. is_completed (claim_or new x)) r.is ∙ l.completed e) (elim l.class [ inl same ↦ inl (same ∙ sym (ap (λ x. class_of_claim (claim_or new x)) r.is)) | inr none ↦ inr none ])
 
   volume_written : (kind : SeatKind) (new : VolumeData) (given : Option ℕ) → Writes w kind (requests.Update (Volume new) given) o → Keeps w o
   volume_written kind new given u = OfVolume (ap (λ (k : Key). k.kind) (ap key_of u.is ∙ key-updated u.old (Volume new) (w.store.version + 1)))
@@ -303,7 +332,8 @@ module _ (setup : Setup) (seat : ℕ) (h : List Entry) (history : IsHistory setu
     where
       by : (old : Object) → row_at key w.store.rows ≡ Some old → with_status (statuses.Claim phase modes amount) old ≡ Some i.new → Keeps w o
       by (Claim c) there e =
-          let is : o ≡ at_version (Claim (record c { phase = phase; got_modes = modes; got = amount })) (w.store.version + 1) = i.is ∙ ap (λ x. at_version x (w.store.version + 1)) (sym (one _ i.new e)) in
+          let is : o ≡ at_version (Claim (record c { phase = phase; got_modes = modes; got = amount })) (w.store.version + 1) = i.is
+          ∙ ap (λ x. at_version x (w.store.version + 1)) (sym (one _ i.new e)) in
           OverClaim c (record c { phase = phase; got_modes = modes; got = amount; meta = record c.meta { version = w.store.version + 1 } })
           (ap (λ k. row_at k w.store.rows) (ap key_of is ∙ row_at_key key (Claim c) w.store.rows there) ∙ there) is (λ d. d) (inl refl)
       by (Class x) there e = none_some e
@@ -311,30 +341,40 @@ module _ (setup : Setup) (seat : ℕ) (h : List Entry) (history : IsHistory setu
       by (Volume x) there e = none_some e
       by (Pod x) there e = none_some e
 
-  pod_written : (key : Key) (old p : PodData) → row_at key w.store.rows ≡ Some (Pod old) → o ≡ at_version (Pod p) (w.store.version + 1) → is_scheduled old ≡ false ⊎ (is_scheduled p ≡ is_scheduled old) → old.meta ≡ p.meta → old.claims ≡ p.claims → Keeps w o
+  pod_written : (key : Key) (old p : PodData) → row_at key w.store.rows ≡ Some (Pod old) → o ≡ at_version (Pod p) (w.store.version + 1)
+      → is_scheduled old ≡ false ⊎ (is_scheduled p ≡ is_scheduled old) → old.meta ≡ p.meta → old.claims ≡ p.claims → Keeps w o
   unfolding at_version with_meta
   pod_written key old p there is open_ meta claims =
       OverPod old (record p { meta = record p.meta { version = w.store.version + 1 } })
-      (ap (λ k. row_at k w.store.rows) (ap key_of is ∙ (ap (λ (m : Meta). key_of (Pod (record old { meta = m }))) (sym meta) ∙ row_at_key key (Pod old) w.store.rows there)) ∙ there) is open_ (ap (λ (m : Meta). m.namespace) meta) claims
+      (ap (λ k. row_at k w.store.rows) (ap key_of is ∙
+      (ap (λ (m : Meta). key_of (Pod (record old { meta = m }))) (sym meta) ∙ row_at_key key (Pod old) w.store.rows there)) ∙ there) is open_ (ap (λ (m : Meta). m.namespace) meta) claims
 
   -- by the kind of the actor
   keeps : (kind : SeatKind) (r : Request) → IsBuiltKind kind → Licensed kind (own seat h) r → Writes w kind r o → Keeps w o
-  keeps kind (requests.Create x) built may i = OfVolume (volume_made kind (key_of o).kind (ap (λ (k : Key). makes kind k.kind) (ap key_of i.is ∙ key-created _ x _ _) ∙ creates kind (own seat h) x built may))
+  keeps kind (requests.Create x) built may i =
+      OfVolume (volume_made kind (key_of o).kind (ap (λ (k : Key). makes kind k.kind) (ap key_of i.is ∙ key-created _ x _ _) ∙ creates kind (own seat h) x built may))
   keeps kind (requests.Update (Volume new) given) built may u = volume_written kind new given u
   keeps seats.Binder (requests.Update (Claim new) given) built may u =
-      claim_written new (λ c. ClaimMay (binder_claim (is_completed new)) (own seat h) new c) (λ c row. binder_leaves (own seat h) new c (is_completed new) row) (rewrites setup seat h history seats.Binder new given o (λ c. ClaimMay (binder_claim (is_completed new)) (own seat h) new c) may.1 u)
+      claim_written new (λ c. ClaimMay (binder_claim (is_completed new)) (own seat h) new c)
+      (λ c row. binder_leaves (own seat h) new c (is_completed new) row)
+      (rewrites setup seat h history seats.Binder new given o (λ c. ClaimMay (binder_claim (is_completed new)) (own seat h) new c) may.1 u)
   keeps seats.ClaimProtect (requests.Update (Claim new) given) built may u =
       claim_written new (λ c. ClaimMay (claim_guard (is_protected_claim new)) (own seat h) new c) (λ c row. guard_leaves (own seat h) new c (is_protected_claim new) row)
       (rewrites setup seat h history seats.ClaimProtect new given o (λ c. ClaimMay (claim_guard (is_protected_claim new)) (own seat h) new c) may.1 u)
-  keeps seats.Scheduler (requests.Update (Claim new) given) built may u = claim_written new (λ c. MaySelectNode (own seat h) c new) (λ c row. selected_leaves (own seat h) new c row) (rewrites setup seat h history seats.Scheduler new given o (λ c. MaySelectNode (own seat h) c new) may.1 u)
-  keeps seats.Ops (requests.Update (Claim new) given) built may u = claim_written new (λ c. MayClearNode (own seat h) c new) (λ c row. cleared_leaves (own seat h) new c row) (rewrites setup seat h history seats.Ops new given o (λ c. MayClearNode (own seat h) c new) may.1 u)
+  keeps seats.Scheduler (requests.Update (Claim new) given) built may u =
+      claim_written new (λ c. MaySelectNode (own seat h) c new) (λ c row. selected_leaves (own seat h) new c row)
+      (rewrites setup seat h history seats.Scheduler new given o (λ c. MaySelectNode (own seat h) c new) may.1 u)
+  keeps seats.Ops (requests.Update (Claim new) given) built may u =
+      claim_written new (λ c. MayClearNode (own seat h) c new) (λ c row. cleared_leaves (own seat h) new c row)
+      (rewrites setup seat h history seats.Ops new given o (λ c. MayClearNode (own seat h) c new) may.1 u)
   keeps seats.VolumeProtect (requests.Update (Claim new) given) built may u = absurd may.1
   keeps seats.Agent (requests.Update (Claim new) given) built may u = absurd may.1
   keeps kind (requests.UpdateStatus key status given) built may i = status_written kind key status given i
   keeps kind (requests.BindPod key uid node) built may i = pod_written key i.pod (record i.pod { node = node }) i.there i.is (inl i.unscheduled) refl refl
   keeps kind (requests.FinishPod key uid node epoch) built may i = pod_written key i.pod i.pod i.there i.is (inr refl) refl refl
   keeps kind (requests.Edit key change) built may i = absurd (no_edit kind (own seat h) key change built may)
-  keeps seats.Ops (requests.Delete key (Some uid)) built may i = OfVolume (ap (λ (k : Key). k.kind) (ap key_of i.is ∙ (key-marked i.old (w.store.version + 1) w.moment ∙ row_at_key key i.old w.store.rows i.there)) ∙ may.1.0)
+  keeps seats.Ops (requests.Delete key (Some uid)) built may i =
+      OfVolume (ap (λ (k : Key). k.kind) (ap key_of i.is ∙ (key-marked i.old (w.store.version + 1) w.moment ∙ row_at_key key i.old w.store.rows i.there)) ∙ may.1.0)
   keeps seats.Ops (requests.Delete key None) built may i = absurd may.1
   keeps seats.Binder (requests.Delete key given) built may i = absurd may.1
   keeps seats.Scheduler (requests.Delete key given) built may i = absurd may.1
@@ -372,12 +412,14 @@ then_shared a b c ab bc = record {
       record { class = t.class; there = t.there; delayed = t.delayed ∙ s.delayed });
 }
   where
-    both_classes : (x y z : ClaimData) → (class_of_claim x ≡ class_of_claim y) ⊎ (class_of_claim x ≡ []) → (class_of_claim y ≡ class_of_claim z) ⊎ (class_of_claim y ≡ []) → (class_of_claim x ≡ class_of_claim z) ⊎ (class_of_claim x ≡ [])
+    both_classes : (x y z : ClaimData) → (class_of_claim x ≡ class_of_claim y) ⊎ (class_of_claim x ≡ []) → (class_of_claim y ≡ class_of_claim z)
+        ⊎ (class_of_claim y ≡ []) → (class_of_claim x ≡ class_of_claim z) ⊎ (class_of_claim x ≡ [])
     both_classes x y z (inl same) (inl more) = inl (same ∙ more)
     both_classes x y z (inl same) (inr none) = inr (same ∙ none)
     both_classes x y z (inr none) second = inr none
 
-call_shared : (setup : Setup) (seat : ℕ) (x : ActorState) (request : Request) (reply : Reply) (h : List Entry) → IsBuiltKind x.role.kind → IsCalled setup seat x request reply h → KeepsSharing (world setup h) (world setup (told_entry seat x request reply ∷ h))
+call_shared : (setup : Setup) (seat : ℕ) (x : ActorState) (request : Request) (reply : Reply) (h : List Entry) → IsBuiltKind x.role.kind
+    → IsCalled setup seat x request reply h → KeepsSharing (world setup h) (world setup (told_entry seat x request reply ∷ h))
 call_shared setup seat x request reply h built called = by (comes_to (world setup h) (effect setup (world setup h) x.role.kind request))
   where
     by : ComesTo (world setup h) (effect setup (world setup h) x.role.kind request) → KeepsSharing (world setup h) (world setup (told_entry seat x request reply ∷ h))
@@ -390,20 +432,25 @@ call_shared setup seat x request reply h built called = by (comes_to (world setu
           classes = λ key y there. record { class = y; there = ap (λ (s : State). row_at key s.rows) e ∙ there; delayed = refl };
         }
     by (Wrote o written version moved) =
-        let asked = write_asked setup (world setup h) x.role.kind request o (effect setup (world setup h) x.role.kind request) (effect_form setup (world setup h) x.role.kind request (rows_stand_in_order setup h)) written in
-        moved_keeps (world setup h) o (keeps setup seat h (runs_are_histories setup (told_entry seat x request reply ∷ h) called.run.run).0 o x.role.kind request built called.may asked) (rows_stand_in_order setup h) (world setup (told_entry seat x request reply ∷ h)) moved
+        let asked = write_asked setup (world setup h) x.role.kind request o (effect setup (world setup h) x.role.kind request)
+        (effect_form setup (world setup h) x.role.kind request (rows_stand_in_order setup h)) written in
+        moved_keeps (world setup h) o (keeps setup seat h (runs_are_histories setup (told_entry seat x request reply ∷ h) called.run.run).0 o
+        x.role.kind request built called.may asked) (rows_stand_in_order setup h) (world setup (told_entry seat x request reply ∷ h)) moved
 
-slot_shared : (setup : Setup) (lets : Lets) (seat : ℕ) (old after : ActorState) (h past : List Entry) (b left : ℕ) (idle : Bool) → IsBuiltKind old.role.kind → IsRunOf setup past → Runs lets seat after past left idle (woken old) h b → KeepsSharing (world setup h) (world setup past)
+slot_shared : (setup : Setup) (lets : Lets) (seat : ℕ) (old after : ActorState) (h past : List Entry) (b left : ℕ) (idle : Bool)
+    → IsBuiltKind old.role.kind → IsRunOf setup past → Runs lets seat after past left idle (woken old) h b → KeepsSharing (world setup h) (world setup past)
 slot_shared setup lets seat old after h past b left idle built run runs =
     run_moves setup lets seat after past left idle run old.role built KeepsSharing none_shared then_shared
     (λ x request reply g is called. call_shared setup seat x request reply g (subst (λ (r : Role). IsBuiltKind r.kind) (sym is) built) called) (woken old) h b runs refl
 
-round_shared : (setup : Setup) (lets : Lets) (past : List Entry) (left : ℕ) (run : IsRunOf setup past) (ds : List Drainer) (h : List Entry) (b : ℕ) (after : List Drainer) (whole : Bool) → IsRound lets past left ds h b after whole → AreBuilt (roles_of ds) → KeepsSharing (world setup h) (world setup past)
+round_shared : (setup : Setup) (lets : Lets) (past : List Entry) (left : ℕ) (run : IsRunOf setup past) (ds : List Drainer) (h : List Entry) (b : ℕ)
+    (after : List Drainer) (whole : Bool) → IsRound lets past left ds h b after whole → AreBuilt (roles_of ds) → KeepsSharing (world setup h) (world setup past)
 round_shared setup lets past left run _ h b _ _ (Ends entries rest) built = subst (λ es. KeepsSharing (world setup h) (world setup es)) (sym entries) (none_shared (world setup h))
 round_shared setup lets past left run _ h b _ _ (Turns {ds = ds} {after = after} {whole = whole} d ran middle rest idle seat runs more) built =
     let g = round_grows lets past left ds middle rest after whole more in
     let here = older_run setup g.longer.added middle (subst (IsRunOf setup) g.longer.are run) in
-    then_shared (world setup h) (world setup middle) (world setup past) (slot_shared setup lets d.seat d.actor ran.actor h middle b rest idle built.0 here runs) (round_shared setup lets past left run ds middle rest after whole more built.1)
+    then_shared (world setup h) (world setup middle) (world setup past)
+    (slot_shared setup lets d.seat d.actor ran.actor h middle b rest idle built.0 here runs) (round_shared setup lets past left run ds middle rest after whole more built.1)
 
 -- ---- so claims stay shared well
 
@@ -435,9 +482,11 @@ no_empty_class setup past run at_once = by (row_at (class_key []) (world setup p
     by None there e = true≢false (sym e)
 
 shares_stay : (setup : Setup) (h past : List Entry) → IsRunOf setup h → KeepsSharing (world setup h) (world setup past) → SharesWell (world setup h) → SharesWell (world setup past)
-shares_stay setup h past run keeps well first second namespace name c one_ other differ named = by (keeps.claims (claim_key namespace name) c (claim_there (row_at (claim_key namespace name) (world setup past).store.rows) refl named))
+shares_stay setup h past run keeps well first second namespace name c one_ other differ named =
+    by (keeps.claims (claim_key namespace name) c (claim_there (row_at (claim_key namespace name) (world setup past).store.rows) refl named))
   where
-    claim_there : (x : Option Object) → row_at (claim_key namespace name) (world setup past).store.rows ≡ x → claim_in x ≡ Some c → row_at (claim_key namespace name) (world setup past).store.rows ≡ Some (Claim c)
+    claim_there : (x : Option Object) → row_at (claim_key namespace name) (world setup past).store.rows ≡ x → claim_in x ≡ Some c
+        → row_at (claim_key namespace name) (world setup past).store.rows ≡ Some (Claim c)
     claim_there (Some (Claim d)) e is = e ∙ ap (λ y. Some (Claim y)) (one d c is)
     claim_there (Some (Class x)) e is = none_some is
     claim_there (Some (Node x)) e is = none_some is
@@ -474,4 +523,5 @@ shares_stay setup h past run keeps well first second namespace name c one_ other
 pub rounds_share_well : RoundsShareWell
 rounds_share_well setup lets ds after h past b left whole roles run round well =
     let g = round_grows lets past left ds h b after whole round in
-    shares_stay setup h past (older_run setup g.longer.added h (subst (IsRunOf setup) g.longer.are run)) (round_shared setup lets past left run ds h b after whole round (roles_built (roles_of ds) roles)) well
+    shares_stay setup h past (older_run setup g.longer.added h (subst (IsRunOf setup) g.longer.are run))
+    (round_shared setup lets past left run ds h b after whole round (roles_built (roles_of ds) roles)) well

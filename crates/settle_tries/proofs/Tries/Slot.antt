@@ -3,14 +3,14 @@ use Rattle.std.proofs.Common.{◌≡◌, ◌∙◌, ℕ, ◌-◌, List, [], ◌�
 use Rattle.std.proofs.lemmas.List.{append_cancel_right}
 use Rattle.std.specs.Prelude.{is_some, slice_get}
 use Rattle.std.proofs.lemmas.Bool.{and_parts}
-use Rattle.kube_types.specs.declared.key.Key.{Key}
-use Rattle.kube_types.specs.declared.uid.Uid.{Uid}
-use Rattle.kube_types.specs.declared.names.Due.TheVariants as dues
-use Rattle.kube_types.specs.declared.objects.Claim.{Claim as ClaimData}
-use Rattle.kube_types.specs.declared.objects.Object.TheVariants.{Claim}
-use Rattle.kube_types.specs.Bindings.{has_key, selected_node}
-use Rattle.kube_types.specs.Keys.{key_of, row_at}
-use Rattle.kube_types.proofs.KeyOrder.{row_at_key}
+use Rattle.kube_objects.specs.declared.key.Key.{Key}
+use Rattle.kube_parts.specs.declared.uid.Uid.{Uid}
+use Rattle.kube_parts.specs.declared.names.Due.TheVariants as dues
+use Rattle.kube_objects.specs.declared.objects.Claim.{Claim as ClaimData}
+use Rattle.kube_objects.specs.declared.objects.Object.TheVariants.{Claim}
+use Rattle.kube_objects.specs.Bindings.{has_key, selected_node}
+use Rattle.kube_objects.specs.Keys.{key_of, row_at}
+use Rattle.kube_objects.proofs.KeyOrder.{row_at_key}
 use Rattle.call_types.specs.declared.entry.Entry.{Entry}
 use Rattle.call_types.specs.declared.request.SeatKind.{SeatKind}
 use Rattle.call_types.specs.declared.request.SeatKind.TheVariants as seats
@@ -57,7 +57,8 @@ use Rattle.settle_tries.proofs.Tries.Selected.{WasPut, stands_selected, was_put}
 
 -- ---- the parts of a round whose first slot is known
 
-pub slot_first : (past : List Entry) (left : ℕ) (ds : List Drainer) (h : List Entry) (b : ℕ) (after : List Drainer) (whole : Bool) → IsRound all_pass past left ds h b after whole → whole ≡ true → IsAny (roles_of ds) → HasSlot all_pass past left ds h b after
+pub slot_first : (past : List Entry) (left : ℕ) (ds : List Drainer) (h : List Entry) (b : ℕ) (after : List Drainer) (whole : Bool)
+    → IsRound all_pass past left ds h b after whole → whole ≡ true → IsAny (roles_of ds) → HasSlot all_pass past left ds h b after
 slot_first past left _ h b _ _ (Ends entries rest) is_whole any = absurd any
 slot_first past left _ h b _ _ (Turns {ds = ds} {after = after} {whole = whole} d ran middle rest idle seat runs more) is_whole any =
     let parts = and_parts idle whole is_whole in
@@ -75,9 +76,24 @@ slot_first past left _ h b _ _ (Turns {ds = ds} {after = after} {whole = whole} 
       round = subst (λ w. IsRound all_pass past left ds middle rest after w) parts.1 more;
     }
 
-abbrev pub parts_with : (ds after : List Drainer) (h past : List Entry) (b left : ℕ) (first : Drainer) (slot : List Entry) → AreRoles (roles_of ds) → IsSlotOf ds after h past b left first slot → HasParts all_pass past left ds h b after
+abbrev pub parts_with : (ds after : List Drainer) (h past : List Entry) (b left : ℕ) (first : Drainer) (slot : List Entry) → AreRoles (roles_of ds)
+    → IsSlotOf ds after h past b left first slot → HasParts all_pass past left ds h b after
 parts_with ds after h past b left first slot roles s =
-    let front : HasSlot all_pass past left ds h b after = record { drainer = first; ran = s.ran; behind = s.others; later = s.later; middle = slot; rest = s.rest; ds_are = s.ds_are; after_are = s.after_are; seat = s.seat; runs = s.runs; round = s.round } in
+    let front : HasSlot all_pass past left ds h b after =
+    record {
+      drainer = first;
+      ran = s.ran;
+      behind = s.others;
+      later = s.later;
+      middle = slot;
+      rest = s.rest;
+      ds_are = s.ds_are;
+      after_are =
+          s.after_are;
+      seat = s.seat;
+      runs = s.runs;
+      round = s.round;
+    } in
     let split : first.actor.role ∷ roles_of s.others ≡ of_kind seats.Scheduler ∷ of_kind seats.Ops ∷ roles_behind roles.nodes = sym (ap roles_of s.ds_are) ∙ roles.are in
     let behind : roles_of s.others ≡ of_kind seats.Ops ∷ roles_behind roles.nodes = ap rest_of_roles split in
     let second = slot_first past left s.others slot s.rest s.later true s.round refl (subst IsAny (sym behind) tt) in
@@ -100,7 +116,8 @@ kind_at kind (x ∷ ahead) e behind k = kind_at kind ahead e behind k.1
 
 -- ---- a quiet round
 
-module _ (setup : Setup) (ds after : List Drainer) (h past : List Entry) (b left : ℕ) (q : IsQuietRound setup ds after h past b left) (cached : AreCached setup ds h) (first : Drainer) (slot : List Entry) (s : IsSlotOf ds after h past b left first slot) where
+module _ (setup : Setup) (ds after : List Drainer) (h past : List Entry) (b left : ℕ) (q : IsQuietRound setup ds after h past b left)
+    (cached : AreCached setup ds h) (first : Drainer) (slot : List Entry) (s : IsSlotOf ds after h past b left first slot) where
   abbrev parts : HasParts all_pass past left ds h b after
   parts = parts_with ds after h past b left first slot q.may.may.stand.roles s
 
@@ -146,20 +163,25 @@ module _ (setup : Setup) (ds after : List Drainer) (h past : List Entry) (b left
       follows_it = ap (λ kind. follows kind k.kind) (ap (λ (r : Role). r.kind) (run_role all_pass first.seat s.ran.actor slot s.rest true (woken first.actor) h b s.runs) ∙ first_kind)
 
   -- a claim from which ops takes a node back was written in the scheduler's slot
-  module _ (only : OnlyPrepares setup (world setup h)) (k : Key) (c d : ClaimData) (there : row_at k (world setup slot).store.rows ≡ Some (Claim c)) (has : has_key selected_node c.meta.annotations ≡ true) (taken : row_at k (world setup past).store.rows ≡ Some (Claim d)) (none : has_key selected_node d.meta.annotations ≡ false) where
+  module _ (only : OnlyPrepares setup (world setup h)) (k : Key) (c d : ClaimData) (there : row_at k (world setup slot).store.rows ≡ Some (Claim c))
+      (has : has_key selected_node c.meta.annotations ≡ true) (taken : row_at k (world setup past).store.rows ≡ Some (Claim d)) (none : has_key selected_node d.meta.annotations ≡ false) where
     was_due : provision_due setup (world setup slot) c ≡ Some dues.ClearNode
     was_due =
         let alike = tail_alike setup ds after h past b left q parts in
         let a = stands_alike setup parts.second.middle past k (Claim d) alike taken in
         let n =
         claim_near (world setup parts.second.middle) (world setup past) k d
-        (near_ahead setup h past q.run q.order (all_paid setup ds after h past b left q parts) (stays_up setup ds after h past b left q parts) parts.second.middle (at_second setup ds after h past b left q parts)) taken in
+        (near_ahead setup h past q.run q.order (all_paid setup ds after h past b left q parts)
+        (stays_up setup ds after h past b left q parts) parts.second.middle (at_second setup ds after h past b left q parts)) taken in
         let same : content_of (Claim n.claim) ≡ content_of (Claim d) = sym (ap content_of (one a.object (Claim n.claim) (sym a.there ∙ n.there))) ∙ a.same in
-        taken_were_due setup parts.second.drainer.seat parts.second.drainer.actor parts.second.ran.actor slot parts.second.middle s.rest parts.second.rest true k c n.claim (ap (λ (r : Role). r.kind) parts.ops) (second_run setup ds after h past b left q parts)
-        (second_order setup ds after h past b left q parts) (ops_idle setup ds after h past b left q parts cached) parts.second.runs (ops_paid setup ds after h past b left q parts) (ops_stays setup ds after h past b left q parts) there n.there has (ap is_some (one_node_so n.claim d same) ∙ none)
+        taken_were_due setup parts.second.drainer.seat parts.second.drainer.actor parts.second.ran.actor slot parts.second.middle s.rest
+        parts.second.rest true k c n.claim (ap (λ (r : Role). r.kind) parts.ops) (second_run setup ds after h past b left q parts)
+        (second_order setup ds after h past b left q parts) (ops_idle setup ds after h past b left q parts cached) parts.second.runs
+        (ops_paid setup ds after h past b left q parts) (ops_stays setup ds after h past b left q parts) there n.there has (ap is_some (one_node_so n.claim d same) ∙ none)
 
     pub not_so : (x : ClaimData) → row_at k (world setup h).store.rows ≡ Some (Claim x) → content_of (Claim x) ≡ content_of (Claim c) → ⊥
-    not_so x before same = none_due setup h k x dues.ClearNode only before (near_provisions setup (world setup h) (world setup slot) x c (near_first setup ds after h past b left q parts cached) same ∙ was_due)
+    not_so x before same = none_due setup h k x dues.ClearNode only before (near_provisions setup (world setup h) (world setup slot) x c
+        (near_first setup ds after h past b left q parts cached) same ∙ was_due)
 
     pub slot_stands : (uid : Uid) (node : List ℕ) → c.meta.uid ≡ Some uid → node_selected_for c ≡ Some node → Stands uid (tries_of (own first.seat slot))
     slot_stands uid node known on = elim (was_put setup k c grown.longer.added h (ap (λ es. row_at k (world setup es).store.rows) (sym grown.longer.are) ∙ there)) [
@@ -179,5 +201,7 @@ module _ (setup : Setup) (ds after : List Drainer) (h past : List Entry) (b left
         put w =
             let by = told_by first.seat w.ahead w.entry w.behind (subst (AreToldOf (first.seat ∷ [])) w.are grown.longer.of_seats) in
             let are : slot ≡ w.ahead ++ (w.entry ∷ w.behind ++ h) = grown.longer.are ∙ (ap (λ es. es ++ h) w.are ∙ append_assoc w.ahead (w.entry ∷ w.behind) h) in
-            let stands : row_at (key_of (Claim c)) (world setup slot).store.rows ≡ Some (Claim c) = ap (λ j. row_at j (world setup slot).store.rows) (row_at_key k (Claim c) (world setup slot).store.rows there) ∙ there in
-            stands_selected setup first.seat uid c known slot slot_run stands w.ahead (w.behind ++ h) w.entry are by.of_seat by.told (kind_at seats.Scheduler w.ahead w.entry w.behind (subst (AreOfKind seats.Scheduler) w.are kinds)) w.put node on
+            let stands : row_at (key_of (Claim c)) (world setup slot).store.rows ≡ Some (Claim c) =
+            ap (λ j. row_at j (world setup slot).store.rows) (row_at_key k (Claim c) (world setup slot).store.rows there) ∙ there in
+            stands_selected setup first.seat uid c known slot slot_run stands w.ahead (w.behind ++ h) w.entry are by.of_seat by.told
+            (kind_at seats.Scheduler w.ahead w.entry w.behind (subst (AreOfKind seats.Scheduler) w.are kinds)) w.put node on

@@ -1,13 +1,13 @@
 -- Only ops creates objects, and only volumes: all else that stands stood before.
 use Rattle.std.proofs.Common.{◌≡◌, ◌∙◌, ℕ, List, [], ◌∷◌, Bool, true, false, true≢false, Some, inl, inr, refl, sym, ap, subst}
-use Rattle.kube_types.specs.declared.key.Key.{Key}
-use Rattle.kube_types.specs.declared.parts.Kind.{Kind}
-use Rattle.kube_types.specs.declared.parts.Kind.TheVariants as kinds
-use Rattle.kube_types.specs.declared.objects.Object.{Object}
-use Rattle.kube_types.specs.declared.objects.Object.TheVariants.{Class, Node, Volume, Claim, Pod}
-use Rattle.kube_types.specs.Keys.{key_of, row_at}
-use Rattle.kube_types.proofs.KeyOrder.{row_at-put_row_other, row_at-without_row, row_at-without_row_other, row_at_key}
-use Rattle.kube_types.proofs.SameKeys.{key_tells}
+use Rattle.kube_objects.specs.declared.key.Key.{Key}
+use Rattle.kube_parts.specs.declared.parts.Kind.{Kind}
+use Rattle.kube_parts.specs.declared.parts.Kind.TheVariants as kinds
+use Rattle.kube_objects.specs.declared.objects.Object.{Object}
+use Rattle.kube_objects.specs.declared.objects.Object.TheVariants.{Class, Node, Volume, Claim, Pod}
+use Rattle.kube_objects.specs.Keys.{key_of, row_at}
+use Rattle.kube_objects.proofs.KeyOrder.{row_at-put_row_other, row_at-without_row, row_at-without_row_other, row_at_key}
+use Rattle.kube_objects.proofs.SameKeys.{key_tells}
 use Rattle.call_types.specs.declared.edit.Edit.{Edit}
 use Rattle.call_types.specs.declared.entry.Entry.{Entry}
 use Rattle.call_types.specs.declared.reply.Reply.{Reply}
@@ -41,7 +41,7 @@ use Rattle.settle_write_counts.proofs.Rounds.Runs.{IsCalled, run_moves}
 use Rattle.settle_write_counts.proofs.Rounds.Slots.{ComesTo, Leaves, Wrote, comes_to}
 use Rattle.std.specs.Prelude.{⊤}
 use Rattle.binder_model.specs.Store.{State}
-use Rattle.kube_types.specs.Keys.{without_row}
+use Rattle.kube_objects.specs.Keys.{without_row}
 use Rattle.std.proofs.Common.{◌+◌}
 
 -- the key is a volume's
@@ -107,28 +107,34 @@ module _ (w : World) (mine : List Entry) (kind : SeatKind) (built : IsBuiltKind 
   stood (requests.FinishPod key uid node epoch) o may i none = over key (Pod i.pod) o i.there (ap key_of i.is)
   stood _ o may i none = absurd i
 
-call_stood : (setup : Setup) (seat : ℕ) (x : ActorState) (request : Request) (reply : Reply) (h : List Entry) (kind : SeatKind) → x.role.kind ≡ kind → IsBuiltKind kind → IsCalled setup seat x request reply h → KeysStood kind (world setup h) (world setup (told_entry seat x request reply ∷ h))
+call_stood : (setup : Setup) (seat : ℕ) (x : ActorState) (request : Request) (reply : Reply) (h : List Entry) (kind : SeatKind) → x.role.kind ≡ kind
+    → IsBuiltKind kind → IsCalled setup seat x request reply h → KeysStood kind (world setup h) (world setup (told_entry seat x request reply ∷ h))
 call_stood setup seat x request reply h kind of_kind built called key p none there = by (comes_to (world setup h) (effect setup (world setup h) x.role.kind request))
   where
-    by_move : (o : Object) → Writes (world setup h) x.role.kind request o → IsMoved (world setup h).store.rows (world setup (told_entry seat x request reply ∷ h)).store.rows o → StandsIn (world setup h) key
+    by_move : (o : Object) → Writes (world setup h) x.role.kind request o
+        → IsMoved (world setup h).store.rows (world setup (told_entry seat x request reply ∷ h)).store.rows o → StandsIn (world setup h) key
     by_move o writes (inl put) = elim (key_tells (key_of o) key) [
       | inl same ↦ subst (StandsIn (world setup h)) same
-          (stood (world setup h) (own seat h) kind built request o (subst (λ k. Licensed k (own seat h) request) of_kind called.may) (subst (λ k. Writes (world setup h) k request o) of_kind writes) (ap (λ (k : Key). makes kind k.kind) same ∙ none))
+          (stood (world setup h) (own seat h) kind built request o (subst (λ k. Licensed k (own seat h) request) of_kind called.may)
+          (subst (λ k. Writes (world setup h) k request o) of_kind writes) (ap (λ (k : Key). makes kind k.kind) same ∙ none))
       | inr other ↦ record { object = p; there = sym (row_at-put_row_other key o (world setup h).store.rows other) ∙ (ap (row_at key) (sym put) ∙ there) }
     ]
     by_move o writes (inr gone) = elim (key_tells (key_of o) key) [
-      | inl same ↦ none_some (sym (row_at-without_row (key_of o) (world setup h).store.rows (rows_stand_in_order setup h)) ∙ (ap (λ k. row_at k (without_row (key_of o) (world setup h).store.rows)) same ∙ (ap (row_at key) (sym gone) ∙ there)))
+      | inl same ↦ none_some (sym (row_at-without_row (key_of o) (world setup h).store.rows (rows_stand_in_order setup h)) ∙
+          (ap (λ k. row_at k (without_row (key_of o) (world setup h).store.rows)) same ∙ (ap (row_at key) (sym gone) ∙ there)))
       | inr other ↦ record { object = p; there = sym (row_at-without_row_other (key_of o) key (world setup h).store.rows other) ∙ (ap (row_at key) (sym gone) ∙ there) }
     ]
 
     by : ComesTo (world setup h) (effect setup (world setup h) x.role.kind request) → StandsIn (world setup h) key
     by (Leaves same) = record { object = p; there = ap (λ (s : State). row_at key s.rows) (sym same) ∙ there }
     by (Wrote o written version moved) =
-        by_move o (write_asked setup (world setup h) x.role.kind request o (effect setup (world setup h) x.role.kind request) (effect_form setup (world setup h) x.role.kind request (rows_stand_in_order setup h)) written) moved
+        by_move o (write_asked setup (world setup h) x.role.kind request o (effect setup (world setup h) x.role.kind request)
+        (effect_form setup (world setup h) x.role.kind request (rows_stand_in_order setup h)) written) moved
 
 -- ---- slots and rounds
 
-pub slot_stood : (setup : Setup) (lets : Lets) (seat : ℕ) (old after : ActorState) (h past : List Entry) (b left : ℕ) (idle : Bool) → IsBuiltKind old.role.kind → IsRunOf setup past → Runs lets seat after past left idle (woken old) h b → KeysStood old.role.kind (world setup h) (world setup past)
+pub slot_stood : (setup : Setup) (lets : Lets) (seat : ℕ) (old after : ActorState) (h past : List Entry) (b left : ℕ) (idle : Bool)
+    → IsBuiltKind old.role.kind → IsRunOf setup past → Runs lets seat after past left idle (woken old) h b → KeysStood old.role.kind (world setup h) (world setup past)
 slot_stood setup lets seat old after h past b left idle built run runs =
     run_moves setup lets seat after past left idle run old.role built (KeysStood old.role.kind) (λ w key o none there. record { object = o; there = there })
     (λ a b c ab bc key o none there. let s = bc key o none there in ab key s.object none s.there)
@@ -139,7 +145,8 @@ abbrev pub MakeNone : List Role → Type 0
 MakeNone [] = ⊤
 MakeNone (role ∷ roles) = (IsBuiltKind role.kind × ((kind : Kind) → makes role.kind kind ≡ false)) × MakeNone roles
 
-pub round_stood : (setup : Setup) (lets : Lets) (past : List Entry) (left : ℕ) (run : IsRunOf setup past) (ds : List Drainer) (h : List Entry) (b : ℕ) (after : List Drainer) (whole : Bool) → IsRound lets past left ds h b after whole → MakeNone (roles_of ds)
+pub round_stood : (setup : Setup) (lets : Lets) (past : List Entry) (left : ℕ) (run : IsRunOf setup past) (ds : List Drainer) (h : List Entry)
+    (b : ℕ) (after : List Drainer) (whole : Bool) → IsRound lets past left ds h b after whole → MakeNone (roles_of ds)
     → (key : Key) (o : Object) → row_at key (world setup past).store.rows ≡ Some o → StandsIn (world setup h) key
 round_stood setup lets past left run _ h b _ _ (Ends entries rest) none key o there = record { object = o; there = ap (λ es. row_at key (world setup es).store.rows) (sym entries) ∙ there }
 round_stood setup lets past left run _ h b _ _ (Turns {ds = ds} {after = after} {whole = whole} d ran middle rest idle seat runs more) none key o there =

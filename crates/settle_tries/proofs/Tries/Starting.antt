@@ -1,14 +1,14 @@
 -- A pod that waits at the end of a quiet round, with one of its claims without a node, was to be prepared when the round began.
 use Rattle.std.proofs.Common.{◌≡◌, ◌∙◌, ◌⊎◌, ℕ, ◌≤◌, List, [], ◌∷◌, ◌++◌, Bool, true, false, true≢false, Some, inl, inr, refl, sym, ap, subst}
 use Rattle.std.specs.Prelude.{is_some}
-use Rattle.kube_types.specs.declared.key.Key.{Key}
-use Rattle.kube_types.specs.declared.names.Due.TheVariants as dues
-use Rattle.kube_types.specs.declared.objects.Object.{Object}
-use Rattle.kube_types.specs.declared.objects.Object.TheVariants.{Claim, Pod}
-use Rattle.kube_types.specs.declared.objects.Pod.{Pod as PodData}
-use Rattle.kube_types.specs.Bindings.{has_key, is_scheduled, selected_node}
-use Rattle.kube_types.specs.Keys.{key_of, row_at}
-use Rattle.kube_types.proofs.SameKeys.{key_tells}
+use Rattle.kube_objects.specs.declared.key.Key.{Key}
+use Rattle.kube_parts.specs.declared.names.Due.TheVariants as dues
+use Rattle.kube_objects.specs.declared.objects.Object.{Object}
+use Rattle.kube_objects.specs.declared.objects.Object.TheVariants.{Claim, Pod}
+use Rattle.kube_objects.specs.declared.objects.Pod.{Pod as PodData}
+use Rattle.kube_objects.specs.Bindings.{has_key, is_scheduled, selected_node}
+use Rattle.kube_objects.specs.Keys.{key_of, row_at}
+use Rattle.kube_objects.proofs.SameKeys.{key_tells}
 use Rattle.call_types.specs.declared.entry.Entry.{Entry}
 use Rattle.call_types.specs.declared.request.SeatKind.TheVariants as seats
 use Rattle.call_types.specs.declared.setup.Setup.{Setup}
@@ -43,7 +43,8 @@ use Rattle.settle_tries.proofs.Tries.Searching.{carrier_near, completed_near, du
 
 -- ---- a claim that has no node behind some writes of the scheduler had none before
 
-back_open : (setup : Setup) (h x : List Entry) (key : Key) (pod q : PodData) → MovesNodes true (world setup h) (world setup x) → row_at key (world setup h).store.rows ≡ Some (Pod pod) → row_at key (world setup x).store.rows ≡ Some (Pod q) → HasOpen (world setup x).store.rows q → HasOpen (world setup h).store.rows pod
+back_open : (setup : Setup) (h x : List Entry) (key : Key) (pod q : PodData) → MovesNodes true (world setup h) (world setup x)
+    → row_at key (world setup h).store.rows ≡ Some (Pod pod) → row_at key (world setup x).store.rows ≡ Some (Pod q) → HasOpen (world setup x).store.rows q → HasOpen (world setup h).store.rows pod
 back_open setup h x key pod q moves there there_x k = by (moves.claims (claim_key q.meta.namespace k.named.name) k.claim k.named.there)
   where
     same : content_of (Pod q) ≡ content_of (Pod pod)
@@ -68,9 +69,11 @@ pub record HasWaited (setup : Setup) (h past : List Entry) (key : Key) (p : PodD
   pub due : IsDue setup (world setup h) (Pod pod.pod) (Some dues.Prepare)
   pub open_ : HasOpen (world setup past).store.rows p
 
-module _ (setup : Setup) (ds after : List Drainer) (h past : List Entry) (b left : ℕ) (q : IsQuietRound setup ds after h past b left) (cached : AreCached setup ds h) (only : OnlyPrepares setup (world setup h)) (shares : SharesWell (world setup h))
+module _ (setup : Setup) (ds after : List Drainer) (h past : List Entry) (b left : ℕ) (q : IsQuietRound setup ds after h past b left)
+    (cached : AreCached setup ds h) (only : OnlyPrepares setup (world setup h)) (shares : SharesWell (world setup h))
     (paid : HavePaid setup h past) (up : work_left setup (world setup h) ≤ work_left setup (world setup past)) (left_near : AreNear (world setup h) (world setup past))
-    (key : Key) (p : PodData) (there : row_at key (world setup past).store.rows ≡ Some (Pod p)) (waits : is_scheduled p ≡ false) (due : IsDue setup (world setup past) (Pod p) (Some dues.Prepare)) where
+    (key : Key) (p : PodData) (there : row_at key (world setup past).store.rows ≡ Some (Pod p)) (waits : is_scheduled p ≡ false)
+    (due : IsDue setup (world setup past) (Pod p) (Some dues.Prepare)) where
   then_pod : PodNear (world setup h) key p
   then_pod = pod_near (world setup h) (world setup past) key p left_near there
 
@@ -142,7 +145,8 @@ module _ (setup : Setup) (ds after : List Drainer) (h past : List Entry) (b left
     kept_never same = w.changes (ap content_of (one (Claim w.before) (Claim w.now) (sym w.stood ∙ (sym same ∙ w.stands))))
 
     decided_in : IsWithin h w.call.decided.point given.middle
-    decided_in = decided_within setup given.first.seat given.first.actor.role given.scheduler h given.middle run_m order_m quiet_m.behind quiet_m.down h (w.older ++ h) w.newer [] w.call.under refl w.call.decided made
+    decided_in = decided_within setup given.first.seat given.first.actor.role given.scheduler h given.middle run_m order_m quiet_m.behind
+        quiet_m.down h (w.older ++ h) w.newer [] w.call.under refl w.call.decided made
 
     -- so it was made for this pod
     by_placing : IsPlacing setup w.call.decided.point w.call.decided.state w.call.decided.first.key w.call.under.call → HasOpen (world setup h).store.rows then_pod.pod
@@ -156,21 +160,26 @@ module _ (setup : Setup) (ds after : List Drainer) (h past : List Entry) (b left
             let y = w.call.decided.point in
             let named = open_now.named in
             let among : SomeOf (λ n. n ≡ named.name) then_pod.pod.claims = subst (SomeOf (λ n. n ≡ named.name)) (sym (ap pods_claims then_pod.same)) named.among in
-            let own : w.call.decided.first.key ≡ key = own_claim setup h y (run_within setup h given.middle run_m order_m quiet_m.behind quiet_m.down y decided_in) shares (near_behind setup h given.middle run_m order_m quiet_m.behind quiet_m.down y decided_in) key then_pod.pod then_pod.there then_waits
+            let own : w.call.decided.first.key ≡ key =
+            own_claim setup h y (run_within setup h given.middle run_m order_m quiet_m.behind quiet_m.down y decided_in) shares
+            (near_behind setup h given.middle run_m order_m quiet_m.behind quiet_m.down y decided_in) key then_pod.pod then_pod.there then_waits
             w.call.decided.state w.call.decided.first.key w.call.under.call x named.name among (keyed ∙ ap (λ s. claim_key s named.name) (sym (ap pods_namespace then_pod.same))) in
-            back_open setup h y key then_pod.pod x.pod (moves y decided_in) then_pod.there (ap (λ k. row_at k (world setup y).store.rows) (sym own) ∙ x.there) (open_of (world setup y).store.rows x.pod x.searched.search.waiting)
+            back_open setup h y key then_pod.pod x.pod (moves y decided_in) then_pod.there
+            (ap (λ k. row_at k (world setup y).store.rows) (sym own) ∙ x.there) (open_of (world setup y).store.rows x.pod x.searched.search.waiting)
 
     written : HasOpen (world setup h).store.rows then_pod.pod
-    written = elim (calls_are setup given.first.seat given.first.actor.role given.scheduler h given.middle run_m order_m quiet_m.behind quiet_m.down h (w.older ++ h) w.newer [] w.call.under refl w.call.decided made) [
-      | inl binds ↦ absurd (kept_never (bind_keeps setup w.entry (w.older ++ h) claims_key binds.key binds.uid binds.name (asked ∙ binds.is) refl))
-      | inr places ↦ by_placing places
-    ]
+    written = elim (calls_are setup given.first.seat given.first.actor.role given.scheduler h given.middle run_m order_m quiet_m.behind quiet_m.down
+        h (w.older ++ h) w.newer [] w.call.under refl w.call.decided made) [
+          | inl binds ↦ absurd (kept_never (bind_keeps setup w.entry (w.older ++ h) claims_key binds.key binds.uid binds.name (asked ∙ binds.is) refl))
+          | inr places ↦ by_placing places
+        ]
 
   open_then : HasOpen (world setup h).store.rows then_pod.pod
   open_then = elim given.either [ inl none ↦ without none | inr w ↦ written w ]
 
   then_due : IsDue setup (world setup h) (Pod then_pod.pod) (Some dues.Prepare)
-  then_due = near_searches setup (world setup past) (world setup h) p then_pod.pod (back_near (world setup h) (world setup past) left_near) (sym then_pod.same) waits due (open_waits (world setup h).store.rows then_pod.pod open_then)
+  then_due = near_searches setup (world setup past) (world setup h) p then_pod.pod (back_near (world setup h) (world setup past) left_near)
+      (sym then_pod.same) waits due (open_waits (world setup h).store.rows then_pod.pod open_then)
 
   pub has_waited : HasWaited setup h past key p
   has_waited = record { pod = then_pod; waits = then_waits; due = then_due; open_ = open_now }

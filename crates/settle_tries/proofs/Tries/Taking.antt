@@ -2,18 +2,18 @@
 use Rattle.std.proofs.Common.{◌≡◌, ◌≢◌, ◌∙◌, ◌⊎◌, ℕ, ◌≤◌, List, [], ◌∷◌, ◌++◌, append_assoc, Bool, true, false, true≢false, Option, Some, None, inl, inr, refl, sym, ap, subst, if◌then◌else◌}
 use Rattle.std.specs.Prelude.{is_some, ⊤}
 use Rattle.plain_data.specs.Pairs.{Pair}
-use Rattle.kube_types.specs.declared.key.Key.{Key}
-use Rattle.kube_types.specs.declared.uid.Uid.{Uid}
-use Rattle.kube_types.specs.declared.names.Due.TheVariants as dues
-use Rattle.kube_types.specs.declared.objects.Class.{Class as ClassData}
-use Rattle.kube_types.specs.declared.objects.Claim.{Claim as ClaimData}
-use Rattle.kube_types.specs.declared.objects.Volume.{Volume as VolumeData}
-use Rattle.kube_types.specs.declared.objects.Object.{Object}
-use Rattle.kube_types.specs.declared.objects.Object.TheVariants.{Claim, Volume}
-use Rattle.kube_types.specs.Bindings.{has_key, selected_node}
-use Rattle.kube_types.specs.Keys.{key_of, row_at}
-use Rattle.kube_types.proofs.KeyOrder.{row_at_key}
-use Rattle.kube_types.proofs.SameKeys.{key_tells}
+use Rattle.kube_objects.specs.declared.key.Key.{Key}
+use Rattle.kube_parts.specs.declared.uid.Uid.{Uid}
+use Rattle.kube_parts.specs.declared.names.Due.TheVariants as dues
+use Rattle.kube_objects.specs.declared.objects.Class.{Class as ClassData}
+use Rattle.kube_objects.specs.declared.objects.Claim.{Claim as ClaimData}
+use Rattle.kube_objects.specs.declared.objects.Volume.{Volume as VolumeData}
+use Rattle.kube_objects.specs.declared.objects.Object.{Object}
+use Rattle.kube_objects.specs.declared.objects.Object.TheVariants.{Claim, Volume}
+use Rattle.kube_objects.specs.Bindings.{has_key, selected_node}
+use Rattle.kube_objects.specs.Keys.{key_of, row_at}
+use Rattle.kube_objects.proofs.KeyOrder.{row_at_key}
+use Rattle.kube_objects.proofs.SameKeys.{key_tells}
 use Rattle.call_types.specs.declared.entry.Entry.{Entry}
 use Rattle.call_types.specs.declared.reply.Reply.{Reply}
 use Rattle.call_types.specs.declared.reply.Reply.TheVariants as replies
@@ -127,7 +127,8 @@ module _ (setup : Setup) (seat : ℕ) (kind : SeatKind) (controller : is_user ki
       has = elim chosen [ inl any ↦ absurd (true≢false (sym late ∙ any.0)) | inr has ↦ has ];
     }
 
-    after_asking : (next : Under) (reply : Reply) → under_after u reply ≡ Some next → ProvisionSays (is_served setup (world setup h).devices c uid x labels) reply → IsOverFor next ⊎ IsTaken setup h (at_step c uid x (steps.Provisions labels))
+    after_asking : (next : Under) (reply : Reply) → under_after u reply ≡ Some next
+        → ProvisionSays (is_served setup (world setup h).devices c uid x labels) reply → IsOverFor next ⊎ IsTaken setup h (at_step c uid x (steps.Provisions labels))
     after_asking next reply follows (Gives id topology served e) = inl (over_next next reply follows (subst (λ r. IsOver (provision_step_after (steps.Provisions labels) x r)) (sym e) tt))
     after_asking next reply follows (Fails call e) = inl (over_next next reply follows (subst (λ r. IsOver (provision_step_after (steps.Provisions labels) x r)) (sym e) tt))
     after_asking next reply follows (Lacks free served e) = by x.delayed refl
@@ -135,25 +136,29 @@ module _ (setup : Setup) (seat : ℕ) (kind : SeatKind) (controller : is_user ki
         by : (late : Bool) → x.delayed ≡ late → IsOverFor next ⊎ IsTaken setup h (at_step c uid x (steps.Provisions labels))
         by true late = inr (lacking served late)
         by false late =
-            inl (over_next next reply follows (subst (λ r. IsOver (provision_step_after (steps.Provisions labels) x r)) (sym e) (subst (λ b. IsOver (if b then steps.ClearsNode else steps.Parked)) (sym late) tt)))
+            inl (over_next next reply follows (subst (λ r. IsOver (provision_step_after (steps.Provisions labels) x r)) (sym e)
+            (subst (λ b. IsOver (if b then steps.ClearsNode else steps.Parked)) (sym late) tt)))
 
     asks : (g : List Entry) (v : Under) → u.call ≡ ask_call c uid x labels → Leads setup seat kind h u g v → v.call ≡ clear_call c → IsTaken setup h (at_step c uid x (steps.Provisions labels))
     asks g v call Here clear = absurd (true≢false (sym (ap is_update (sym call ∙ clear))))
     asks g v call (On next follows more) clear =
         elim (after_asking next (reply_to (effect setup (world setup h) kind u.call)) follows
-        (subst (λ r. ProvisionSays (is_served setup (world setup h).devices c uid x labels) (reply_to (effect setup (world setup h) kind r))) (sym call) (provision_says setup (world setup h) kind controller c uid x labels))) [
+        (subst (λ r. ProvisionSays (is_served setup (world setup h).devices c uid x labels) (reply_to (effect setup (world setup h) kind r)))
+        (sym call) (provision_says setup (world setup h) kind controller c uid x labels))) [
           | inl over ↦ absurd (over_never c v (leads_keep setup seat kind IsOverFor over_on more over) clear)
           | inr taken ↦ taken
         ]
 
-  by_step : (step : ProvisionStep) (u v : Under) (g : List Entry) → IsChosen c x step → u.task ≡ tasks.Provision (at_step c uid x step) → provision_call_at step c uid x ≡ Some u.call → Leads setup seat kind h u g v → v.call ≡ clear_call c → IsTaken setup h (at_step c uid x step)
+  by_step : (step : ProvisionStep) (u v : Under) (g : List Entry) → IsChosen c x step → u.task ≡ tasks.Provision (at_step c uid x step)
+      → provision_call_at step c uid x ≡ Some u.call → Leads setup seat kind h u g v → v.call ≡ clear_call c → IsTaken setup h (at_step c uid x step)
   unfolding provision_call
   by_step (steps.Provisions labels) u v g chosen task call leads clear = asks labels chosen u task g v (sym (one _ u.call call)) leads clear
   by_step steps.ClearsNode u v g chosen task call leads clear = record {
     due = refl;
     has = elim chosen [ inl any ↦ absurd (true≢false (sym (ap is_asking any.1))) | inr has ↦ has ];
   }
-  by_step (steps.Creates id topology) u v g chosen task call leads clear = absurd (over_never c v (leads_keep setup seat kind IsOverFor over_on leads (record { op = at_step c uid x (steps.Creates id topology); task = task; over = tt; call = call })) clear)
+  by_step (steps.Creates id topology) u v g chosen task call leads clear =
+      absurd (over_never c v (leads_keep setup seat kind IsOverFor over_on leads (record { op = at_step c uid x (steps.Creates id topology); task = task; over = tt; call = call })) clear)
   by_step steps.Done u v g chosen task call leads clear = none_some call
   by_step steps.Parked u v g chosen task call leads clear = none_some call
 
@@ -162,7 +167,8 @@ record WasTaken (setup : Setup) (h : List Entry) (c : ClaimData) : Type 0 where
   has : HasNode c
 
 -- of the claim as the store has it
-was_taken : (setup : Setup) (seat : ℕ) (kind : SeatKind) (h g : List Entry) (c : ClaimData) (op : ProvisionOp) (u v : Under) → is_user kind ≡ false → claim_for (world setup h).store.rows c ≡ Some op → u.task ≡ tasks.Provision op → task_call u.task ≡ Some u.call
+was_taken : (setup : Setup) (seat : ℕ) (kind : SeatKind) (h g : List Entry) (c : ClaimData) (op : ProvisionOp) (u v : Under) → is_user kind ≡ false
+    → claim_for (world setup h).store.rows c ≡ Some op → u.task ≡ tasks.Provision op → task_call u.task ≡ Some u.call
     → Leads setup seat kind h u g v → v.call ≡ clear_call c → WasTaken setup h c
 unfolding provision_call
 was_taken setup seat kind h g c op u v controller on task call leads clear = by (begun (world setup h).store.rows c)
@@ -201,23 +207,29 @@ record IsLoss (setup : Setup) (key : Key) (h past : List Entry) : Type 0 where
   stands : row_at key (world setup (entry ∷ older ++ h)).store.rows ≡ Some (Claim now)
   none : has_key selected_node now.meta.annotations ≡ false
 
-module _ (setup : Setup) (key : Key) (h past : List Entry) (at : (x : List Entry) → IsWithin h x past → StandsThere setup key x) (c : ClaimData) (was : row_at key (world setup h).store.rows ≡ Some (Claim c)) (had : has_key selected_node c.meta.annotations ≡ true) where
-  loss : (ahead newer : List Entry) (d : ClaimData) → past ≡ ahead ++ (newer ++ h) → row_at key (world setup (newer ++ h)).store.rows ≡ Some (Claim d) → has_key selected_node d.meta.annotations ≡ false → IsLoss setup key h past
+module _ (setup : Setup) (key : Key) (h past : List Entry) (at : (x : List Entry) → IsWithin h x past → StandsThere setup key x) (c : ClaimData)
+    (was : row_at key (world setup h).store.rows ≡ Some (Claim c)) (had : has_key selected_node c.meta.annotations ≡ true) where
+  loss : (ahead newer : List Entry) (d : ClaimData) → past ≡ ahead ++ (newer ++ h)
+      → row_at key (world setup (newer ++ h)).store.rows ≡ Some (Claim d) → has_key selected_node d.meta.annotations ≡ false → IsLoss setup key h past
   loss ahead [] d are there none = absurd (true≢false (sym had ∙ (ap has_node (sym was ∙ there) ∙ none)))
   loss ahead (e ∷ newer) d are there none = by (at (newer ++ h) w) (λ x at_x lacks. loss (ahead ++ (e ∷ [])) newer x w.ahead at_x lacks)
     where
       w : IsWithin h (newer ++ h) past
       w = record { newer = ahead ++ (e ∷ []); older = newer; ahead = are ∙ sym (append_assoc ahead (e ∷ []) (newer ++ h)); behind = refl }
 
-      by : StandsThere setup key (newer ++ h) → ((x : ClaimData) → row_at key (world setup (newer ++ h)).store.rows ≡ Some (Claim x) → has_key selected_node x.meta.annotations ≡ false → IsLoss setup key h past) → IsLoss setup key h past
+      by : StandsThere setup key (newer ++ h)
+          → ((x : ClaimData) → row_at key (world setup (newer ++ h)).store.rows ≡ Some (Claim x) → has_key selected_node x.meta.annotations ≡ false → IsLoss setup key h past) → IsLoss setup key h past
       by s before = test (has_key selected_node s.claim.meta.annotations) refl
         where
           test : (b : Bool) → has_key selected_node s.claim.meta.annotations ≡ b → IsLoss setup key h past
           test true has = record { newer = ahead; older = newer; entry = e; are = are; before = s.claim; stood = s.there; had = has; now = d; stands = there; none = none }
           test false has = before s.claim s.there has
 
-module _ (setup : Setup) (seat : ℕ) (old after : ActorState) (h past : List Entry) (b left : ℕ) (idle : Bool) (key : Key) (c d : ClaimData) (kind : old.role.kind ≡ seats.Ops) (run : IsRunOf setup past) (order : AreAlwaysInOrder setup past) (under : old.under ≡ None)
-    (runs : Runs all_pass seat after past left idle (woken old) h b) (paid : HavePaid setup h past) (le : work_left setup (world setup h) ≤ work_left setup (world setup past)) (was : row_at key (world setup h).store.rows ≡ Some (Claim c)) (is : row_at key (world setup past).store.rows ≡ Some (Claim d))
+module _ (setup : Setup) (seat : ℕ) (old after : ActorState) (h past : List Entry) (b left : ℕ) (idle : Bool) (key : Key) (c d : ClaimData)
+    (kind : old.role.kind ≡ seats.Ops) (run : IsRunOf setup past) (order : AreAlwaysInOrder setup past) (under : old.under ≡ None)
+    (runs : Runs all_pass seat after past left idle (woken old) h b) (paid : HavePaid setup h past)
+    (le : work_left setup (world setup h) ≤ work_left setup (world setup past)) (was : row_at key (world setup h).store.rows ≡ Some (Claim c))
+    (is : row_at key (world setup past).store.rows ≡ Some (Claim d))
     (had : has_key selected_node c.meta.annotations ≡ true) (none : has_key selected_node d.meta.annotations ≡ false) where
   abbrev ToLose : Type 0
   ToLose = provision_due setup (world setup h) c ≡ Some dues.ClearNode
@@ -271,7 +283,8 @@ module _ (setup : Setup) (seat : ℕ) (old after : ActorState) (h past : List En
   }
 
   worthless : {X : Type 0} → worth seats.Ops called.under.call ≡ 1 → X
-  worthless one_ = worth_none setup h past run order paid le lost.entry g lost.newer lost.are at_g entry_lasts (ap (λ (e : Entry). worth e.kind e.request) (sym called.is) ∙ (ap (λ k. worth k called.under.call) kind ∙ one_))
+  worthless one_ = worth_none setup h past run order paid le lost.entry g lost.newer lost.are at_g entry_lasts
+      (ap (λ (e : Entry). worth e.kind e.request) (sym called.is) ∙ (ap (λ k. worth k called.under.call) kind ∙ one_))
 
   moved : MovesNodes false (world setup h) (world setup called.decided.point)
   moved = moves_behind setup h past run order paid le seats.Ops kinds called.decided.point at_point
@@ -286,10 +299,12 @@ module _ (setup : Setup) (seat : ℕ) (old after : ActorState) (h past : List En
       where
         stays : key_of (Claim x) ≢ key → row_at key (world setup (lost.entry ∷ g)).store.rows ≡ row_at key (world setup g).store.rows
         stays other =
-            others_stay setup lost.entry g (run_within setup h past run order paid le (lost.entry ∷ g) next_g) (order_within setup h past run order paid le g at_g [] g refl) entry_kind x (ap (λ (e : Entry). e.request) (sym called.is) ∙ clear) entry_lasts key other
+            others_stay setup lost.entry g (run_within setup h past run order paid le (lost.entry ∷ g) next_g)
+            (order_within setup h past run order paid le g at_g [] g refl) entry_kind x (ap (λ (e : Entry). e.request) (sym called.is) ∙ clear) entry_lasts key other
 
     there_now : row_at key (world setup called.decided.point).store.rows ≡ Some (Claim x)
-    there_now = ap (λ k. row_at k (world setup called.decided.point).store.rows) (sym same_key ∙ row_at_key called.decided.first.key (Claim x) (world setup called.decided.point).store.rows there) ∙ there
+    there_now = ap (λ k. row_at k (world setup called.decided.point).store.rows)
+        (sym same_key ∙ row_at_key called.decided.first.key (Claim x) (world setup called.decided.point).store.rows there) ∙ there
 
     then_due : WasTaken setup called.decided.point x → ToLose
     then_due t = by (moved.claims key x there_now)
@@ -326,4 +341,5 @@ module _ (setup : Setup) (seat : ℕ) (old after : ActorState) (h past : List En
       ]
 
 pub taken_were_due : TakenWereDue
-taken_were_due setup seat old after h past b left idle key c d kind run order under runs paid le was is had none = to_lose setup seat old after h past b left idle key c d kind run order under runs paid le was is had none
+taken_were_due setup seat old after h past b left idle key c d kind run order under runs paid le was is had none =
+    to_lose setup seat old after h past b left idle key c d kind run order under runs paid le was is had none

@@ -3,16 +3,16 @@ use Rattle.std.proofs.Common.{ℕ, ◌≡◌, ◌∙◌, ◌⊎◌, ◌≤◌, �
 use Rattle.std.specs.Prelude.{◌==◌, ◌&&◌, bytes_eq, nat_lt}
 use Rattle.std.proofs.lemmas.Bool.Decides.{nat_tests}
 use Rattle.std.proofs.lemmas.Slice.Eq.{bytes_eq-Decides}
-use Rattle.kube_types.specs.declared.key.Key.{Key}
-use Rattle.kube_types.specs.declared.uid.Uid.{Uid}
-use Rattle.kube_types.specs.declared.objects.Claim.{Claim as ClaimData}
-use Rattle.kube_types.specs.declared.objects.Object.{Object}
-use Rattle.kube_types.specs.declared.objects.Object.TheVariants.{Claim}
-use Rattle.kube_types.specs.declared.objects.Pod.{Pod as PodData}
-use Rattle.kube_types.specs.Bindings.{is_completed}
-use Rattle.kube_types.specs.Keys.{AreRows, key_of, meta_of, put_row, row_at, without_row}
-use Rattle.kube_types.proofs.KeyOrder.{row_at-put_row, row_at-put_row_other, row_at-without_row, row_at-without_row_other}
-use Rattle.kube_types.proofs.SameKeys.{key_tells}
+use Rattle.kube_objects.specs.declared.key.Key.{Key}
+use Rattle.kube_parts.specs.declared.uid.Uid.{Uid}
+use Rattle.kube_objects.specs.declared.objects.Claim.{Claim as ClaimData}
+use Rattle.kube_objects.specs.declared.objects.Object.{Object}
+use Rattle.kube_objects.specs.declared.objects.Object.TheVariants.{Claim}
+use Rattle.kube_objects.specs.declared.objects.Pod.{Pod as PodData}
+use Rattle.kube_objects.specs.Bindings.{is_completed}
+use Rattle.kube_objects.specs.Keys.{AreRows, key_of, meta_of, put_row, row_at, without_row}
+use Rattle.kube_objects.proofs.KeyOrder.{row_at-put_row, row_at-put_row_other, row_at-without_row, row_at-without_row_other}
+use Rattle.kube_objects.proofs.SameKeys.{key_tells}
 use Rattle.call_types.specs.declared.entry.Entry.{Entry}
 use Rattle.call_types.specs.declared.request.Request.{Request}
 use Rattle.call_types.specs.declared.request.Request.TheVariants.{Delete, Update}
@@ -52,7 +52,8 @@ pub record IsPut (w : World) (x : Effect) (p : Object) : Type 0 where
   pub change : Change
   pub is : x ≡ OnStore (Stores change p)
 
-low_step : (w : World) (x : Effect) → AreRows w.store.rows → OfStore (NextOf (w.store.version + 1)) x → (k : Key) (p : Object) → row_at k (world_after w x).store.rows ≡ Some p → (row_at k w.store.rows ≡ Some p) ⊎ IsPut w x p
+low_step : (w : World) (x : Effect) → AreRows w.store.rows → OfStore (NextOf (w.store.version + 1)) x → (k : Key) (p : Object)
+    → row_at k (world_after w x).store.rows ≡ Some p → (row_at k w.store.rows ≡ Some p) ⊎ IsPut w x p
 unfolding world_after after reply_to reply_of
 low_step w (OnStore (Says reply)) rows n k p is = inl is
 low_step w (OnStore (Stores change new)) rows n k p is = elim (key_tells (key_of new) k) [
@@ -68,7 +69,8 @@ low_step w (OnStore (Removes last)) rows n k p is = elim (key_tells (key_of last
 low_step w (OnDevices a) rows n k p is = inl is
 low_step w (SetsMoment at) rows n k p is = inl is
 
-pub row_step : (setup : Setup) (e : Entry) (past : List Entry) (k : Key) (p : Object) → row_at k (world setup (e ∷ past)).store.rows ≡ Some p → (row_at k (world setup past).store.rows ≡ Some p) ⊎ IsPut (world setup past) (effect setup (world setup past) e.kind e.request) p
+pub row_step : (setup : Setup) (e : Entry) (past : List Entry) (k : Key) (p : Object) → row_at k (world setup (e ∷ past)).store.rows ≡ Some p
+    → (row_at k (world setup past).store.rows ≡ Some p) ⊎ IsPut (world setup past) (effect setup (world setup past) e.kind e.request) p
 row_step setup e past k p is =
     low_step (world setup past) (effect setup (world setup past) e.kind e.request) (rows_stand_in_order setup past)
     (on_effects (λ r. tt) setup (world setup past) e.kind e.request (outcome_next (world setup past).store e.kind e.request (world setup past).moment)).on k p is
@@ -105,7 +107,8 @@ pub done_version : (setup : Setup) (w : World) (kind : SeatKind) (asked : Object
 unfolding object_or
 done_version setup w kind asked given o said = by (versions_count_writes setup w kind (Update asked given))
   where
-    by : KeepsStore w (world_after w (effect setup w kind (Update asked given))) ⊎ WritesOnce w (world_after w (effect setup w kind (Update asked given))) (reply_to (effect setup w kind (Update asked given)))
+    by : KeepsStore w (world_after w (effect setup w kind (Update asked given)))
+        ⊎ WritesOnce w (world_after w (effect setup w kind (Update asked given))) (reply_to (effect setup w kind (Update asked given)))
         → ((meta_of o).version ≡ w.store.version + 1) × ((world_after w (effect setup w kind (Update asked given))).store.version ≡ w.store.version + 1)
     by (inl k) =
         let d : IsSecondDelete w (Update asked given) o = done_writes_or_deletes_again setup w kind (Update asked given) o said (ap (λ s. s.version) k.store) in
@@ -134,7 +137,8 @@ module _ (setup : Setup) (seat : ℕ) (uid : Uid) (t : Tried) where
   abbrev Before : List Entry → Type 0
   Before past = tried_of uid (tries_of (own seat past)).selected ≡ Some t → (d : ClaimData) → ToldIt d (own seat past) → d.meta.uid ≡ Some uid → is_refusal t d ≡ false
 
-  pub spared : (past : List Entry) → IsHistory setup past → tried_of uid (tries_of (own seat past)).selected ≡ Some t → (c : ClaimData) → ToldIt c (own seat past) → c.meta.uid ≡ Some uid → is_refusal t c ≡ false
+  pub spared : (past : List Entry) → IsHistory setup past → tried_of uid (tries_of (own seat past)).selected ≡ Some t → (c : ClaimData)
+      → ToldIt c (own seat past) → c.meta.uid ≡ Some uid → is_refusal t c ≡ false
   spared [] history at c told known = absurd told
   spared (e ∷ past) history at c told known = by (e.seat == seat) refl at told (spared past history.0)
     where
@@ -143,16 +147,20 @@ module _ (setup : Setup) (seat : ℕ) (uid : Uid) (t : Tried) where
 
       newly : (request : Request) (reply : Reply) → e.request ≡ request → e.reply ≡ reply → Selecting t request reply → (e.seat == seat) ≡ true → is_refusal t c ≡ false
       newly (Update (Claim asked) given) (Done (Claim new)) er ea s is =
-          let said : reply_to (effect setup (world setup past) e.kind (Update (Claim asked) given)) ≡ Done (Claim new) = sym (ap (λ r. reply_to (effect setup (world setup past) e.kind r)) er) ∙ (sym history.1 ∙ ea) in
+          let said : reply_to (effect setup (world setup past) e.kind (Update (Claim asked) given)) ≡ Done (Claim new) =
+          sym (ap (λ r. reply_to (effect setup (world setup past) e.kind r)) er) ∙ (sym history.1 ∙ ea) in
           let v = done_version setup (world setup past) e.kind (Claim asked) given (Claim new) said in
-          let same : (world setup (e ∷ past)).store.version ≡ (world setup past).store.version + 1 = ap (λ r. (world_after (world setup past) (effect setup (world setup past) e.kind r)).store.version) er ∙ v.1 in
+          let same : (world setup (e ∷ past)).store.version ≡ (world setup past).store.version + 1 =
+          ap (λ r. (world_after (world setup past) (effect setup (world setup past) e.kind r)).store.version) er ∙ v.1 in
           let low = mine_low is in
           let at_new = v.0 in
           let version = s.version in
           never_newer t c (omega (arith, same, low, at_new, version))
       newly _ _ er ea s is = absurd s
 
-      here : (b : Bool) → e.told ≡ b → (e.seat == seat) ≡ true → tried_of uid (if b then tries_after e.request e.reply (tries_of (own seat past)) else tries_of (own seat past)).selected ≡ Some t → ToldIt c (e ∷ own seat past) → Before past → is_refusal t c ≡ false
+      here : (b : Bool) → e.told ≡ b → (e.seat == seat) ≡ true
+          → tried_of uid (if b then tries_after e.request e.reply (tries_of (own seat past)) else tries_of (own seat past)).selected ≡ Some t
+          → ToldIt c (e ∷ own seat past) → Before past → is_refusal t c ≡ false
       here true is_told is sel (inl it) before = elim (select_finds e.request e.reply (see_all (objects_in e.reply) (tries_of (own seat past))) uid t sel) [
         | inl old ↦ all_spare (objects_in e.reply) (tries_of (own seat past)) uid t c old it.1 known
         | inr new ↦ newly e.request e.reply refl refl new.0 is
@@ -164,7 +172,8 @@ module _ (setup : Setup) (seat : ℕ) (uid : Uid) (t : Tried) where
       here false is_told is sel (inl it) before = absurd (true≢false (sym it.0 ∙ is_told))
       here false is_told is sel (inr more) before = before sel c more known
 
-      by : (b : Bool) → (e.seat == seat) ≡ b → tried_of uid (tries_of (if b then e ∷ own seat past else own seat past)).selected ≡ Some t → ToldIt c (if b then e ∷ own seat past else own seat past) → Before past → is_refusal t c ≡ false
+      by : (b : Bool) → (e.seat == seat) ≡ b → tried_of uid (tries_of (if b then e ∷ own seat past else own seat past)).selected ≡ Some t
+          → ToldIt c (if b then e ∷ own seat past else own seat past) → Before past → is_refusal t c ≡ false
       by true is sel it before = here e.told refl is sel it before
       by false is sel it before = before sel c it known
 
@@ -214,7 +223,8 @@ module _ (setup : Setup) (seat : ℕ) (past : List Entry) (run : IsRunOf setup p
       let is = one_version_one_object setup past (Claim s.claim) (Claim c) stood_ now same (inl key) in
       sym (ap selected_on is) ∙ s.has.node
 
-  pub sees_node : (c : ClaimData) → row_at (key_of (Claim c)) (world setup past).store.rows ≡ Some (Claim c) → ToldObject (λ o. o ≡ Claim c) (own seat past) → c.meta.uid ≡ Some uid → is_completed c ≡ false → node_selected_for c ≡ Some t.node
+  pub sees_node : (c : ClaimData) → row_at (key_of (Claim c)) (world setup past).store.rows ≡ Some (Claim c)
+      → ToldObject (λ o. o ≡ Claim c) (own seat past) → c.meta.uid ≡ Some uid → is_completed c ≡ false → node_selected_for c ≡ Some t.node
   sees_node c there told known open_ = by (nat_lt t.version c.meta.version) refl (spared setup seat uid t past history at c told known)
     where
       on : (n : Option (List ℕ)) → node_selected_for c ≡ n → is_other_node t.node n ≡ false → node_selected_for c ≡ Some t.node
@@ -241,7 +251,9 @@ module _ (setup : Setup) (seat : ℕ) (rows : List Object) (p : PodData) (node :
     pub spares : (o : Object) → IsIn o (objects_in e.reply) → Spares rows p node aside first ours o (tries_of (own seat g))
     pub none : (t : Tried) → Selecting t e.request e.reply → is_tried_for rows p t.claim ≡ true → ⊥
 
-  pub run_holds : (newer past : List Entry) → ((ahead behind : List Entry) (e : Entry) → newer ≡ ahead ++ (e ∷ behind) → e.seat ≡ seat → e.told ≡ true → Passes e (behind ++ past)) → Holds rows p node aside first ours (tries_of (own seat past))
+  pub run_holds : (newer past : List Entry)
+      → ((ahead behind : List Entry) (e : Entry) → newer ≡ ahead ++ (e ∷ behind) → e.seat ≡ seat → e.told ≡ true → Passes e (behind ++ past))
+      → Holds rows p node aside first ours (tries_of (own seat past))
       → Holds rows p node aside first ours (tries_of (own seat (newer ++ past)))
   run_holds [] past passes h = h
   run_holds (e ∷ newer) past passes h = by (e.seat == seat) refl (run_holds newer past (λ ahead behind x is. passes (e ∷ ahead) behind x (ap (λ es. e ∷ es) is)) h)
@@ -253,24 +265,28 @@ module _ (setup : Setup) (seat : ℕ) (rows : List Object) (p : PodData) (node :
           tells_hold rows p node aside first ours e.request e.reply (objects_in e.reply) (tries_of (own seat (newer ++ past))) before q.spares q.none
       told false is_told is before = before
 
-      by : (b : Bool) → (e.seat == seat) ≡ b → Holds rows p node aside first ours (tries_of (own seat (newer ++ past))) → Holds rows p node aside first ours (tries_of (if b then e ∷ own seat (newer ++ past) else own seat (newer ++ past)))
+      by : (b : Bool) → (e.seat == seat) ≡ b → Holds rows p node aside first ours (tries_of (own seat (newer ++ past)))
+          → Holds rows p node aside first ours (tries_of (if b then e ∷ own seat (newer ++ past) else own seat (newer ++ past)))
       by true is before = told e.told refl is before
       by false is before = before
 
 -- what stands selected did so before, where none of the entries selects
-pub tried_back : (seat : ℕ) (uid : Uid) (t : Tried) (newer past : List Entry) → ((ahead behind : List Entry) (e : Entry) → newer ≡ ahead ++ (e ∷ behind) → (u : Tried) → Selecting u e.request e.reply → u.claim ≡ uid → ⊥)
+pub tried_back : (seat : ℕ) (uid : Uid) (t : Tried) (newer past : List Entry)
+    → ((ahead behind : List Entry) (e : Entry) → newer ≡ ahead ++ (e ∷ behind) → (u : Tried) → Selecting u e.request e.reply → u.claim ≡ uid → ⊥)
     → tried_of uid (tries_of (own seat (newer ++ past))).selected ≡ Some t → tried_of uid (tries_of (own seat past)).selected ≡ Some t
 tried_back seat uid t [] past none at = at
 tried_back seat uid t (e ∷ newer) past none at = tried_back seat uid t newer past (λ ahead behind x is. none (e ∷ ahead) behind x (ap (λ es. e ∷ es) is)) (by (e.seat == seat) at)
   where
-    told : (b : Bool) → tried_of uid (if b then tries_after e.request e.reply (tries_of (own seat (newer ++ past))) else tries_of (own seat (newer ++ past))).selected ≡ Some t → tried_of uid (tries_of (own seat (newer ++ past))).selected ≡ Some t
+    told : (b : Bool) → tried_of uid (if b then tries_after e.request e.reply (tries_of (own seat (newer ++ past))) else tries_of
+        (own seat (newer ++ past))).selected ≡ Some t → tried_of uid (tries_of (own seat (newer ++ past))).selected ≡ Some t
     told true f = elim (select_finds e.request e.reply (see_all (objects_in e.reply) (tries_of (own seat (newer ++ past)))) uid t f) [
       | inl before ↦ all_keeps (objects_in e.reply) (tries_of (own seat (newer ++ past))) uid t before
       | inr new ↦ absurd (none [] newer e refl t new.0 new.1)
     ]
     told false f = f
 
-    by : (b : Bool) → tried_of uid (tries_of (if b then e ∷ own seat (newer ++ past) else own seat (newer ++ past))).selected ≡ Some t → tried_of uid (tries_of (own seat (newer ++ past))).selected ≡ Some t
+    by : (b : Bool) → tried_of uid (tries_of (if b then e ∷ own seat (newer ++ past) else own seat (newer ++ past))).selected ≡ Some t
+        → tried_of uid (tries_of (own seat (newer ++ past))).selected ≡ Some t
     by true f = told e.told f
     by false f = f
 

@@ -1,15 +1,15 @@
 -- Rounds that leave as much to do are few, since each tries one node less.
 use Rattle.std.proofs.Common.{◌≡◌, ◌∙◌, ◌⊎◌, ℕ, zero, suc, ◌+◌, ◌≤◌, List, [], ◌∷◌, ◌++◌, append_assoc, true, false, Option, Some, inl, inr, refl, sym, ap, subst, arith}
 use Rattle.std.specs.Prelude.{length, option_map, slice_get}
-use Rattle.kube_types.specs.declared.key.Key.{Key}
-use Rattle.kube_types.specs.declared.names.Due.{Due}
-use Rattle.kube_types.specs.declared.names.Due.TheVariants as dues
-use Rattle.kube_types.specs.declared.objects.Node.{Node as NodeData}
-use Rattle.kube_types.specs.declared.objects.Object.{Object}
-use Rattle.kube_types.specs.declared.objects.Object.TheVariants.{Class, Node, Volume, Claim, Pod}
-use Rattle.kube_types.specs.declared.objects.Pod.{Pod as PodData}
-use Rattle.kube_types.specs.Bindings.{is_scheduled}
-use Rattle.kube_types.specs.Keys.{key_of, row_at}
+use Rattle.kube_objects.specs.declared.key.Key.{Key}
+use Rattle.kube_parts.specs.declared.names.Due.{Due}
+use Rattle.kube_parts.specs.declared.names.Due.TheVariants as dues
+use Rattle.kube_objects.specs.declared.objects.Node.{Node as NodeData}
+use Rattle.kube_objects.specs.declared.objects.Object.{Object}
+use Rattle.kube_objects.specs.declared.objects.Object.TheVariants.{Class, Node, Volume, Claim, Pod}
+use Rattle.kube_objects.specs.declared.objects.Pod.{Pod as PodData}
+use Rattle.kube_objects.specs.Bindings.{is_scheduled}
+use Rattle.kube_objects.specs.Keys.{key_of, row_at}
 use Rattle.call_types.specs.declared.entry.Entry.{Entry}
 use Rattle.call_types.specs.declared.setup.Setup.{Setup}
 use Rattle.binder_model.specs.Choice.{nodes_of, step_of}
@@ -84,7 +84,8 @@ nodes_few setup ds h at small =
     let roles = at.may.stand.roles in
     let plain = none_in_a_namespace setup at.may.run.imports h in
     let order = rows_stand_in_order setup h in
-    let few = few_nodes (nodes_of (world setup h).store.rows) roles.nodes (rising_nodes (world setup h).store.rows (λ n i. plain.nodes (key_of (Node n)) n (member_stands (Node n) (world setup h).store.rows order i)) order) has_agent in
+    let few = few_nodes (nodes_of (world setup h).store.rows) roles.nodes
+    (rising_nodes (world setup h).store.rows (λ n i. plain.nodes (key_of (Node n)) n (member_stands (Node n) (world setup h).store.rows order i)) order) has_agent in
     let counted : length (roles_of ds) ≡ length (roles_for roles.nodes) = ap length roles.are in
     let drainers = mapped_length (λ (d : Drainer). d.actor.role) ds in
     let agents = mapped_length agent_of roles.nodes in
@@ -95,7 +96,8 @@ nodes_few setup ds h at small =
         let stands = nodes_stand n i in
         let c = at.served n.meta.name (nodes_were_given setup h (key_of (Node n)) n stands) in
         roles_have at.may.stand.roles.nodes c.place n.meta.name
-        (ap (λ roles. slice_get roles c.place) (sym at.may.stand.roles.are) ∙ (get_mapped (λ (d : Drainer). d.actor.role) ds c.place ∙ (ap (option_map (λ (d : Drainer). d.actor.role)) c.there ∙ ap Some c.role)))
+        (ap (λ roles. slice_get roles c.place) (sym at.may.stand.roles.are)
+        ∙ (get_mapped (λ (d : Drainer). d.actor.role) ds c.place ∙ (ap (option_map (λ (d : Drainer). d.actor.role)) c.there ∙ ap Some c.role)))
       where
         nodes_stand : (m : NodeData) → IsIn m (nodes_of (world setup h).store.rows) → row_at (key_of (Node m)) (world setup h).store.rows ≡ Some (Node m)
         nodes_stand m j = member_stands (Node m) (world setup h).store.rows (rows_stand_in_order setup h) (node_in_rows m (world setup h).store.rows j)
@@ -121,7 +123,8 @@ module _ (setup : Setup) (ds after : List Drainer) (h past : List Entry) (b left
     less : tries + 1 ≡ k
     are : TriesLeft setup (world setup past) p (Some node.meta.name) tries
 
-  one_behind : (key : Key) (p : PodData) (from : Option (List ℕ)) (node : NodeData) (k : ℕ) → row_at key (world setup past).store.rows ≡ Some (Pod p) → is_scheduled p ≡ false → IsDue setup (world setup past) (Pod p) (Some dues.Prepare)
+  one_behind : (key : Key) (p : PodData) (from : Option (List ℕ)) (node : NodeData) (k : ℕ) → row_at key (world setup past).store.rows ≡ Some (Pod p)
+      → is_scheduled p ≡ false → IsDue setup (world setup past) (Pod p) (Some dues.Prepare)
       → (t : IsTried setup ds h past key from node) → TriesLeft setup (world setup t.point) t.pod from k → OneBehind key p node k
   one_behind key p from node k there open_ due t tries =
       let ahead = point_ahead t.point t.within in
@@ -158,16 +161,19 @@ record HaveGone (setup : Setup) (after : List Drainer) (past : List Entry) (roun
   shares : SharesWell (world setup past)
   small : length after ≤ 13
   only : 1 ≤ rounds → OnlyPrepares setup (world setup past)
-  tried : 2 ≤ rounds → (key : Key) (p : PodData) → row_at key (world setup past).store.rows ≡ Some (Pod p) → is_scheduled p ≡ false → IsDue setup (world setup past) (Pod p) (Some dues.Prepare) → (HasTried setup after past key p rounds → ⊥) → ⊥
+  tried : 2 ≤ rounds → (key : Key) (p : PodData) → row_at key (world setup past).store.rows ≡ Some (Pod p) → is_scheduled p ≡ false
+      → IsDue setup (world setup past) (Pod p) (Some dues.Prepare) → (HasTried setup after past key p rounds → ⊥) → ⊥
 
 module _ (waiting : WaitingAreTried) (go_on : SearchesGoOn) (setup : Setup) (allow : ImportsAllow setup) where
   -- a round more
-  module _ (ds after : List Drainer) (h past : List Entry) (b left before : ℕ) (gone : HaveGone setup ds h before) (run : IsRunOf setup past) (order : AreAlwaysInOrder setup past) (round : IsRound all_pass past left ds h b after true) (same : work_left setup (world setup past) ≡ work_left setup (world setup h)) where
+  module _ (ds after : List Drainer) (h past : List Entry) (b left before : ℕ) (gone : HaveGone setup ds h before) (run : IsRunOf setup past)
+      (order : AreAlwaysInOrder setup past) (round : IsRound all_pass past left ds h b after true) (same : work_left setup (world setup past) ≡ work_left setup (world setup h)) where
     quiet : IsQuietRound setup ds after h past b left
     quiet = record { allow = allow; may = gone.may; run = run; order = order; round = round; same = same }
 
     -- a pod that waits was tried, and as many nodes are left as before but one
-    tried_on : 1 ≤ before → (key : Key) (p : PodData) → row_at key (world setup past).store.rows ≡ Some (Pod p) → is_scheduled p ≡ false → IsDue setup (world setup past) (Pod p) (Some dues.Prepare) → (HasTried setup after past key p (before + 1) → ⊥) → ⊥
+    tried_on : 1 ≤ before → (key : Key) (p : PodData) → row_at key (world setup past).store.rows ≡ Some (Pod p) → is_scheduled p ≡ false
+        → IsDue setup (world setup past) (Pod p) (Some dues.Prepare) → (HasTried setup after past key p (before + 1) → ⊥) → ⊥
     tried_on some key p there open_ due never = by (same_or_more before) (waiting setup ds after h past b left key p quiet gone.cached (gone.only some) gone.shares there open_ due)
       where
         same_or_more : (n : ℕ) → (n ≤ 1) ⊎ (2 ≤ n)
@@ -205,7 +211,8 @@ module _ (waiting : WaitingAreTried) (go_on : SearchesGoOn) (setup : Setup) (all
         by : (before ≤ 1) ⊎ (2 ≤ before) → WasTried setup ds after h past b left key → ⊥
         by (inl low) t = tries_there setup (world setup t.tried.point) t.tried.pod (in_turn t.from (nodes_of (world setup t.tried.point).store.rows)) (first_time low t)
         by (inr high) t = gone.tried high key t.pod t.there t.waits t.due (λ was.
-            let behind : t.from ≡ Some was.was.node.meta.name = go_on setup was.ds ds after was.h h past was.b was.left b left key t.pod was.quiet quiet was.cached was.only gone.cached t.there t.waits t.due was.was t in
+            let behind : t.from ≡ Some was.was.node.meta.name =
+            go_on setup was.ds ds after was.h h past was.b was.left b left key t.pod was.quiet quiet was.cached was.only gone.cached t.there t.waits t.due was.was t in
             let near = point_near setup ds after h past b left quiet t.tried.point t.tried.within in
             let n = pod_near (world setup h) (world setup t.tried.point) key t.tried.pod near t.tried.stands in
             let pod : content_of (Pod t.pod) ≡ content_of (Pod t.tried.pod) = ap content_of (one (Pod t.pod) (Pod n.pod) (sym t.there ∙ n.there)) ∙ n.same in
@@ -227,7 +234,8 @@ module _ (waiting : WaitingAreTried) (go_on : SearchesGoOn) (setup : Setup) (all
 
   module _ (ds : List Drainer) (h : List Entry) (start : HaveGone setup ds h 0) where
     goes : (rounds : ℕ) (after : List Drainer) (past : List Entry) → IsRunOf setup past → AreAlwaysInOrder setup past → AreQuiet setup ds h rounds after past → HaveGone setup after past rounds
-    goes rounds after past run order (NoRound none same entries) = subst (λ n. HaveGone setup after past n) (sym none) (subst (λ d. HaveGone setup d past 0) (sym same) (subst (λ es. HaveGone setup ds es 0) (sym entries) start))
+    goes rounds after past run order (NoRound none same entries) =
+        subst (λ n. HaveGone setup after past n) (sym none) (subst (λ d. HaveGone setup d past 0) (sym same) (subst (λ es. HaveGone setup ds es 0) (sym entries) start))
     goes rounds after past run order (OneMore before between middle b left first count quiet due round same) =
         let g = round_grows all_pass past left between middle b after true round in
         let here = older_run setup g.longer.added middle (subst (IsRunOf setup) g.longer.are run) in
@@ -247,7 +255,8 @@ module _ (waiting : WaitingAreTried) (go_on : SearchesGoOn) (setup : Setup) (all
         here = let g = round_grows all_pass past left between middle b after true round in older_run setup g.longer.added middle (subst (IsRunOf setup) g.longer.are run)
 
         gone : HaveGone setup between middle before
-        gone = let g = round_grows all_pass past left between middle b after true round in goes before between middle here (in_order_before setup g.longer.added middle (subst (AreAlwaysInOrder setup) g.longer.are order)) quiet
+        gone = let g = round_grows all_pass past left between middle b after true round in
+            goes before between middle here (in_order_before setup g.longer.added middle (subst (AreAlwaysInOrder setup) g.longer.are order)) quiet
 
         bounded : (before ≤ 1) ⊎ (2 ≤ before) → (rounds ≤ 9 → ⊥) → ⊥
         bounded (inl low) more = more (omega (arith, low, count))
@@ -255,10 +264,14 @@ module _ (waiting : WaitingAreTried) (go_on : SearchesGoOn) (setup : Setup) (all
             let o = gone.only (omega (arith, high)) first.0 due.object first.1 due.there due.due in
             let there = due.there ∙ ap Some o.is in
             let prepare = subst (λ (x : Object × Due). IsDue setup (world setup middle) x.0 (Some x.1)) (λ i. (o.is i, o.prepares i)) due.due in
-            let can = (prepare_due setup (world setup middle) o.pod (step_of (world setup middle).store.rows o.pod) (waiting_due setup (world setup middle) o.pod (Some dues.Prepare) o.waits prepare)).1 in
+            let can = (prepare_due setup (world setup middle) o.pod (step_of (world setup middle).store.rows o.pod)
+            (waiting_due setup (world setup middle) o.pod (Some dues.Prepare) o.waits prepare)).1 in
             gone.tried high first.0 o.pod there o.waits prepare (λ was.
-            let in_turn_ = all_in_turn (Some was.was.node.meta.name) can.node (nodes_of (world setup middle).store.rows) (in_nodes can.node (world setup middle).store.rows (found_stands (node_key can.node.meta.name) (Node can.node) (world setup middle).store.rows can.there)) in
-            let some = one_tried setup (world setup middle) o.pod (in_turn (Some was.was.node.meta.name) (nodes_of (world setup middle).store.rows)) can.node was.tries in_turn_ (record { shares = can.shares; serves = can.serves; given_is = can.given }) was.are in
+            let in_turn_ = all_in_turn (Some was.was.node.meta.name) can.node (nodes_of (world setup middle).store.rows)
+            (in_nodes can.node (world setup middle).store.rows (found_stands (node_key can.node.meta.name) (Node can.node) (world setup middle).store.rows can.there)) in
+            let some = one_tried setup (world setup middle) o.pod
+            (in_turn (Some was.was.node.meta.name) (nodes_of (world setup middle).store.rows)) can.node was.tries in_turn_
+            (record { shares = can.shares; serves = can.serves; given_is = can.given }) was.are in
             let few = was.few in
             more (omega (arith, some, few, count)))
 
@@ -312,7 +325,8 @@ module _ (waiting : WaitingAreTried) (go_on : SearchesGoOn) (setup : Setup) (all
           })
 
   -- where a whole round came before
-  behind_round : (ds after : List Drainer) (h past : List Entry) (b left : ℕ) → MaySettle setup ds h → length ds ≤ 13 → IsRunOf setup past → IsRound all_pass past left ds h b after true → SharesWell (world setup past) → AreFew setup after past 9
+  behind_round : (ds after : List Drainer) (h past : List Entry) (b left : ℕ) → MaySettle setup ds h → length ds ≤ 13 → IsRunOf setup past
+      → IsRound all_pass past left ds h b after true → SharesWell (world setup past) → AreFew setup after past 9
   behind_round ds after h past b left at small run round shares =
       few_behind after past (record {
         may = settles_next setup ds after h past b left at run round;
@@ -330,7 +344,8 @@ module _ (waiting : WaitingAreTried) (go_on : SearchesGoOn) (setup : Setup) (all
       by (inl none) = omega (arith, none)
       by (inr f) =
           let here = older_run setup f.newer f.middle (subst (IsRunOf setup) f.are run) in
-          let few = behind_round ds f.next h f.middle f.b f.left at small here f.round (rounds_share_well setup all_pass ds f.next h f.middle f.b f.left true at.may.stand.roles here f.round shares) after past f.later run order f.quiet in
+          let few = behind_round ds f.next h f.middle f.b f.left at small here f.round
+          (rounds_share_well setup all_pass ds f.next h f.middle f.b f.left true at.may.stand.roles here f.round shares) after past f.later run order f.quiet in
           let count = f.count in
           omega (arith, few, count)
 
@@ -342,4 +357,5 @@ quiet_rounds_are_few setup = record {
 }
 
 pub shared_drains_settle : SharedDrainsSettle
-shared_drains_settle setup ds after h past b left allow at shares has run order drained = measured_drains_settle setup (quiet_rounds_are_few setup) ds after h past b left allow at shares has run order drained
+shared_drains_settle setup ds after h past b left allow at shares has run order drained =
+    measured_drains_settle setup (quiet_rounds_are_few setup) ds after h past b left allow at shares has run order drained

@@ -4,12 +4,12 @@ use Rattle.std.specs.Prelude.{map, nat_lt, slice_get}
 use Rattle.std.proofs.lemmas.Bool.Decides.{nat_tests}
 use Rattle.std.proofs.lemmas.Option.{slice_get_within}
 use Rattle.plain_data.specs.Pairs.{value_at}
-use Rattle.kube_types.specs.declared.key.Key.{Key}
-use Rattle.kube_types.specs.declared.objects.Claim.{Claim as ClaimData}
-use Rattle.kube_types.specs.declared.objects.Object.TheVariants.{Claim}
-use Rattle.kube_types.specs.Bindings.{selected_node}
-use Rattle.kube_types.specs.Keys.{key_of, row_at}
-use Rattle.kube_types.proofs.KeyOrder.{row_at-put_row}
+use Rattle.kube_objects.specs.declared.key.Key.{Key}
+use Rattle.kube_objects.specs.declared.objects.Claim.{Claim as ClaimData}
+use Rattle.kube_objects.specs.declared.objects.Object.TheVariants.{Claim}
+use Rattle.kube_objects.specs.Bindings.{selected_node}
+use Rattle.kube_objects.specs.Keys.{key_of, row_at}
+use Rattle.kube_objects.proofs.KeyOrder.{row_at-put_row}
 use Rattle.call_types.specs.declared.entry.Entry.{Entry}
 use Rattle.call_types.specs.declared.reply.Reply.TheVariants.{Done}
 use Rattle.call_types.specs.declared.request.Request.{Request}
@@ -57,7 +57,8 @@ module _ (setup : Setup) (seat : ℕ) (role : Role) (kind : role.kind ≡ seats.
     unfolding world_after after log_after updated_object with_meta with_status_of
     node_there = record {
       claim = _;
-      there = ap (λ (x : Effect). row_at (key_of (Claim c)) (world_after (world setup g) x).store.rows) (comes_to setup (world setup g) name c on_store role.kind kind false stays) ∙ row_at-put_row (placed setup (world setup g) name c on_store) (world setup g).store.rows;
+      there = ap (λ (x : Effect). row_at (key_of (Claim c)) (world_after (world setup g) x).store.rows)
+          (comes_to setup (world setup g) name c on_store role.kind kind false stays) ∙ row_at-put_row (placed setup (world setup g) name c on_store) (world setup g).store.rows;
       node = value_put selected_node name c.meta.annotations;
     }
 
@@ -68,7 +69,8 @@ module _ (setup : Setup) (seat : ℕ) (role : Role) (kind : role.kind ≡ seats.
 
   module _ (writes : List Request) where
     -- the last one to nothing
-    ends_on : (place : ℕ) (c new : ClaimData) → slice_get writes place ≡ Some (placing name c) → slice_get writes (place + 1) ≡ None → under_after (at_place key name writes place c) (Done (Claim new)) ≡ None
+    ends_on : (place : ℕ) (c new : ClaimData) → slice_get writes place ≡ Some (placing name c) → slice_get writes (place + 1) ≡ None
+        → under_after (at_place key name writes place c) (Done (Claim new)) ≡ None
     unfolding schedule_call schedule_moved
     ends_on place c new here next =
         let within = slice_get_within writes place (placing name c) here in
@@ -87,7 +89,9 @@ module _ (setup : Setup) (seat : ℕ) (role : Role) (kind : role.kind ≡ seats.
         pub placed : Each (NodeAt at) cs
         pub others : (k : Key) → Each (λ c. key_of (Claim c) ≢ k) cs → row_at k (world setup at).store.rows ≡ row_at k (world setup g).store.rows
 
-      pub through : (c : ClaimData) (cs : List ClaimData) (place : ℕ) (g : List Entry) → Asked setup seat role kind key after_ past left history fresh g (at_place key name writes place c) → AreFrom writes place (map (placing name) (c ∷ cs)) → Each (Stands (world setup g).store.rows) (c ∷ cs) → AreApart (c ∷ cs) → EndsAt g (c ∷ cs)
+      pub through : (c : ClaimData) (cs : List ClaimData) (place : ℕ) (g : List Entry)
+          → Asked setup seat role kind key after_ past left history fresh g (at_place key name writes place c)
+          → AreFrom writes place (map (placing name) (c ∷ cs)) → Each (Stands (world setup g).store.rows) (c ∷ cs) → AreApart (c ∷ cs) → EndsAt g (c ∷ cs)
       through c [] place g asked are stand apart =
           let s = said g c stand.0 in
           let e = own_entry setup seat role.kind g (placing name c) in
@@ -95,7 +99,8 @@ module _ (setup : Setup) (seat : ℕ) (role : Role) (kind : role.kind ≡ seats.
             state = asked.next;
             at = e ∷ g;
             on = asked.on;
-            idle = asked.follows ∙ (ap (under_after (at_place key name writes place c)) s.1 ∙ ends_on place c s.0 (at_from writes place (placing name c ∷ []) are) (at_from writes (place + 1) [] (later_from writes place (placing name c) [] are)));
+            idle = asked.follows ∙ (ap (under_after (at_place key name writes place c)) s.1 ∙ ends_on place c s.0
+                (at_from writes place (placing name c ∷ []) are) (at_from writes (place + 1) [] (later_from writes place (placing name c) [] are)));
             older = e ∷ [];
             behind = refl;
             placed = (node_there g c stand.0, tt);
@@ -105,7 +110,9 @@ module _ (setup : Setup) (seat : ℕ) (role : Role) (kind : role.kind ≡ seats.
           let s = said g c stand.0 in
           let e = own_entry setup seat role.kind g (placing name c) in
           let next_are = later_from writes place (placing name c) (map (placing name) (d ∷ ds)) are in
-          let under : asked.next.under ≡ Some (at_place key name writes (place + 1) d) = asked.follows ∙ (ap (under_after (at_place key name writes place c)) s.1 ∙ goes_on key name writes place c d s.0 (at_from writes place (map (placing name) (c ∷ d ∷ ds)) are) (at_from writes (place + 1) (map (placing name) (d ∷ ds)) next_are)) in
+          let under : asked.next.under ≡ Some (at_place key name writes (place + 1) d) = asked.follows
+          ∙ (ap (under_after (at_place key name writes place c)) s.1
+          ∙ goes_on key name writes place c d s.0 (at_from writes place (map (placing name) (c ∷ d ∷ ds)) are) (at_from writes (place + 1) (map (placing name) (d ∷ ds)) next_are)) in
           let next = asked_next setup seat role kind key after_ past left history fresh asked.next (e ∷ g) (at_place key name writes (place + 1) d) asked.on under in
           let stands_next = still_stand (world setup g).store.rows (world setup (e ∷ g)).store.rows c (d ∷ ds) (others_there g c stand.0) apart.0 stand.1 in
           let rest = through d ds (place + 1) (e ∷ g) next next_are stands_next apart.1 in

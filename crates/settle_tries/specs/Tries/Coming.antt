@@ -1,11 +1,11 @@
 -- Where the calls of a slot come from that begins with nothing under way: each that lasts is one of what the actor decided in it.
 -- A choice of this project.
 use Rattle.std.specs.Prelude.{ℕ, ◌≡◌, ◌++◌, Bool, List, ◌∷◌, None, Some, false, slice_get}
-use Rattle.kube_types.specs.declared.key.Key.{Key}
-use Rattle.kube_types.specs.declared.objects.Object.TheVariants.{Pod}
-use Rattle.kube_types.specs.declared.objects.Pod.{Pod as PodData}
-use Rattle.kube_types.specs.Bindings.{is_scheduled}
-use Rattle.kube_types.specs.Keys.{row_at}
+use Rattle.kube_objects.specs.declared.key.Key.{Key}
+use Rattle.kube_objects.specs.declared.objects.Object.TheVariants.{Pod}
+use Rattle.kube_objects.specs.declared.objects.Pod.{Pod as PodData}
+use Rattle.kube_objects.specs.Bindings.{is_scheduled}
+use Rattle.kube_objects.specs.Keys.{row_at}
 use Rattle.call_types.specs.declared.entry.Entry.{Entry}
 use Rattle.call_types.specs.declared.request.Request.{Request}
 use Rattle.call_types.specs.declared.request.SeatKind.TheVariants as seats
@@ -48,7 +48,8 @@ pub record IsCallOf (setup : Setup) (seat : ℕ) (role : Role) (h : List Entry) 
 -- so is each entry of the slot that lasts
 abbrev pub LastingAreDecided : Type 0
 LastingAreDecided =
-    (setup : Setup) (seat : ℕ) (old after : ActorState) (h past : List Entry) (b left : ℕ) (idle : Bool) (newer older : List Entry) (e : Entry) → IsBuiltKind old.role.kind → IsRunOf setup past → old.under ≡ None → Runs all_pass seat after past left idle (woken old) h b
+    (setup : Setup) (seat : ℕ) (old after : ActorState) (h past : List Entry) (b left : ℕ) (idle : Bool) (newer older : List Entry) (e : Entry)
+    → IsBuiltKind old.role.kind → IsRunOf setup past → old.under ≡ None → Runs all_pass seat after past left idle (woken old) h b
     → past ≡ newer ++ (e ∷ older ++ h) → Lasts setup (world setup (older ++ h)) e.kind e.request → IsCallOf setup seat old.role h e (older ++ h)
 
 -- of a scheduler it is one of the writes of its choice for a pod that no node runs, which stood there under the key
@@ -63,4 +64,5 @@ pub record IsForPod (setup : Setup) (h : List Entry) (refused : List Tried) (key
 
 abbrev pub DecidedAreForPods : Type 0
 DecidedAreForPods =
-    (setup : Setup) (seat : ℕ) (role : Role) (h g : List Entry) (u : Under) → role.kind ≡ seats.Scheduler → (i : IsDecidedIn setup seat role h g u) → IsForPod setup i.point i.state.memory.tries.refused i.first.key u.call
+    (setup : Setup) (seat : ℕ) (role : Role) (h g : List Entry) (u : Under) → role.kind ≡ seats.Scheduler → (i : IsDecidedIn setup seat role h g u)
+    → IsForPod setup i.point i.state.memory.tries.refused i.first.key u.call

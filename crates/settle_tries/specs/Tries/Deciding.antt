@@ -2,9 +2,9 @@
 -- key, where it acts on it there, makes a call that lasts.
 -- A choice of this project, after the informers and work queues of client-go.
 use Rattle.std.specs.Prelude.{ℕ, ◌≡◌, ◌++◌, true, false, List, ◌∷◌, Some, None}
-use Rattle.kube_types.specs.declared.key.Key.{Key}
-use Rattle.kube_types.specs.declared.objects.Object.{Object}
-use Rattle.kube_types.specs.Keys.{row_at}
+use Rattle.kube_objects.specs.declared.key.Key.{Key}
+use Rattle.kube_objects.specs.declared.objects.Object.{Object}
+use Rattle.kube_objects.specs.Keys.{row_at}
 use Rattle.call_types.specs.declared.entry.Entry.{Entry}
 use Rattle.call_types.specs.declared.request.SeatKind.{SeatKind}
 use Rattle.call_types.specs.declared.setup.Setup.{Setup}
@@ -52,6 +52,8 @@ pub record IsActedOn (setup : Setup) (seat : ℕ) (role : Role) (key : Key) (h p
 -- so where the actor acts on the key at each point of the slot, by what stands there
 abbrev pub CachedAreDecided : Type 0
 CachedAreDecided =
-    (setup : Setup) (lets : Lets) (seat : ℕ) (key : Key) (o : Object) (old after : ActorState) (h past : List Entry) (b left : ℕ) → IsBuiltKind old.role.kind → IsHistory setup past → old.under ≡ None → follows old.role.kind key.kind ≡ true
-    → row_at key (all_objects old.caches) ≡ Some o → Runs lets seat after past left true (woken old) h b → after.memory.stale ≡ false → ((x : List Entry) → IsWithin h x past → ActsOn setup lets seat old.role x key)
+    (setup : Setup) (lets : Lets) (seat : ℕ) (key : Key) (o : Object) (old after : ActorState) (h past : List Entry) (b left : ℕ)
+    → IsBuiltKind old.role.kind → IsHistory setup past → old.under ≡ None → follows old.role.kind key.kind ≡ true
+    → row_at key (all_objects old.caches) ≡ Some o → Runs lets seat after past left true (woken old) h b → after.memory.stale ≡ false
+    → ((x : List Entry) → IsWithin h x past → ActsOn setup lets seat old.role x key)
     → IsActedOn setup seat old.role key h past

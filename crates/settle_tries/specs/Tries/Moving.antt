@@ -1,11 +1,11 @@
 -- What a round does in which as much is left to do: it moves the nodes of claims, and nothing else.
 -- A choice of this project.
 use Rattle.std.specs.Prelude.{◌≡◌, ◌⊎◌, ◌≤◌, Bool, true, false, List, Some}
-use Rattle.kube_types.specs.declared.key.Key.{Key}
-use Rattle.kube_types.specs.declared.objects.Claim.{Claim as ClaimData}
-use Rattle.kube_types.specs.declared.objects.Object.TheVariants.{Claim}
-use Rattle.kube_types.specs.Bindings.{has_key, selected_node}
-use Rattle.kube_types.specs.Keys.{row_at}
+use Rattle.kube_objects.specs.declared.key.Key.{Key}
+use Rattle.kube_objects.specs.declared.objects.Claim.{Claim as ClaimData}
+use Rattle.kube_objects.specs.declared.objects.Object.TheVariants.{Claim}
+use Rattle.kube_objects.specs.Bindings.{has_key, selected_node}
+use Rattle.kube_objects.specs.Keys.{row_at}
 use Rattle.call_types.specs.declared.entry.Entry.{Entry}
 use Rattle.call_types.specs.declared.request.SeatKind.{SeatKind}
 use Rattle.call_types.specs.declared.request.SeatKind.TheVariants as seats
@@ -46,4 +46,5 @@ EntriesMoveNodes =
 
 -- so some entries leave the world near
 abbrev pub PaidLeaveNear : Type 0
-PaidLeaveNear = (setup : Setup) (h past : List Entry) → IsRunOf setup past → AreAlwaysInOrder setup past → HavePaid setup h past → work_left setup (world setup h) ≤ work_left setup (world setup past) → AreNear (world setup h) (world setup past)
+PaidLeaveNear = (setup : Setup) (h past : List Entry) → IsRunOf setup past → AreAlwaysInOrder setup past → HavePaid setup h past
+    → work_left setup (world setup h) ≤ work_left setup (world setup past) → AreNear (world setup h) (world setup past)

@@ -1,16 +1,16 @@
 -- A round in which as much is left to do as before, and what is due at its end.
 -- A choice of this project.
 use Rattle.std.specs.Prelude.{ℕ, ◌≡◌, Bool, true, false, List, Some, is_some, slice_get}
-use Rattle.kube_types.specs.declared.key.Key.{Key}
-use Rattle.kube_types.specs.declared.names.Due.{Due}
-use Rattle.kube_types.specs.declared.names.Due.TheVariants as dues
-use Rattle.kube_types.specs.declared.objects.Object.{Object}
-use Rattle.kube_types.specs.declared.objects.Object.TheVariants.{Pod}
-use Rattle.kube_types.specs.declared.objects.Pod.{Pod as PodData}
-use Rattle.kube_types.specs.declared.parts.Kind.{Kind}
-use Rattle.kube_types.specs.declared.parts.Kind.TheVariants as kinds
-use Rattle.kube_types.specs.Bindings.{is_scheduled}
-use Rattle.kube_types.specs.Keys.{row_at}
+use Rattle.kube_objects.specs.declared.key.Key.{Key}
+use Rattle.kube_parts.specs.declared.names.Due.{Due}
+use Rattle.kube_parts.specs.declared.names.Due.TheVariants as dues
+use Rattle.kube_objects.specs.declared.objects.Object.{Object}
+use Rattle.kube_objects.specs.declared.objects.Object.TheVariants.{Pod}
+use Rattle.kube_objects.specs.declared.objects.Pod.{Pod as PodData}
+use Rattle.kube_parts.specs.declared.parts.Kind.{Kind}
+use Rattle.kube_parts.specs.declared.parts.Kind.TheVariants as kinds
+use Rattle.kube_objects.specs.Bindings.{is_scheduled}
+use Rattle.kube_objects.specs.Keys.{row_at}
 use Rattle.call_types.specs.declared.entry.Entry.{Entry}
 use Rattle.call_types.specs.declared.request.SeatKind.{SeatKind}
 use Rattle.call_types.specs.declared.request.SeatKind.TheVariants as seats
@@ -37,7 +37,8 @@ decides_kind kind k = false
 -- ops has each volume and each claim that stands among its caches, and the scheduler each pod
 abbrev pub AreCached : Setup → List Drainer → List Entry → Type 0
 AreCached setup ds h =
-    (place : ℕ) (d : Drainer) → slice_get ds place ≡ Some d → (key : Key) (o : Object) → row_at key (world setup h).store.rows ≡ Some o → decides_kind d.actor.role.kind key.kind ≡ true → is_some (row_at key (all_objects d.actor.caches)) ≡ true
+    (place : ℕ) (d : Drainer) → slice_get ds place ≡ Some d → (key : Key) (o : Object) → row_at key (world setup h).store.rows ≡ Some o
+    → decides_kind d.actor.role.kind key.kind ≡ true → is_some (row_at key (all_objects d.actor.caches)) ≡ true
 
 -- a whole round of a drain that leaves as much to do
 pub record IsQuietRound (setup : Setup) (ds after : List Drainer) (h past : List Entry) (b left : ℕ) : Type 0 where
@@ -61,7 +62,8 @@ OnlyPrepares setup w = (key : Key) (o : Object) (action : Due) → row_at key w.
 
 -- a whole round tells its actors what stands
 abbrev pub RoundsCache : Type 0
-RoundsCache = (setup : Setup) (ds after : List Drainer) (h past : List Entry) (b left : ℕ) → MaySettle setup ds h → IsRunOf setup past → IsRound all_pass past left ds h b after true → AreCached setup after past
+RoundsCache = (setup : Setup) (ds after : List Drainer) (h past : List Entry) (b left : ℕ) → MaySettle setup ds h → IsRunOf setup past
+    → IsRound all_pass past left ds h b after true → AreCached setup after past
 
 -- a quiet round leaves the world near
 abbrev pub QuietRoundsLeaveNear : Type 0

@@ -1,13 +1,13 @@
 -- Actors leave claims shared as they are: no pod comes, no claim is completed no more, and only a claim that names no class gets one.
 -- A choice of this project.
 use Rattle.std.specs.Prelude.{ℕ, ◌≡◌, ◌⊎◌, Bool, true, false, List, [], Some}
-use Rattle.kube_types.specs.declared.key.Key.{Key}
-use Rattle.kube_types.specs.declared.objects.Claim.{Claim as ClaimData}
-use Rattle.kube_types.specs.declared.objects.Class.{Class as ClassData}
-use Rattle.kube_types.specs.declared.objects.Object.TheVariants.{Claim, Class, Pod}
-use Rattle.kube_types.specs.declared.objects.Pod.{Pod as PodData}
-use Rattle.kube_types.specs.Bindings.{class_of_claim, is_completed, is_scheduled}
-use Rattle.kube_types.specs.Keys.{row_at}
+use Rattle.kube_objects.specs.declared.key.Key.{Key}
+use Rattle.kube_objects.specs.declared.objects.Claim.{Claim as ClaimData}
+use Rattle.kube_objects.specs.declared.objects.Class.{Class as ClassData}
+use Rattle.kube_objects.specs.declared.objects.Object.TheVariants.{Claim, Class, Pod}
+use Rattle.kube_objects.specs.declared.objects.Pod.{Pod as PodData}
+use Rattle.kube_objects.specs.Bindings.{class_of_claim, is_completed, is_scheduled}
+use Rattle.kube_objects.specs.Keys.{row_at}
 use Rattle.call_types.specs.declared.entry.Entry.{Entry}
 use Rattle.call_types.specs.declared.setup.Setup.{Setup}
 use Rattle.binder_model.specs.Promises.{IsRunOf}
@@ -46,4 +46,5 @@ pub record KeepsSharing (old new : World) : Type 0 where
 -- so in a round, whole or not
 abbrev pub RoundsShareWell : Type 0
 RoundsShareWell =
-    (setup : Setup) (lets : Lets) (ds after : List Drainer) (h past : List Entry) (b left : ℕ) (whole : Bool) → AreRoles (roles_of ds) → IsRunOf setup past → IsRound lets past left ds h b after whole → SharesWell (world setup h) → SharesWell (world setup past)
+    (setup : Setup) (lets : Lets) (ds after : List Drainer) (h past : List Entry) (b left : ℕ) (whole : Bool) → AreRoles (roles_of ds)
+    → IsRunOf setup past → IsRound lets past left ds h b after whole → SharesWell (world setup h) → SharesWell (world setup past)

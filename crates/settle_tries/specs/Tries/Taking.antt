@@ -1,12 +1,12 @@
 -- A claim from which ops takes a node back in a slot was to lose it when the slot began.
 -- Source: `rescheduleProvisioning` of `pv_controller.go`, which takes a node that cannot serve the claim back.
 use Rattle.std.specs.Prelude.{ℕ, ◌≡◌, ◌≢◌, ◌⊎◌, ◌≤◌, ◌++◌, ◌∷◌, Bool, true, false, List, None, Some, slice_get}
-use Rattle.kube_types.specs.declared.key.Key.{Key}
-use Rattle.kube_types.specs.declared.names.Due.TheVariants as dues
-use Rattle.kube_types.specs.declared.objects.Claim.{Claim as ClaimData}
-use Rattle.kube_types.specs.declared.objects.Object.TheVariants.{Claim}
-use Rattle.kube_types.specs.Bindings.{has_key, selected_node}
-use Rattle.kube_types.specs.Keys.{row_at}
+use Rattle.kube_objects.specs.declared.key.Key.{Key}
+use Rattle.kube_parts.specs.declared.names.Due.TheVariants as dues
+use Rattle.kube_objects.specs.declared.objects.Claim.{Claim as ClaimData}
+use Rattle.kube_objects.specs.declared.objects.Object.TheVariants.{Claim}
+use Rattle.kube_objects.specs.Bindings.{has_key, selected_node}
+use Rattle.kube_objects.specs.Keys.{row_at}
 use Rattle.call_types.specs.declared.entry.Entry.{Entry}
 use Rattle.call_types.specs.declared.request.SeatKind.TheVariants as seats
 use Rattle.call_types.specs.declared.setup.Setup.{Setup}
@@ -28,8 +28,10 @@ use Rattle.settle_tries.specs.Tries.Quiet.{AreCached, IsQuietRound, OnlyPrepares
 -- ClearNode is due for each claim that has a node when a slot of ops begins at rest, and none when it ends, where it leaves as much to do
 abbrev pub TakenWereDue : Type 0
 TakenWereDue =
-    (setup : Setup) (seat : ℕ) (old after : ActorState) (h past : List Entry) (b left : ℕ) (idle : Bool) (key : Key) (c d : ClaimData) → old.role.kind ≡ seats.Ops → IsRunOf setup past → AreAlwaysInOrder setup past → old.under ≡ None
-    → Runs all_pass seat after past left idle (woken old) h b → HavePaid setup h past → work_left setup (world setup h) ≤ work_left setup (world setup past) → row_at key (world setup h).store.rows ≡ Some (Claim c) → row_at key (world setup past).store.rows ≡ Some (Claim d)
+    (setup : Setup) (seat : ℕ) (old after : ActorState) (h past : List Entry) (b left : ℕ) (idle : Bool) (key : Key) (c d : ClaimData)
+    → old.role.kind ≡ seats.Ops → IsRunOf setup past → AreAlwaysInOrder setup past → old.under ≡ None
+    → Runs all_pass seat after past left idle (woken old) h b → HavePaid setup h past
+    → work_left setup (world setup h) ≤ work_left setup (world setup past) → row_at key (world setup h).store.rows ≡ Some (Claim c) → row_at key (world setup past).store.rows ≡ Some (Claim d)
     → has_key selected_node c.meta.annotations ≡ true → has_key selected_node d.meta.annotations ≡ false → provision_due setup (world setup h) c ≡ Some dues.ClearNode
 
 -- the first actor of the round, in its slot up to here
@@ -70,5 +72,6 @@ pub record IsGiven (setup : Setup) (ds : List Drainer) (h past : List Entry) (ke
 -- so it is with each claim that has no node at the end of a quiet round before which only pods were to be prepared
 abbrev pub TakenWereGiven : Type 0
 TakenWereGiven =
-    (setup : Setup) (ds after : List Drainer) (h past : List Entry) (b left : ℕ) (key : Key) (d : ClaimData) → IsQuietRound setup ds after h past b left → AreCached setup ds h → OnlyPrepares setup (world setup h)
+    (setup : Setup) (ds after : List Drainer) (h past : List Entry) (b left : ℕ) (key : Key) (d : ClaimData)
+    → IsQuietRound setup ds after h past b left → AreCached setup ds h → OnlyPrepares setup (world setup h)
     → row_at key (world setup past).store.rows ≡ Some (Claim d) → has_key selected_node d.meta.annotations ≡ false → IsGiven setup ds h past key

@@ -21,5 +21,6 @@ QuietRoundsAreFew = (setup : Setup) → AreTries setup
 -- so such a drain ends settled
 abbrev pub SharedDrainsSettle : Type 0
 SharedDrainsSettle =
-    (setup : Setup) (ds after : List Drainer) (h past : List Entry) (b left : ℕ) → ImportsAllow setup → MaySettle setup ds h → SharesWell (world setup h) → HasBudget setup ds h b → IsRunOf setup past → AreAlwaysInOrder setup past
+    (setup : Setup) (ds after : List Drainer) (h past : List Entry) (b left : ℕ) → ImportsAllow setup → MaySettle setup ds h
+    → SharesWell (world setup h) → HasBudget setup ds h b → IsRunOf setup past → AreAlwaysInOrder setup past
     → Drains all_pass setup after past left ds h b → IsSettled setup (world setup past)

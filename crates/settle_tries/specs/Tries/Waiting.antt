@@ -3,14 +3,14 @@
 -- A choice of this project, after the scheduler's volume binding plugin.
 use Rattle.std.specs.Prelude.{ℕ, ◌≡◌, true, false, List, ◌∷◌, Option, Some, slice_get}
 use Rattle.plain_data.specs.Pairs.{value_at}
-use Rattle.kube_types.specs.declared.key.Key.{Key}
-use Rattle.kube_types.specs.declared.names.Due.TheVariants as dues
-use Rattle.kube_types.specs.declared.objects.Claim.{Claim as ClaimData}
-use Rattle.kube_types.specs.declared.objects.Node.{Node as NodeData}
-use Rattle.kube_types.specs.declared.objects.Object.TheVariants.{Pod}
-use Rattle.kube_types.specs.declared.objects.Pod.{Pod as PodData}
-use Rattle.kube_types.specs.Bindings.{is_scheduled, selected_node}
-use Rattle.kube_types.specs.Keys.{row_at}
+use Rattle.kube_objects.specs.declared.key.Key.{Key}
+use Rattle.kube_parts.specs.declared.names.Due.TheVariants as dues
+use Rattle.kube_objects.specs.declared.objects.Claim.{Claim as ClaimData}
+use Rattle.kube_objects.specs.declared.objects.Node.{Node as NodeData}
+use Rattle.kube_objects.specs.declared.objects.Object.TheVariants.{Pod}
+use Rattle.kube_objects.specs.declared.objects.Pod.{Pod as PodData}
+use Rattle.kube_objects.specs.Bindings.{is_scheduled, selected_node}
+use Rattle.kube_objects.specs.Keys.{row_at}
 use Rattle.call_types.specs.declared.entry.Entry.{Entry}
 use Rattle.call_types.specs.declared.setup.Setup.{Setup}
 use Rattle.binder_model.specs.Choice.{claim_named, is_other}
@@ -73,16 +73,19 @@ pub record WasTried (setup : Setup) (ds after : List Drainer) (h past : List Ent
   pub node : NodeData
   pub tried : IsTried setup ds h past key from node
   -- up to the decision its claims stand as they stood when the round began
-  pub still : (x : List Entry) → IsWithin h x tried.point → (name : List ℕ) → SomeOf (λ n. n ≡ name) pod.claims → row_at (claim_key pod.meta.namespace name) (world setup x).store.rows ≡ row_at (claim_key pod.meta.namespace name) (world setup h).store.rows
+  pub still : (x : List Entry) → IsWithin h x tried.point → (name : List ℕ) → SomeOf (λ n. n ≡ name) pod.claims
+      → row_at (claim_key pod.meta.namespace name) (world setup x).store.rows ≡ row_at (claim_key pod.meta.namespace name) (world setup h).store.rows
   pub slot : List Entry
   pub at : IsSlotOf ds after h past b left tried.scheduler slot
   pub reached : IsWithin h tried.point slot
   -- and when the slot ends each that needs a volume has the node
-  pub placed : (name : List ℕ) → SomeOf (λ n. n ≡ name) pod.claims → (c : ClaimData) → claim_named (world setup slot).store.rows pod.meta.namespace name ≡ Some c → is_other (world setup slot).store.rows c ≡ true
+  pub placed : (name : List ℕ) → SomeOf (λ n. n ≡ name) pod.claims → (c : ClaimData)
+      → claim_named (world setup slot).store.rows pod.meta.namespace name ≡ Some c → is_other (world setup slot).store.rows c ≡ true
       → value_at selected_node c.meta.annotations ≡ Some node.meta.name
 
 -- so it is with each pod that is to be prepared at the end of a round that leaves as much to do, where nothing else was due before
 abbrev pub WaitingAreTried : Type 0
 WaitingAreTried =
-    (setup : Setup) (ds after : List Drainer) (h past : List Entry) (b left : ℕ) (key : Key) (p : PodData) → IsQuietRound setup ds after h past b left → AreCached setup ds h → OnlyPrepares setup (world setup h) → SharesWell (world setup h)
+    (setup : Setup) (ds after : List Drainer) (h past : List Entry) (b left : ℕ) (key : Key) (p : PodData)
+    → IsQuietRound setup ds after h past b left → AreCached setup ds h → OnlyPrepares setup (world setup h) → SharesWell (world setup h)
     → row_at key (world setup past).store.rows ≡ Some (Pod p) → is_scheduled p ≡ false → IsDue setup (world setup past) (Pod p) (Some dues.Prepare) → WasTried setup ds after h past b left key

@@ -1,17 +1,17 @@
 -- How many pods stand, and what a call of an actor does to them.
 use Rattle.std.proofs.Common.{◌≡◌, ◌∙◌, ℕ, ◌+◌, ◌≤◌, List, [], ◌∷◌, Bool, true, false, Option, Some, None, inl, inr, refl, ap, arith}
 use Rattle.std.specs.Prelude.{not, ⊤, bytes_eq}
-use Rattle.kube_types.specs.declared.key.Key.{Key}
-use Rattle.kube_types.specs.declared.names.Field.TheVariants as fields
-use Rattle.kube_types.specs.declared.parts.Kind.{Kind}
-use Rattle.kube_types.specs.declared.parts.Kind.TheVariants as kinds
-use Rattle.kube_types.specs.declared.objects.Object.{Object}
-use Rattle.kube_types.specs.declared.objects.Object.TheVariants.{Class, Node, Volume, Claim, Pod}
-use Rattle.kube_types.specs.declared.objects.Pod.{Pod as PodData}
-use Rattle.kube_types.specs.declared.uid.Uid.{Uid}
-use Rattle.kube_types.specs.Bindings.{is_deleting}
-use Rattle.kube_types.specs.Keys.{AreRows, key_of, kind_of, row_at, without_row}
-use Rattle.kube_types.proofs.KeyOrder.{row_at_key}
+use Rattle.kube_objects.specs.declared.key.Key.{Key}
+use Rattle.kube_parts.specs.declared.names.Field.TheVariants as fields
+use Rattle.kube_parts.specs.declared.parts.Kind.{Kind}
+use Rattle.kube_parts.specs.declared.parts.Kind.TheVariants as kinds
+use Rattle.kube_objects.specs.declared.objects.Object.{Object}
+use Rattle.kube_objects.specs.declared.objects.Object.TheVariants.{Class, Node, Volume, Claim, Pod}
+use Rattle.kube_objects.specs.declared.objects.Pod.{Pod as PodData}
+use Rattle.kube_parts.specs.declared.uid.Uid.{Uid}
+use Rattle.kube_objects.specs.Bindings.{is_deleting}
+use Rattle.kube_objects.specs.Keys.{AreRows, key_of, kind_of, row_at, without_row}
+use Rattle.kube_objects.proofs.KeyOrder.{row_at_key}
 use Rattle.call_types.specs.declared.entry.Entry.{Entry}
 use Rattle.call_types.specs.declared.reply.Refusal.{Refusal}
 use Rattle.call_types.specs.declared.reply.Refusal.TheVariants as refusals
@@ -144,7 +144,9 @@ ends : (s : State) (stale : Option ℕ) (node : List ℕ) (p : Option PodData) �
 unfolding finish refuse_stale
 ends s stale node None = tt
 ends s (Some current) node (Some p) = tt
-ends s None node (Some p) = refused (not (is_deleting p.meta)) (refusals.Invalid fields.Deletion) (refuse (not (bytes_eq p.node node)) (refusals.Invalid fields.NodeName) (Removes (at_version (Pod p) (s.version + 1)))) (refused (not (bytes_eq p.node node)) (refusals.Invalid fields.NodeName) (Removes (at_version (Pod p) (s.version + 1))) tt)
+ends s None node (Some p) = refused (not (is_deleting p.meta)) (refusals.Invalid fields.Deletion) (refuse (not (bytes_eq p.node node))
+    (refusals.Invalid fields.NodeName) (Removes (at_version (Pod p) (s.version + 1))))
+    (refused (not (bytes_eq p.node node)) (refusals.Invalid fields.NodeName) (Removes (at_version (Pod p) (s.version + 1))) tt)
 
 took : (w : World) (x : Outcome) (o : Object) → PutsNone x → written_by (OnStore x) ≡ Some o → (world_after w (OnStore x)).store.rows ≡ without_row (key_of o) w.store.rows
 unfolding world_after after
@@ -156,11 +158,14 @@ module _ (setup : Setup) (w : World) (order : AreRows w.store.rows) (mine : List
   abbrev rows_after : Request → List Object
   rows_after request = (world_after w (effect setup w seats.Agent request)).store.rows
 
-  finished : (key : Key) (uid : Uid) (node : List ℕ) (epoch : ℕ) → written_by (effect setup w seats.Agent (requests.FinishPod key uid node epoch)) ≡ Some o → rows_after (requests.FinishPod key uid node epoch) ≡ without_row (key_of o) w.store.rows
+  finished : (key : Key) (uid : Uid) (node : List ℕ) (epoch : ℕ)
+      → written_by (effect setup w seats.Agent (requests.FinishPod key uid node epoch)) ≡ Some o → rows_after (requests.FinishPod key uid node epoch) ≡ without_row (key_of o) w.store.rows
   unfolding effect on_devices device_answer outcome refuse
-  finished key uid node epoch written = took w (finish w.store (epoch_if_stale w.devices node epoch) node (pod_with uid (row_at key w.store.rows))) o (ends w.store (epoch_if_stale w.devices node epoch) node (pod_with uid (row_at key w.store.rows))) written
+  finished key uid node epoch written = took w (finish w.store (epoch_if_stale w.devices node epoch) node (pod_with uid (row_at key w.store.rows))) o
+      (ends w.store (epoch_if_stale w.devices node epoch) node (pod_with uid (row_at key w.store.rows))) written
 
-  pub agent_takes : (request : Request) → Licensed seats.Agent mine request → written_by (effect setup w seats.Agent request) ≡ Some o → Writes w seats.Agent request o → pods_in (rows_after request) + 1 ≤ pods_in w.store.rows
+  pub agent_takes : (request : Request) → Licensed seats.Agent mine request → written_by (effect setup w seats.Agent request) ≡ Some o
+      → Writes w seats.Agent request o → pods_in (rows_after request) + 1 ≤ pods_in w.store.rows
   agent_takes (requests.FinishPod key uid node epoch) may written i =
       let n = finished_next w.store seats.Agent key uid node (epoch_if_stale w.devices node epoch) o i in
       pod_leaves w.store.rows (rows_after (requests.FinishPod key uid node epoch)) order o i.pod n.there (finished key uid node epoch written)

@@ -20,7 +20,8 @@ module _ (setup : Setup) (lets : Lets) (past : List Entry) (left : ℕ) (run : I
   abbrev pods_at : List Entry → ℕ
   pods_at h = pods_in (world setup h).store.rows
 
-  sum : (ds : List Drainer) (h : List Entry) (b : ℕ) (after : List Drainer) (whole : Bool) (round : IsRound lets past left ds h b after whole) → AreBuilt (roles_of ds) → agents_writes setup lets past left ds h b after whole round + pods_at past ≤ pods_at h
+  sum : (ds : List Drainer) (h : List Entry) (b : ℕ) (after : List Drainer) (whole : Bool) (round : IsRound lets past left ds h b after whole)
+      → AreBuilt (roles_of ds) → agents_writes setup lets past left ds h b after whole round + pods_at past ≤ pods_at h
   sum _ h b _ _ (Ends entries rest) built = let e = ap pods_at entries in omega (arith, e)
   sum _ h b _ _ (Turns {ds = ds} {after = after} {whole = whole} d ran middle rest idle same runs more) built =
       let slot = by d.actor.role.kind refl in

@@ -1,7 +1,7 @@
 -- In a slot of an agent a pod leaves with each write, and in no slot one comes.
 use Rattle.std.proofs.Common.{◌≡◌, ◌∙◌, ℕ, ◌+◌, ◌≤◌, List, ◌∷◌, Bool, Some, refl, sym, ap, subst, arith}
-use Rattle.kube_types.specs.declared.objects.Object.{Object}
-use Rattle.kube_types.specs.Keys.{AreRows}
+use Rattle.kube_objects.specs.declared.objects.Object.{Object}
+use Rattle.kube_objects.specs.Keys.{AreRows}
 use Rattle.call_types.specs.declared.entry.Entry.{Entry}
 use Rattle.call_types.specs.declared.reply.Reply.{Reply}
 use Rattle.call_types.specs.declared.request.Request.{Request}
@@ -62,21 +62,27 @@ module _ (setup : Setup) (w : World) (order : AreRows w.store.rows) (mine : List
 
 -- ---- the slots
 
-module _ (setup : Setup) (lets : Lets) (seat : ℕ) (old after : ActorState) (h past : List Entry) (b left : ℕ) (idle : Bool) (run : IsRunOf setup past) (runs : Runs lets seat after past left idle (woken old) h b) where
+module _ (setup : Setup) (lets : Lets) (seat : ℕ) (old after : ActorState) (h past : List Entry) (b left : ℕ) (idle : Bool)
+    (run : IsRunOf setup past) (runs : Runs lets seat after past left idle (woken old) h b) where
   slot_low : old.role.kind ≡ seats.Agent → low (world setup past) ≤ low (world setup h)
-  slot_low kind = run_moves setup lets seat after past left idle run old.role (subst IsBuiltKind (sym kind) tt) (λ w v. low v ≤ low w) (λ w. omega arith) (λ x y z few fewer. omega (arith, few, fewer)) calls (woken old) h b runs refl
+  slot_low kind = run_moves setup lets seat after past left idle run old.role (subst IsBuiltKind (sym kind) tt) (λ w v. low v ≤ low w)
+      (λ w. omega arith) (λ x y z few fewer. omega (arith, few, fewer)) calls (woken old) h b runs refl
     where
-      calls : (x : ActorState) (request : Request) (reply : Reply) (g : List Entry) → x.role ≡ old.role → IsCalled setup seat x request reply g → low (world setup (told_entry seat x request reply ∷ g)) ≤ low (world setup g)
+      calls : (x : ActorState) (request : Request) (reply : Reply) (g : List Entry) → x.role ≡ old.role → IsCalled setup seat x request reply g
+          → low (world setup (told_entry seat x request reply ∷ g)) ≤ low (world setup g)
       calls x request reply g is called =
           let agent : x.role.kind ≡ seats.Agent = ap (λ (r : Role). r.kind) is ∙ kind in
           let here = lowers setup (world setup g) (rows_stand_in_order setup g) (own seat g) request (subst (λ k. Licensed k (own seat g) request) agent called.may) in
           subst (λ k. low (world_after (world setup g) (effect setup (world setup g) k request)) ≤ low (world setup g)) (sym agent) here
 
   slot_pods : IsBuiltKind old.role.kind → pods (world setup past) ≤ pods (world setup h)
-  slot_pods built = run_moves setup lets seat after past left idle run old.role built (λ w v. pods v ≤ pods w) (λ w. omega arith) (λ x y z few fewer. omega (arith, few, fewer)) calls (woken old) h b runs refl
+  slot_pods built = run_moves setup lets seat after past left idle run old.role built (λ w v. pods v ≤ pods w) (λ w. omega arith)
+      (λ x y z few fewer. omega (arith, few, fewer)) calls (woken old) h b runs refl
     where
-      calls : (x : ActorState) (request : Request) (reply : Reply) (g : List Entry) → x.role ≡ old.role → IsCalled setup seat x request reply g → pods (world setup (told_entry seat x request reply ∷ g)) ≤ pods (world setup g)
-      calls x request reply g is called = stays setup (world setup g) (rows_stand_in_order setup g) (own seat g) request x.role.kind (subst (λ (r : Role). IsBuiltKind r.kind) (sym is) built) called.may
+      calls : (x : ActorState) (request : Request) (reply : Reply) (g : List Entry) → x.role ≡ old.role → IsCalled setup seat x request reply g
+          → pods (world setup (told_entry seat x request reply ∷ g)) ≤ pods (world setup g)
+      calls x request reply g is called = stays setup (world setup g) (rows_stand_in_order setup g) (own seat g) request x.role.kind (subst
+          (λ (r : Role). IsBuiltKind r.kind) (sym is) built) called.may
 
 pub agents_write_little : AgentsWriteLittle
 agents_write_little setup lets seat old after h past b left idle kind run runs =

@@ -1,11 +1,11 @@
 -- How large the number of the writes of ops is, by the objects.
 use Rattle.std.proofs.Common.{◌+◌, ◌≤◌, List, [], ◌∷◌, Bool, true, false, Option, Some, None, arith}
 use Rattle.std.specs.Prelude.{not, ◌||◌}
-use Rattle.kube_types.specs.declared.uid.Uid.{Uid}
-use Rattle.kube_types.specs.declared.objects.Object.{Object}
-use Rattle.kube_types.specs.declared.objects.Object.TheVariants.{Class, Node, Volume, Claim, Pod}
-use Rattle.kube_types.specs.Bindings.{is_deleting, is_ended}
-use Rattle.kube_types.specs.Keys.{row_at}
+use Rattle.kube_parts.specs.declared.uid.Uid.{Uid}
+use Rattle.kube_objects.specs.declared.objects.Object.{Object}
+use Rattle.kube_objects.specs.declared.objects.Object.TheVariants.{Class, Node, Volume, Claim, Pod}
+use Rattle.kube_objects.specs.Bindings.{is_deleting, is_ended}
+use Rattle.kube_objects.specs.Keys.{row_at}
 use Rattle.binder_model.specs.ObjectKeys.{volume_key}
 use Rattle.binder_model.specs.Provisioning.{data_name}
 use Rattle.binder_model.specs.World.{world}

@@ -2,16 +2,16 @@
 use Rattle.std.proofs.Common.{◌≡◌, ◌⊎◌, ℕ, ◌+◌, ◌≤◌, List, Bool, true, false, true≢false, Option, Some, None, inl, inr, refl, sym, ap, subst, arith, if◌then◌else◌}
 use Rattle.std.specs.Prelude.{is_some, nat_lt, not, ◌&&◌, ⊤}
 use Rattle.plain_data.specs.Pairs.{Pair}
-use Rattle.kube_types.specs.declared.names.Due.TheVariants as dues
-use Rattle.kube_types.specs.declared.names.Field.TheVariants as fields
-use Rattle.kube_types.specs.declared.parts.Kind.{Kind}
-use Rattle.kube_types.specs.declared.objects.DataId.{DataId}
-use Rattle.kube_types.specs.declared.objects.Volume.{Volume as VolumeData}
-use Rattle.kube_types.specs.declared.objects.Object.{Object}
-use Rattle.kube_types.specs.declared.objects.Object.TheVariants.{Volume}
-use Rattle.kube_types.specs.Bindings.{is_delete, is_deleting, is_ended, ref_uid}
-use Rattle.kube_types.specs.Keys.{AreRows}
-use Rattle.kube_types.specs.Sources.{data_id_of}
+use Rattle.kube_parts.specs.declared.names.Due.TheVariants as dues
+use Rattle.kube_parts.specs.declared.names.Field.TheVariants as fields
+use Rattle.kube_parts.specs.declared.parts.Kind.{Kind}
+use Rattle.kube_objects.specs.declared.objects.DataId.{DataId}
+use Rattle.kube_objects.specs.declared.objects.Volume.{Volume as VolumeData}
+use Rattle.kube_objects.specs.declared.objects.Object.{Object}
+use Rattle.kube_objects.specs.declared.objects.Object.TheVariants.{Volume}
+use Rattle.kube_objects.specs.Bindings.{is_delete, is_deleting, is_ended, ref_uid}
+use Rattle.kube_objects.specs.Keys.{AreRows}
+use Rattle.kube_objects.specs.Sources.{data_id_of}
 use Rattle.call_types.specs.declared.entry.Entry.{Entry}
 use Rattle.call_types.specs.declared.reply.Refusal.TheVariants as refusals
 use Rattle.call_types.specs.declared.reply.Reply.{Reply}
@@ -108,8 +108,10 @@ module _ (setup : Setup) (w : World) where
 
   -- of the calls of ops
   provision_faults : (op : ProvisionOp) (request : Request) (step : ProvisionStep) → provision_call_at step op.claim op.uid op.class ≡ Some request → FaultsFall request
-  provision_faults op request (provision_steps.Provisions labels) e = subst FaultsFall (one (ask_call op.claim op.uid op.class labels) request e) (let h = asked_faults (data_name op.uid) op.class.provisioner op.claim.amount.bytes labels in omega (arith, h))
-  provision_faults op request (provision_steps.Creates id topology) e = subst FaultsFall (one (create_call op.claim op.uid op.class id topology) request e) (let h = stored_faults (create_call op.claim op.uid op.class id topology) refl in omega (arith, h))
+  provision_faults op request (provision_steps.Provisions labels) e =
+      subst FaultsFall (one (ask_call op.claim op.uid op.class labels) request e) (let h = asked_faults (data_name op.uid) op.class.provisioner op.claim.amount.bytes labels in omega (arith, h))
+  provision_faults op request (provision_steps.Creates id topology) e =
+      subst FaultsFall (one (create_call op.claim op.uid op.class id topology) request e) (let h = stored_faults (create_call op.claim op.uid op.class id topology) refl in omega (arith, h))
   provision_faults op request provision_steps.ClearsNode e = subst FaultsFall (one (clear_call op.claim) request e) (let h = stored_faults (clear_call op.claim) refl in omega (arith, h))
   provision_faults op request provision_steps.Done e = none_some e
   provision_faults op request provision_steps.Parked e = none_some e
@@ -117,7 +119,8 @@ module _ (setup : Setup) (w : World) where
   erase_faults : (v : VolumeData) (request : Request) (step : EraseStep) → erase_call_at step v ≡ Some request → FaultsFall request
   erase_faults v request erase_steps.ReadsVolume e = subst FaultsFall (one (requests.Get (key_of_volume v)) request e) (let h = stored_faults (requests.Get (key_of_volume v)) refl in omega (arith, h))
   erase_faults v request (erase_steps.Erases uid) e = subst FaultsFall (one (requests.Erase (data_id_of v.source)) request e) (erased_faults (data_id_of v.source))
-  erase_faults v request (erase_steps.Deletes uid) e = subst FaultsFall (one (requests.Delete (key_of_volume v) (Some uid)) request e) (let h = stored_faults (requests.Delete (key_of_volume v) (Some uid)) refl in omega (arith, h))
+  erase_faults v request (erase_steps.Deletes uid) e =
+      subst FaultsFall (one (requests.Delete (key_of_volume v) (Some uid)) request e) (let h = stored_faults (requests.Delete (key_of_volume v) (Some uid)) refl in omega (arith, h))
   erase_faults v request erase_steps.WritesFailed e = subst FaultsFall (one (fail_call v) request e) (let h = stored_faults (fail_call v) refl in omega (arith, h))
   erase_faults v request erase_steps.Done e = none_some e
   erase_faults v request erase_steps.Parked e = none_some e
@@ -156,10 +159,12 @@ module _ (setup : Setup) (w : World) (order : AreRows w.store.rows) where
   rows_after request = (world_after w (effect setup w seats.Ops request)).store.rows
 
   abbrev WroteFalls : Request → Type 0
-  WroteFalls request = (o : Object) → written_by (effect setup w seats.Ops request) ≡ Some o → IsMoved w.store.rows (rows_after request) o → sum (rows_after request) + 1 ≤ sum w.store.rows + taken_back request + phase_written request
+  WroteFalls request = (o : Object) → written_by (effect setup w seats.Ops request) ≡ Some o → IsMoved w.store.rows (rows_after request) o
+      → sum (rows_after request) + 1 ≤ sum w.store.rows + taken_back request + phase_written request
 
   module _ (op : ProvisionOp) (has : HasClaim w.store.rows op.claim op.uid) where
-    created_stays : (id : DataId) (topology : Option (List ℕ × List ℕ)) (o : Object) → IsCreate w.store seats.Ops w.moment (Volume (provisioned_volume op.claim op.uid op.class id topology)) o → IsLeaving (create_call op.claim op.uid op.class id topology) o → ⊥
+    created_stays : (id : DataId) (topology : Option (List ℕ × List ℕ)) (o : Object)
+        → IsCreate w.store seats.Ops w.moment (Volume (provisioned_volume op.claim op.uid op.class id topology)) o → IsLeaving (create_call op.claim op.uid op.class id topology) o → ⊥
     unfolding leaves provisioned_volume created_object admitted_object without_status with_meta
     created_stays id topology o i leaving = true≢false (sym (subst (IsLeaving (create_call op.claim op.uid op.class id topology)) i.is leaving))
 
@@ -167,7 +172,8 @@ module _ (setup : Setup) (w : World) (order : AreRows w.store.rows) where
     creates id topology o written moved = let m = came setup w seats.Ops (create_call op.claim op.uid op.class id topology) o order written in by m.write m.store
       where
         by : IsCreate w.store seats.Ops w.moment (Volume (provisioned_volume op.claim op.uid op.class id topology)) o
-            → Put w (effect setup w seats.Ops (create_call op.claim op.uid op.class id topology)) o ⊎ Took w (effect setup w seats.Ops (create_call op.claim op.uid op.class id topology)) (create_call op.claim op.uid op.class id topology) o
+            → Put w (effect setup w seats.Ops (create_call op.claim op.uid op.class id topology)) o
+            ⊎ Took w (effect setup w seats.Ops (create_call op.claim op.uid op.class id topology)) (create_call op.claim op.uid op.class id topology) o
             → sum (rows_after (create_call op.claim op.uid op.class id topology)) + 1 ≤ sum w.store.rows + 0 + 0
         by i (inl put) =
             let e = ap sum put.rows in
@@ -176,26 +182,33 @@ module _ (setup : Setup) (w : World) (order : AreRows w.store.rows) where
         by i (inr took) = absurd (created_stays id topology o i took.leaves)
 
     provision_wrote : (request : Request) (step : ProvisionStep) → provision_call_at step op.claim op.uid op.class ≡ Some request → WroteFalls request
-    provision_wrote request (provision_steps.Provisions labels) e = subst WroteFalls (one (ask_call op.claim op.uid op.class labels) request e) (λ o written moved. absurd (came setup w seats.Ops (ask_call op.claim op.uid op.class labels) o order written).write)
+    provision_wrote request (provision_steps.Provisions labels) e =
+        subst WroteFalls (one (ask_call op.claim op.uid op.class labels) request e)
+        (λ o written moved. absurd (came setup w seats.Ops (ask_call op.claim op.uid op.class labels) o order written).write)
     provision_wrote request (provision_steps.Creates id topology) e = subst WroteFalls (one (create_call op.claim op.uid op.class id topology) request e) (creates id topology)
     provision_wrote request provision_steps.ClearsNode e =
         subst WroteFalls (one (clear_call op.claim) request e)
-        (λ o written moved. let h = update_stays w.store order seats.Ops o (rows_after (clear_call op.claim)) moved op.claim (unselected op.claim) (Some op.claim.meta.version) has.there (came setup w seats.Ops (clear_call op.claim) o order written).write in omega (arith, h))
+        (λ o written moved. let h = update_stays w.store order seats.Ops o (rows_after (clear_call op.claim)) moved op.claim (unselected op.claim)
+        (Some op.claim.meta.version) has.there (came setup w seats.Ops (clear_call op.claim) o order written).write in omega (arith, h))
     provision_wrote request provision_steps.Done e = none_some e
     provision_wrote request provision_steps.Parked e = none_some e
 
   erase_wrote : (v : VolumeData) (request : Request) (step : EraseStep) → StepFits w.store.rows step v → erase_call_at step v ≡ Some request → WroteFalls request
-  erase_wrote v request erase_steps.ReadsVolume fits e = subst WroteFalls (one (requests.Get (key_of_volume v)) request e) (λ o written moved. absurd (came setup w seats.Ops (requests.Get (key_of_volume v)) o order written).write)
-  erase_wrote v request (erase_steps.Erases uid) fits e = subst WroteFalls (one (requests.Erase (data_id_of v.source)) request e) (λ o written moved. absurd (came setup w seats.Ops (requests.Erase (data_id_of v.source)) o order written).write)
+  erase_wrote v request erase_steps.ReadsVolume fits e =
+      subst WroteFalls (one (requests.Get (key_of_volume v)) request e) (λ o written moved. absurd (came setup w seats.Ops (requests.Get (key_of_volume v)) o order written).write)
+  erase_wrote v request (erase_steps.Erases uid) fits e =
+      subst WroteFalls (one (requests.Erase (data_id_of v.source)) request e) (λ o written moved. absurd (came setup w seats.Ops (requests.Erase (data_id_of v.source)) o order written).write)
   erase_wrote v request (erase_steps.Deletes uid) fits e =
       let x = ended_so v fits.due in
       subst WroteFalls (one (requests.Delete (key_of_volume v) (Some uid)) request e)
       (λ o written moved.
-      let h = deleted_falls w.store order seats.Ops o (rows_after (requests.Delete (key_of_volume v) (Some uid))) moved v fits.there x.ended w.moment (Some uid) x.staying (came setup w seats.Ops (requests.Delete (key_of_volume v) (Some uid)) o order written).write in
+      let h = deleted_falls w.store order seats.Ops o (rows_after (requests.Delete (key_of_volume v) (Some uid))) moved v fits.there x.ended w.moment
+      (Some uid) x.staying (came setup w seats.Ops (requests.Delete (key_of_volume v) (Some uid)) o order written).write in
       omega (arith, h))
   erase_wrote v request erase_steps.WritesFailed fits e =
       subst WroteFalls (one (fail_call v) request e)
-      (λ o written moved. let h = failed_stays w.store order seats.Ops o (rows_after (fail_call v)) moved v fits.there (ended_so v fits.due).ended (Some v.meta.version) (came setup w seats.Ops (fail_call v) o order written).write in omega (arith, h))
+      (λ o written moved. let h = failed_stays w.store order seats.Ops o (rows_after (fail_call v)) moved v fits.there (ended_so v fits.due).ended
+      (Some v.meta.version) (came setup w seats.Ops (fail_call v) o order written).write in omega (arith, h))
   erase_wrote v request erase_steps.Done fits e = none_some e
   erase_wrote v request erase_steps.Parked fits e = none_some e
 

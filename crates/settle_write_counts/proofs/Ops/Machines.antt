@@ -1,20 +1,20 @@
 -- What ops has under way fits what stands, from the decision to its write, as long as nobody else calls.
 use Rattle.std.proofs.Common.{◌≡◌, ◌∙◌, ℕ, List, Bool, true, false, Option, Some, None, refl, sym, ap, subst, if◌then◌else◌}
 use Rattle.std.specs.Prelude.{is_some, not, ◌&&◌, ⊤}
-use Rattle.kube_types.specs.declared.key.Key.{Key}
-use Rattle.kube_types.specs.declared.names.Due.{Due}
-use Rattle.kube_types.specs.declared.names.Due.TheVariants as dues
-use Rattle.kube_types.specs.declared.uid.Uid.{Uid}
-use Rattle.kube_types.specs.declared.objects.Class.{Class as ClassData}
-use Rattle.kube_types.specs.declared.objects.Claim.{Claim as ClaimData}
-use Rattle.kube_types.specs.declared.objects.DataId.{DataId}
-use Rattle.kube_types.specs.declared.objects.Volume.{Volume as VolumeData}
-use Rattle.kube_types.specs.declared.objects.Object.{Object}
-use Rattle.kube_types.specs.declared.objects.Object.TheVariants.{Class, Node, Volume, Claim, Pod}
-use Rattle.kube_types.specs.Bindings.{class_of_claim}
-use Rattle.kube_types.specs.Keys.{key_of, row_at}
-use Rattle.kube_types.specs.Sources.{data_id_of}
-use Rattle.kube_types.proofs.KeyOrder.{row_at_key}
+use Rattle.kube_objects.specs.declared.key.Key.{Key}
+use Rattle.kube_parts.specs.declared.names.Due.{Due}
+use Rattle.kube_parts.specs.declared.names.Due.TheVariants as dues
+use Rattle.kube_parts.specs.declared.uid.Uid.{Uid}
+use Rattle.kube_objects.specs.declared.objects.Class.{Class as ClassData}
+use Rattle.kube_objects.specs.declared.objects.Claim.{Claim as ClaimData}
+use Rattle.kube_objects.specs.declared.objects.DataId.{DataId}
+use Rattle.kube_objects.specs.declared.objects.Volume.{Volume as VolumeData}
+use Rattle.kube_objects.specs.declared.objects.Object.{Object}
+use Rattle.kube_objects.specs.declared.objects.Object.TheVariants.{Class, Node, Volume, Claim, Pod}
+use Rattle.kube_objects.specs.Bindings.{class_of_claim}
+use Rattle.kube_objects.specs.Keys.{key_of, row_at}
+use Rattle.kube_objects.specs.Sources.{data_id_of}
+use Rattle.kube_objects.proofs.KeyOrder.{row_at_key}
 use Rattle.call_types.specs.declared.reply.Refusal.TheVariants as refusals
 use Rattle.call_types.specs.declared.reply.Reply.{Reply}
 use Rattle.call_types.specs.declared.reply.Reply.TheVariants as replies
@@ -109,7 +109,8 @@ module _ (setup : Setup) (w : World) (key : Key) where
     clears_last rows (replies.Refused refusal) = tt
     clears_last rows _ = tt
 
-    provision_fits : (call : Request) → HasClaim w.store.rows op.claim op.uid → (step : ProvisionStep) → provision_call_at step op.claim op.uid op.class ≡ Some call → Fits (after call) (provision_next step (said call))
+    provision_fits : (call : Request) → HasClaim w.store.rows op.claim op.uid → (step : ProvisionStep)
+        → provision_call_at step op.claim op.uid op.class ≡ Some call → Fits (after call) (provision_next step (said call))
     unfolding effect on_devices device_answer world_after
     provision_fits call has (provision_steps.Provisions labels) e =
         subst (λ r. Fits (after r) (provision_next (provision_steps.Provisions labels) (said r))) (one (ask_call op.claim op.uid op.class labels) call e)
@@ -171,14 +172,16 @@ module _ (setup : Setup) (w : World) (key : Key) where
         (read_fits w.store.rows (key_of_volume op.volume) (row_at (key_of_volume op.volume) w.store.rows) refl)))
     erase_fits call (erase_steps.Erases uid) fits e =
         subst (λ r. Fits (after r) (erase_next (erase_steps.Erases uid) (said r))) (one (requests.Erase (data_id_of op.volume.source)) call e)
-        (with_fits w.store.rows key (tasks.Erase (moved_at op (erase_steps.Erases uid) (said (requests.Erase (data_id_of op.volume.source))))) (erased_fits w.store.rows uid (said (requests.Erase (data_id_of op.volume.source))) fits))
+        (with_fits w.store.rows key (tasks.Erase (moved_at op (erase_steps.Erases uid) (said (requests.Erase (data_id_of op.volume.source)))))
+        (erased_fits w.store.rows uid (said (requests.Erase (data_id_of op.volume.source))) fits))
     erase_fits call (erase_steps.Deletes uid) fits e = deletes_last uid (after call) (said call)
     erase_fits call erase_steps.WritesFailed fits e = fails_last (after call) (said call)
     erase_fits call erase_steps.Done fits e = none_some e
     erase_fits call erase_steps.Parked fits e = none_some e
 
 -- what is under way fits after its call too
-pub goes_on : (setup : Setup) (w : World) (u : Under) → UnderFits w.store.rows u → Fits (world_after w (effect setup w seats.Ops u.call)).store.rows (under_after u (reply_to (effect setup w seats.Ops u.call)))
+pub goes_on : (setup : Setup) (w : World) (u : Under) → UnderFits w.store.rows u
+    → Fits (world_after w (effect setup w seats.Ops u.call)).store.rows (under_after u (reply_to (effect setup w seats.Ops u.call)))
 unfolding provision_call provision_moved erase_call erase_moved
 goes_on setup w u fits = by u.task fits.task fits.call
   where
@@ -225,11 +228,13 @@ module _ (stored cached : List Object) where
     of_volume v (Some dues.Reclaim) e = subst (TaskFits stored) (sym (one t _ (ap begun_in e))) tt
     of_volume v _ e = none_some (sym (ap begun_in e))
 
-    of_claim : (c : ClaimData) → row_at (key_of (Claim c)) stored ≡ Some (Claim c) → (found : Option ProvisionOp) → claim_for cached c ≡ found → firsts.Begins t ≡ ops_first found None → TaskFits stored t
+    of_claim : (c : ClaimData) → row_at (key_of (Claim c)) stored ≡ Some (Claim c) → (found : Option ProvisionOp) → claim_for cached c ≡ found
+        → firsts.Begins t ≡ ops_first found None → TaskFits stored t
     of_claim c there None is e = none_some (sym (ap begun_in e))
     of_claim c there (Some op) is e =
         let b = begun_for c op is in
-        subst (TaskFits stored) (sym (one t (tasks.Provision op) (ap begun_in e))) (record { there = subst (λ x. row_at (key_of (Claim x)) stored ≡ Some (Claim x)) (sym b.claim) there; known = ap (λ (x : ClaimData). x.meta.uid) b.claim ∙ b.known })
+        subst (TaskFits stored) (sym (one t (tasks.Provision op) (ap begun_in e)))
+        (record { there = subst (λ x. row_at (key_of (Claim x)) stored ≡ Some (Claim x)) (sym b.claim) there; known = ap (λ (x : ClaimData). x.meta.uid) b.claim ∙ b.known })
 
     pub nothing_begun : firsts.Begins t ≡ firsts.Drops → TaskFits stored t
     nothing_begun e = none_some (sym (ap begun_in e))

@@ -1,19 +1,19 @@
 -- What each write of ops does to the volumes that are to be made and to be deleted.
 use Rattle.std.proofs.Common.{◌≡◌, ◌≢◌, ◌∙◌, ◌⊎◌, ℕ, ◌+◌, ◌≤◌, List, Bool, true, false, true≢false, Option, Some, None, inl, inr, refl, sym, ap, subst, arith, if◌then◌else◌}
 use Rattle.std.specs.Prelude.{not, ◌||◌}
-use Rattle.kube_types.specs.declared.key.Key.{Key}
-use Rattle.kube_types.specs.declared.parts.VolumePhase.TheVariants as phases
-use Rattle.kube_types.specs.declared.uid.Uid.{Uid}
-use Rattle.kube_types.specs.declared.objects.Class.{Class as ClassData}
-use Rattle.kube_types.specs.declared.objects.Claim.{Claim as ClaimData}
-use Rattle.kube_types.specs.declared.objects.DataId.{DataId}
-use Rattle.kube_types.specs.declared.objects.Volume.{Volume as VolumeData}
-use Rattle.kube_types.specs.declared.objects.Object.{Object}
-use Rattle.kube_types.specs.declared.objects.Object.TheVariants.{Class, Node, Volume, Claim, Pod}
-use Rattle.kube_types.specs.Bindings.{is_deleting, is_ended}
-use Rattle.kube_types.specs.Keys.{AreRows, key_of, put_row, row_at, same_key, without_row}
-use Rattle.kube_types.proofs.KeyOrder.{row_at-put_row, row_at-put_row_other, row_at-without_row_other}
-use Rattle.kube_types.proofs.SameKeys.{key_tells, same_key-Decides}
+use Rattle.kube_objects.specs.declared.key.Key.{Key}
+use Rattle.kube_parts.specs.declared.parts.VolumePhase.TheVariants as phases
+use Rattle.kube_parts.specs.declared.uid.Uid.{Uid}
+use Rattle.kube_objects.specs.declared.objects.Class.{Class as ClassData}
+use Rattle.kube_objects.specs.declared.objects.Claim.{Claim as ClaimData}
+use Rattle.kube_objects.specs.declared.objects.DataId.{DataId}
+use Rattle.kube_objects.specs.declared.objects.Volume.{Volume as VolumeData}
+use Rattle.kube_objects.specs.declared.objects.Object.{Object}
+use Rattle.kube_objects.specs.declared.objects.Object.TheVariants.{Class, Node, Volume, Claim, Pod}
+use Rattle.kube_objects.specs.Bindings.{is_deleting, is_ended}
+use Rattle.kube_objects.specs.Keys.{AreRows, key_of, put_row, row_at, same_key, without_row}
+use Rattle.kube_objects.proofs.KeyOrder.{row_at-put_row, row_at-put_row_other, row_at-without_row_other}
+use Rattle.kube_objects.proofs.SameKeys.{key_tells, same_key-Decides}
 use Rattle.call_types.specs.declared.request.NewStatus.TheVariants as statuses
 use Rattle.call_types.specs.declared.request.SeatKind.{SeatKind}
 use Rattle.binder_model.specs.Answers.{with_status}
@@ -78,7 +78,8 @@ module _ (rows : List Object) (order : AreRows rows) (o old : Object) (there : r
   took_over : sum (without_row (key_of o) rows) + ops_left rows old ≤ sum rows
   took_over =
       let stay = gone_open (key_of o) rows (ap is_open there ∙ closed) in
-      let h = gone_falls (ops_left rows) (ops_left (without_row (key_of o) rows)) none_paid (key_of o) old rows order there (λ x i other. let l = less rows (without_row (key_of o) rows) stay x in omega (arith, l)) in
+      let h = gone_falls (ops_left rows) (ops_left (without_row (key_of o) rows)) none_paid (key_of o) old rows order there
+      (λ x i other. let l = less rows (without_row (key_of o) rows) stay x in omega (arith, l)) in
       let z = none_pays rows in
       omega (arith, h, z)
 
@@ -111,7 +112,8 @@ module _ (s : State) (order : AreRows s.rows) (kind : SeatKind) (o : Object) (af
     -- phase Failed is written over a volume that has ended
     pub failed_stays : (given : Option ℕ) → IsStatus s kind (key_of (Volume v)) (statuses.Volume phases.Failed) given o → sum after ≤ sum s.rows
     unfolding with_status at_version with_meta
-    failed_stays given i = by (subst (IsMoved s.rows after) (i.is ∙ ap (λ p. at_version p (s.version + 1)) (sym (one _ i.new (ap (with_status (statuses.Volume phases.Failed)) (sym (one i.old (Volume v) (sym i.there ∙ there))) ∙ i.fits)))) moved)
+    failed_stays given i = by (subst (IsMoved s.rows after)
+        (i.is ∙ ap (λ p. at_version p (s.version + 1)) (sym (one _ i.new (ap (with_status (statuses.Volume phases.Failed)) (sym (one i.old (Volume v) (sym i.there ∙ there))) ∙ i.fits)))) moved)
       where
         written : Object
         written = at_version (Volume (record v { phase = phases.Failed })) (s.version + 1)
@@ -164,7 +166,8 @@ module _ (s : State) (order : AreRows s.rows) (kind : SeatKind) (c : ClaimData) 
 
     for_claim : ops_left (put_row o s.rows) (Claim c) + 1 ≤ ops_left s.rows (Claim c)
     for_claim =
-        let now : ops_left (put_row o s.rows) (Claim c) ≡ 0 = ap (to_make (put_row o s.rows)) known ∙ ap (λ b. unless b 1) (ap (λ k. is_open (row_at k (put_row o s.rows))) (sym named) ∙ (ap is_open (row_at-put_row o s.rows) ∙ fresh)) in
+        let now : ops_left (put_row o s.rows) (Claim c) ≡ 0 = ap (to_make (put_row o s.rows)) known
+        ∙ ap (λ b. unless b 1) (ap (λ k. is_open (row_at k (put_row o s.rows))) (sym named) ∙ (ap is_open (row_at-put_row o s.rows) ∙ fresh)) in
         let was : ops_left s.rows (Claim c) ≡ 1 = ap (to_make s.rows) known ∙ ap (λ b. unless b 1) (ap (λ k. is_open (row_at k s.rows)) (sym named) ∙ ap is_open free) in
         omega (arith, now, was)
 
@@ -184,6 +187,8 @@ module _ (s : State) (order : AreRows s.rows) (kind : SeatKind) (c : ClaimData) 
         let z = done in
         omega (arith, h, p, z)
 
-  pub made_falls : (moment : List ℕ) (x : ClassData) (id : DataId) (topology : Option (List ℕ × List ℕ)) (o : Object) → IsCreate s kind moment (Volume (provisioned_volume c uid x id topology)) o → sum (put_row o s.rows) + 1 ≤ sum s.rows
+  pub made_falls : (moment : List ℕ) (x : ClassData) (id : DataId) (topology : Option (List ℕ × List ℕ)) (o : Object)
+      → IsCreate s kind moment (Volume (provisioned_volume c uid x id topology)) o → sum (put_row o s.rows) + 1 ≤ sum s.rows
   unfolding provisioned_volume created_object admitted_object without_status with_meta
-  made_falls moment x id topology o i = subst (λ y. sum (put_row y s.rows) + 1 ≤ sum s.rows) (sym i.is) (made_over (created_object (class_name (default_class s.rows)) (Volume (provisioned_volume c uid x id topology)) (s.version + 1) moment) i.free refl refl refl)
+  made_falls moment x id topology o i = subst (λ y. sum (put_row y s.rows) + 1 ≤ sum s.rows) (sym i.is) (made_over
+      (created_object (class_name (default_class s.rows)) (Volume (provisioned_volume c uid x id topology)) (s.version + 1) moment) i.free refl refl refl)

@@ -1,11 +1,11 @@
 -- In a slot of ops each write lowers the number of its writes: what it decides rests on the store as it is.
 use Rattle.std.proofs.Common.{◌≡◌, ◌∙◌, ℕ, ◌+◌, ◌-◌, ◌≤◌, List, ◌∷◌, Bool, true, false, Option, Some, None, inl, inr, refl, sym, ap, subst, arith}
-use Rattle.kube_types.specs.declared.key.Key.{Key}
-use Rattle.kube_types.specs.declared.parts.Kind.{Kind}
-use Rattle.kube_types.specs.declared.objects.Object.{Object}
-use Rattle.kube_types.specs.declared.objects.Object.TheVariants.{Class, Node, Volume, Claim, Pod}
-use Rattle.kube_types.specs.Keys.{key_of, row_at}
-use Rattle.kube_types.proofs.KeyOrder.{row_at_key}
+use Rattle.kube_objects.specs.declared.key.Key.{Key}
+use Rattle.kube_parts.specs.declared.parts.Kind.{Kind}
+use Rattle.kube_objects.specs.declared.objects.Object.{Object}
+use Rattle.kube_objects.specs.declared.objects.Object.TheVariants.{Class, Node, Volume, Claim, Pod}
+use Rattle.kube_objects.specs.Keys.{key_of, row_at}
+use Rattle.kube_objects.proofs.KeyOrder.{row_at_key}
 use Rattle.call_types.specs.declared.entry.Entry.{Entry}
 use Rattle.call_types.specs.declared.reply.Reply.{Reply}
 use Rattle.call_types.specs.declared.request.Request.{Request}
@@ -93,7 +93,8 @@ module _ (setup : Setup) (seat : ℕ) (s : ActorState) (h : List Entry) (kind : 
       by (Some (Pod x)) is e = nothing_begun stored cached u.task e
       by None is e = nothing_begun stored cached u.task e
 
-  calls_so : (given : ActorState) (request : Request) → IsHistory setup h → IsReady seat s h → IsTurn s given (Call request) → KnowsBehind setup seat s.role s.pass h → Fits stored s.under → CallsSo stored (under_fails s.under) given request
+  calls_so : (given : ActorState) (request : Request) → IsHistory setup h → IsReady seat s h → IsTurn s given (Call request)
+      → KnowsBehind setup seat s.role s.pass h → Fits stored s.under → CallsSo stored (under_fails s.under) given request
   calls_so given request history ready turn knows fits = by s.memory.stale s.under (start_call s.role s.memory) (unlisted s) (passing s) refl refl refl turn
     where
       asked : (x : Request) → Call request ≡ Call x → request ≡ x
@@ -102,15 +103,18 @@ module _ (setup : Setup) (seat : ℕ) (s : ActorState) (h : List Entry) (kind : 
       reads_so : (k : Kind) → given.under ≡ None → Call request ≡ Call (read_of_kind s.caches k) → CallsSo stored (under_fails s.under) given request
       reads_so k none e = Reads none (subst IsRead (sym (asked (read_of_kind s.caches k) e)) (read_is s.caches k))
 
-      keys : (w : Work) (under : Option Under) → s.under ≡ None → passing s ≡ None → Decides s.role s.memory cached w under s.work → AfterKeys s given (Call request) w under → CallsSo stored (under_fails s.under) given request
+      keys : (w : Work) (under : Option Under) → s.under ≡ None → passing s ≡ None → Decides s.role s.memory cached w under s.work
+          → AfterKeys s given (Call request) w under → CallsSo stored (under_fails s.under) given request
       keys w (Some u) none over d b =
           let gives = decides_gives s.role s.memory cached w (Some u) u s.work d refl in
           let few = none_begins s.role s.memory cached u kind gives in
-          OfUnder u (ap (λ (x : ActorState). x.under) b.state) (ap (λ (x : ActorState). x.given) b.state) (asked u.call b.call) (decision_fits u (sees setup seat s h history ready.stands.told knows over) gives) (omega (arith, few))
+          OfUnder u (ap (λ (x : ActorState). x.under) b.state) (ap (λ (x : ActorState). x.given) b.state) (asked u.call b.call)
+          (decision_fits u (sees setup seat s h history ready.stands.told knows over) gives) (omega (arith, few))
       keys w None none over d (inl b) = reads_so b.kind (ap (λ (x : ActorState). x.under) b.state ∙ none) b.call
       keys w None none over d (inr b) = none_some (sym (ap call_in b.idle))
 
-      by : (stale : Bool) (under : Option Under) (start : Option Request) (l p : Option Kind) → s.under ≡ under → start_call s.role s.memory ≡ start → passing s ≡ p → TurnBy s given (Call request) stale under start l p → CallsSo stored (under_fails s.under) given request
+      by : (stale : Bool) (under : Option Under) (start : Option Request) (l p : Option Kind) → s.under ≡ under → start_call s.role s.memory ≡ start
+          → passing s ≡ p → TurnBy s given (Call request) stale under start l p → CallsSo stored (under_fails s.under) given request
       by true under start l p eu est ep t = none_some (sym (ap call_in t.idle))
       by false (Some u) start l p eu est ep t =
           let same = ap under_fails eu in
@@ -122,7 +126,8 @@ module _ (setup : Setup) (seat : ℕ) (s : ActorState) (h : List Entry) (kind : 
 
 -- ---- the call, and what is then under way
 
-module _ (setup : Setup) (seat : ℕ) (given next : ActorState) (request : Request) (reply : Reply) (h : List Entry) (before : ℕ) (kind : given.role.kind ≡ seats.Ops) (called : IsCalled setup seat given request reply h) (absorbs : next ≡ absorbed given next.caches request (Told reply)) where
+module _ (setup : Setup) (seat : ℕ) (given next : ActorState) (request : Request) (reply : Reply) (h : List Entry) (before : ℕ)
+    (kind : given.role.kind ≡ seats.Ops) (called : IsCalled setup seat given request reply h) (absorbs : next ≡ absorbed given next.caches request (Told reply)) where
   abbrev entry : Entry
   entry = told_entry seat given request reply
 
@@ -136,7 +141,9 @@ module _ (setup : Setup) (seat : ℕ) (given next : ActorState) (request : Reque
 
   goes : CallsSo (world setup h).store.rows before given request → Goes
   goes (OfUnder u under task asked fits few) = record {
-    fits = subst (Fits (world setup (entry ∷ h)).store.rows) (sym became) (subst (λ w. Fits w.store.rows (under_after u reply)) same (subst (λ r. Fits (world_after w (effect setup w seats.Ops u.call)).store.rows (under_after u r)) (sym answered) (goes_on setup w u fits)));
+    fits = subst (Fits (world setup (entry ∷ h)).store.rows) (sym became)
+        (subst (λ w. Fits w.store.rows (under_after u reply)) same
+        (subst (λ r. Fits (world_after w (effect setup w seats.Ops u.call)).store.rows (under_after u r)) (sym answered) (goes_on setup w u fits)));
     lowers =
         let low_ = call_lowers setup seat h history.0 u fits (subst (RowAllows seats.Ops (own seat h)) asked (subst (λ k. Licensed k (own seat h) request) kind called.may).1) in
         let a = ap (low setup) same in
@@ -182,7 +189,8 @@ lost_none rows before given next request so absorbs = ap (λ (x : ActorState). x
 -- ---- the slot
 
 module _ (setup : Setup) (lets : Lets) (seat : ℕ) (after : ActorState) (past : List Entry) (left : ℕ) (idle : Bool) (run : IsRunOf setup past) where
-  runs_low : (s : ActorState) (h : List Entry) (b : ℕ) → Runs lets seat after past left idle s h b → s.role.kind ≡ seats.Ops → KnowsBehind setup seat s.role s.pass h → Fits (world setup h).store.rows s.under → low setup (world setup past) ≤ low setup (world setup h) + under_fails s.under
+  runs_low : (s : ActorState) (h : List Entry) (b : ℕ) → Runs lets seat after past left idle s h b → s.role.kind ≡ seats.Ops
+      → KnowsBehind setup seat s.role s.pass h → Fits (world setup h).store.rows s.under → low setup (world setup past) ≤ low setup (world setup h) + under_fails s.under
   runs_low s h b (IsSpent spent state entries rest busy) kind knows fits = let e = ap (λ es. low setup (world setup es)) entries in omega (arith, e)
   runs_low s h b (IsIdle some ready turn entries rest calm) kind knows fits = let e = ap (λ es. low setup (world setup es)) entries in omega (arith, e)
   runs_low s h b (Asks given next request reply some ready turn passes absorbs more) kind knows fits =
@@ -202,13 +210,15 @@ module _ (setup : Setup) (lets : Lets) (seat : ℕ) (after : ActorState) (past :
       let so = calls_so setup seat s h kind given request before ready turn knows fits in
       let gone = lost_none (world setup h).store.rows (under_fails s.under) given next request so absorbs in
       let next_kind : next.role.kind ≡ seats.Ops = ap (λ (r : Role). r.kind) (still_role s given next (Call request) request Lost turn absorbs) ∙ kind in
-      let later = runs_low next h (b - 1) more next_kind (lost_knows setup seat given next request h (turned_knows setup seat s given (Call request) h turn knows) absorbs) (subst (Fits (world setup h).store.rows) (sym gone) tt) in
+      let later = runs_low next h (b - 1) more next_kind
+      (lost_knows setup seat given next request h (turned_knows setup seat s given (Call request) h turn knows) absorbs) (subst (Fits (world setup h).store.rows) (sym gone) tt) in
       let none = ap under_fails gone in
       omega (arith, later, none)
 
 -- from where nothing is under way
 pub falls_from :
-    (setup : Setup) (lets : Lets) (seat : ℕ) (old after : ActorState) (h past : List Entry) (b left : ℕ) (idle : Bool) → old.role.kind ≡ seats.Ops → IsRunOf setup past → (old.memory.stale ≡ false → old.under ≡ None)
+    (setup : Setup) (lets : Lets) (seat : ℕ) (old after : ActorState) (h past : List Entry) (b left : ℕ) (idle : Bool) → old.role.kind ≡ seats.Ops
+    → IsRunOf setup past → (old.memory.stale ≡ false → old.under ≡ None)
     → Runs lets seat after past left idle (begun old) h b → writes_since setup h past + settle_write_counts setup (world setup past) ≤ settle_write_counts setup (world setup h)
 unfolding low
 falls_from setup lets seat old after h past b left idle kind run rests runs = by old.memory.stale refl

@@ -3,14 +3,14 @@
 use Rattle.std.proofs.Common.{◌≡◌, ◌≢◌, ◌∙◌, ◌⊎◌, ℕ, ◌+◌, ◌≤◌, List, [], ◌∷◌, Bool, true, false, true≢false, Option, Some, None, inl, inr, refl, sym, ap, subst, arith, length, if◌then◌else◌}
 use Rattle.std.specs.Prelude.{◌&&◌, ◌||◌, filter_map}
 use Rattle.std.specs.List.{cons_option, list_all}
-use Rattle.kube_types.specs.declared.key.Key.{Key}
-use Rattle.kube_types.specs.declared.objects.Claim.{Claim as ClaimData}
-use Rattle.kube_types.specs.declared.objects.Object.{Object}
-use Rattle.kube_types.specs.declared.objects.Object.TheVariants.{Class, Node, Volume, Claim, Pod}
-use Rattle.kube_types.specs.Bindings.{has_key, is_completed, is_scheduled, selected_node}
-use Rattle.kube_types.specs.Keys.{AreRows, key_of, put_row, row_at, same_key}
-use Rattle.kube_types.proofs.KeyOrder.{row_at-put_row, row_at-put_row_other, row_at_key}
-use Rattle.kube_types.proofs.SameKeys.{key_tells, same_key-Decides}
+use Rattle.kube_objects.specs.declared.key.Key.{Key}
+use Rattle.kube_objects.specs.declared.objects.Claim.{Claim as ClaimData}
+use Rattle.kube_objects.specs.declared.objects.Object.{Object}
+use Rattle.kube_objects.specs.declared.objects.Object.TheVariants.{Class, Node, Volume, Claim, Pod}
+use Rattle.kube_objects.specs.Bindings.{has_key, is_completed, is_scheduled, selected_node}
+use Rattle.kube_objects.specs.Keys.{AreRows, key_of, put_row, row_at, same_key}
+use Rattle.kube_objects.proofs.KeyOrder.{row_at-put_row, row_at-put_row_other, row_at_key}
+use Rattle.kube_objects.proofs.SameKeys.{key_tells, same_key-Decides}
 use Rattle.binder_model.specs.Choice.{carries_claim, claim_in, claim_named, claims_of, has_carrier, is_under_way}
 use Rattle.binder_model.specs.ObjectKeys.{claim_key}
 use Rattle.model_laws.proofs.Lists.{IsIn, one}
@@ -37,7 +37,8 @@ open_before old new d more e = by (is_completed d) (has_carrier old d) (has_carr
     by true was now has m f = absurd (true≢false f)
 
 -- an object is written over one that carries no claim, and if it is a claim, then this is under way
-pub put_grows : (rows : List Object) (new old : Object) → AreRows rows → row_at (key_of new) rows ≡ Some old → ((d : ClaimData) → row_at (key_of (Claim d)) rows ≡ Some (Claim d) → carries_claim d old ≡ true → ⊥)
+pub put_grows : (rows : List Object) (new old : Object) → AreRows rows → row_at (key_of new) rows ≡ Some old
+    → ((d : ClaimData) → row_at (key_of (Claim d)) rows ≡ Some (Claim d) → carries_claim d old ≡ true → ⊥)
     → ((d : ClaimData) → new ≡ Claim d → is_under_way (put_row new rows) d ≡ true) → Grows rows (put_row new rows)
 put_grows rows new old order there none written key d at waits = by (key_tells (key_of new) key)
   where
@@ -52,7 +53,8 @@ put_grows rows new old order there none written key d at waits = by (key_tells (
 
         at_key : (key_of new ≡ key_of found.object) ⊎ (key_of new ≢ key_of found.object) → has_carrier (put_row new rows) d ≡ true
         at_key (inl same) = absurd (none d stands_there (subst (λ x. carries_claim d x ≡ true) (one found.object old (sym is_there ∙ (ap (λ k. row_at k rows) (sym same) ∙ there))) found.passes))
-        at_key (inr other) = any_in (carries_claim d) found.object (put_row new rows) (found_in (key_of found.object) (put_row new rows) found.object (row_at-put_row_other (key_of found.object) new rows other ∙ is_there)) found.passes
+        at_key (inr other) = any_in (carries_claim d) found.object (put_row new rows) (found_in (key_of found.object) (put_row new rows) found.object
+            (row_at-put_row_other (key_of found.object) new rows other ∙ is_there)) found.passes
 
     by : (key_of new ≡ key) ⊎ (key_of new ≢ key) → (row_at key rows ≡ Some (Claim d)) × (is_under_way rows d ≡ false)
     by (inl same) = absurd (true≢false (sym (written d (one new (Claim d) (sym (row_at-put_row new rows) ∙ (ap (λ k. row_at k (put_row new rows)) same ∙ at)))) ∙ waits))
@@ -62,11 +64,13 @@ put_grows rows new old order there none written key d at waits = by (key_tells (
         (before, open_before rows (put_row new rows) d (carried own) waits)
 
 -- so a pod that has a claim that is not under way had one before
-waited : (old new : List Object) → Grows old new → (namespace : List ℕ) (names : List (List ℕ)) → list_all (is_under_way new) (filter_map (claim_named new namespace) names) ≡ false → list_all (is_under_way old) (filter_map (claim_named old namespace) names) ≡ false
+waited : (old new : List Object) → Grows old new → (namespace : List ℕ) (names : List (List ℕ))
+    → list_all (is_under_way new) (filter_map (claim_named new namespace) names) ≡ false → list_all (is_under_way old) (filter_map (claim_named old namespace) names) ≡ false
 waited old new grows namespace [] e = e
 waited old new grows namespace (name ∷ names) e = by (claim_named new namespace name) refl e (waited old new grows namespace names)
   where
-    more : (o : Option ClaimData) → list_all (is_under_way old) (filter_map (claim_named old namespace) names) ≡ false → list_all (is_under_way old) (cons_option o (filter_map (claim_named old namespace) names)) ≡ false
+    more : (o : Option ClaimData) → list_all (is_under_way old) (filter_map (claim_named old namespace) names) ≡ false
+        → list_all (is_under_way old) (cons_option o (filter_map (claim_named old namespace) names)) ≡ false
     more None rest = rest
     more (Some c) rest = and_right (is_under_way old c) (list_all (is_under_way old) (filter_map (claim_named old namespace) names)) rest
       where
@@ -74,15 +78,19 @@ waited old new grows namespace (name ∷ names) e = by (claim_named new namespac
         and_right true b f = f
         and_right false b f = refl
 
-    waits : (c : ClaimData) → claim_named old namespace name ≡ Some c → is_under_way old c ≡ false → list_all (is_under_way old) (cons_option (claim_named old namespace name) (filter_map (claim_named old namespace) names)) ≡ false
+    waits : (c : ClaimData) → claim_named old namespace name ≡ Some c → is_under_way old c ≡ false
+        → list_all (is_under_way old) (cons_option (claim_named old namespace name) (filter_map (claim_named old namespace) names)) ≡ false
     waits c at open_ = rw at (ap (λ b. b && list_all (is_under_way old) (filter_map (claim_named old namespace) names)) open_)
 
-    by : (o : Option ClaimData) → claim_named new namespace name ≡ o → list_all (is_under_way new) (cons_option o (filter_map (claim_named new namespace) names)) ≡ false → (list_all (is_under_way new) (filter_map (claim_named new namespace) names) ≡ false → list_all (is_under_way old) (filter_map (claim_named old namespace) names) ≡ false)
+    by : (o : Option ClaimData) → claim_named new namespace name ≡ o
+        → list_all (is_under_way new) (cons_option o (filter_map (claim_named new namespace) names)) ≡ false
+        → (list_all (is_under_way new) (filter_map (claim_named new namespace) names) ≡ false → list_all (is_under_way old) (filter_map (claim_named old namespace) names) ≡ false)
         → list_all (is_under_way old) (cons_option (claim_named old namespace name) (filter_map (claim_named old namespace) names)) ≡ false
     by None at f rest = more (claim_named old namespace name) (rest f)
     by (Some d) at f rest = test (is_under_way new d) refl f
       where
-        test : (b : Bool) → is_under_way new d ≡ b → (b && list_all (is_under_way new) (filter_map (claim_named new namespace) names)) ≡ false → list_all (is_under_way old) (cons_option (claim_named old namespace name) (filter_map (claim_named old namespace) names)) ≡ false
+        test : (b : Bool) → is_under_way new d ≡ b → (b && list_all (is_under_way new) (filter_map (claim_named new namespace) names)) ≡ false
+            → list_all (is_under_way old) (cons_option (claim_named old namespace name) (filter_map (claim_named old namespace) names)) ≡ false
         test true is g = more (claim_named old namespace name) (rest g)
         test false is g =
             let before = grows (claim_key namespace name) d (claim_of_row (row_at (claim_key namespace name) new) d at) is in
@@ -191,7 +199,8 @@ beside_falls key new old rows order there grows free =
         by true = refl
         by false = free
 
-pub costs_fall : (new old : Object) (rows : List Object) → AreRows rows → row_at (key_of new) rows ≡ Some old → Grows rows (put_row new rows) → pod_costs (put_row new rows) new ≡ 0 → costs_on (put_row new rows) + pod_costs rows old ≤ costs_on rows
+pub costs_fall : (new old : Object) (rows : List Object) → AreRows rows → row_at (key_of new) rows ≡ Some old → Grows rows (put_row new rows)
+    → pod_costs (put_row new rows) new ≡ 0 → costs_on (put_row new rows) + pod_costs rows old ≤ costs_on rows
 costs_fall new old rows order there grows free =
     let p = put_falls (pod_costs rows) (pod_costs (put_row new rows)) none_paid new old rows order there (λ o i other. let less = costs_less rows (put_row new rows) grows o in omega (arith, less)) in
     let z = none_pays rows in

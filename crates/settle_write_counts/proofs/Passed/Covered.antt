@@ -1,17 +1,45 @@
 -- The claims of a pod that is being prepared: each is under way, or is still to be written.
-use Rattle.std.proofs.Common.{◌≡◌, ◌∙◌, ◌⊎◌, ℕ, ◌+◌, ◌≤◌, List, [], ◌∷◌, ◌++◌, Bool, true, false, true≢false, Option, Some, None, inl, inr, refl, sym, ap, subst, arith, length, length-append, if◌then◌else◌}
+use Rattle.std.proofs.Common.{
+  ◌≡◌,
+  ◌∙◌,
+  ◌⊎◌,
+  ℕ,
+  ◌+◌,
+  ◌≤◌,
+  List,
+  [],
+  ◌∷◌,
+  ◌++◌,
+  Bool,
+  true,
+  false,
+  true≢false,
+  Option,
+  Some,
+  None,
+  inl,
+  inr,
+  refl,
+  sym,
+  ap,
+  subst,
+  arith,
+  length,
+  length-append,
+  if◌then◌else◌,
+}
 use Rattle.std.specs.Prelude.{◌&&◌, ◌||◌, cond, filter, filter_map, not}
 use Rattle.std.specs.List.{cons_option, list_all}
 use Rattle.std.specs.Ordering.{is_gt}
-use Rattle.kube_types.specs.declared.key.Key.{Key}
-use Rattle.kube_types.specs.declared.objects.Claim.{Claim as ClaimData}
-use Rattle.kube_types.specs.declared.objects.Node.{Node as NodeData}
-use Rattle.kube_types.specs.declared.objects.Pod.{Pod as PodData}
-use Rattle.kube_types.specs.declared.objects.Object.{Object}
-use Rattle.kube_types.specs.declared.objects.Object.TheVariants.{Claim}
-use Rattle.kube_types.specs.Bindings.{has_key, is_completed, selected_node}
-use Rattle.kube_types.specs.Keys.{key_of, row_at}
-use Rattle.kube_types.proofs.KeyOrder.{row_at_key}
+use Rattle.kube_objects.specs.declared.key.Key.{Key}
+use Rattle.kube_objects.specs.declared.objects.Claim.{Claim as ClaimData}
+use Rattle.kube_objects.specs.declared.objects.Node.{Node as NodeData}
+use Rattle.kube_objects.specs.declared.objects.Pod.{Pod as PodData}
+use Rattle.kube_objects.specs.declared.objects.Object.{Object}
+use Rattle.kube_objects.specs.declared.objects.Object.TheVariants.{Claim}
+use Rattle.kube_objects.specs.Bindings.{has_key, is_completed, selected_node}
+use Rattle.kube_objects.specs.Keys.{key_of, row_at}
+use Rattle.kube_objects.proofs.KeyOrder.{row_at_key}
 use Rattle.binder_model.specs.Choice.{AreShares, IsProvisioned, Share, TakesVolume, by_size, claim_cmp, claim_in, claim_named, claims_of, has_carrier, insert_claim, is_other, is_under_way}
 use Rattle.binder_model.specs.ObjectKeys.{claim_key}
 use Rattle.model_laws.proofs.Lists.{IsIn}
@@ -26,7 +54,8 @@ abbrev pub IsCovered : List Object → List ℕ → List ClaimData → List ℕ 
 IsCovered rows namespace cs name = (d : ClaimData) → claim_named rows namespace name ≡ Some d → (is_under_way rows d ≡ true) ⊎ IsIn d cs
 
 -- one of them was written
-pub covered_next : (old new : List Object) (namespace : List ℕ) (c : ClaimData) (cs : List ClaimData) → Grows old new → ((d : ClaimData) → row_at (key_of (Claim c)) new ≡ Some (Claim d) → is_under_way new d ≡ true)
+pub covered_next : (old new : List Object) (namespace : List ℕ) (c : ClaimData) (cs : List ClaimData) → Grows old new
+    → ((d : ClaimData) → row_at (key_of (Claim c)) new ≡ Some (Claim d) → is_under_way new d ≡ true)
     → (names : List (List ℕ)) → Each (IsCovered old namespace (c ∷ cs)) names → Each (IsCovered new namespace cs) names
 covered_next old new namespace c cs grows written names each = each_map step names each
   where
@@ -52,11 +81,13 @@ covered_next old new namespace c cs grows written names each = each_map step nam
             of (inr (inr more)) = inr more
 
 -- none is left to be written
-pub all_under : (rows : List Object) (namespace : List ℕ) (names : List (List ℕ)) → Each (IsCovered rows namespace []) names → list_all (is_under_way rows) (filter_map (claim_named rows namespace) names) ≡ true
+pub all_under : (rows : List Object) (namespace : List ℕ) (names : List (List ℕ)) → Each (IsCovered rows namespace []) names
+    → list_all (is_under_way rows) (filter_map (claim_named rows namespace) names) ≡ true
 all_under rows namespace [] each = refl
 all_under rows namespace (name ∷ names) each = by (claim_named rows namespace name) refl (all_under rows namespace names each.1)
   where
-    by : (o : Option ClaimData) → claim_named rows namespace name ≡ o → list_all (is_under_way rows) (filter_map (claim_named rows namespace) names) ≡ true → list_all (is_under_way rows) (cons_option o (filter_map (claim_named rows namespace) names)) ≡ true
+    by : (o : Option ClaimData) → claim_named rows namespace name ≡ o
+        → list_all (is_under_way rows) (filter_map (claim_named rows namespace) names) ≡ true → list_all (is_under_way rows) (cons_option o (filter_map (claim_named rows namespace) names)) ≡ true
     by None at rest = rest
     by (Some d) at rest = of (each.0 d at)
       where
@@ -118,8 +149,10 @@ module _ (rows : List Object) (namespace : List ℕ) (cs : List ClaimData) where
           test true e = inl e
           test false e = inr (all d (first (claim_named rows namespace name) d at) (open_other rows d e))
 
-pub all_covered : (rows : List Object) (p : PodData) (cs : List ClaimData) → ((d : ClaimData) → IsIn d (others_in rows (claims_of rows p)) → IsIn d cs) → Each (IsCovered rows p.meta.namespace cs) p.claims
-all_covered rows p cs into = named rows p.meta.namespace cs p.claims (λ d i other. into d (in_by_size d (filter (is_other rows) (claims_of rows p)) (in_filter (is_other rows) d (claims_of rows p) i other)))
+pub all_covered : (rows : List Object) (p : PodData) (cs : List ClaimData)
+    → ((d : ClaimData) → IsIn d (others_in rows (claims_of rows p)) → IsIn d cs) → Each (IsCovered rows p.meta.namespace cs) p.claims
+all_covered rows p cs into = named rows p.meta.namespace cs p.claims (λ d i other. into d
+    (in_by_size d (filter (is_other rows) (claims_of rows p)) (in_filter (is_other rows) d (claims_of rows p) i other)))
 
 pub others_few : (rows : List Object) (p : PodData) → length (others_in rows (claims_of rows p)) ≤ length p.claims
 others_few rows p =
@@ -141,7 +174,8 @@ in_middle x y (z ∷ zs) ys (inl is) = inr (in_middle x y zs ys (inl is))
 in_middle x y (z ∷ zs) ys (inr (inl is)) = inl is
 in_middle x y (z ∷ zs) ys (inr (inr more)) = inr (in_middle x y zs ys (inr more))
 
-pub shared_in : (rows : List Object) (n : NodeData) (d : ClaimData) (cs : List ClaimData) (shares : List Share) (taken : List ℕ) → AreShares rows n taken cs shares → IsIn d cs → IsIn d (takers_of cs shares ++ placed_of cs shares)
+pub shared_in : (rows : List Object) (n : NodeData) (d : ClaimData) (cs : List ClaimData) (shares : List Share) (taken : List ℕ)
+    → AreShares rows n taken cs shares → IsIn d cs → IsIn d (takers_of cs shares ++ placed_of cs shares)
 shared_in rows n d [] shares taken are there = absurd there
 shared_in rows n d (c ∷ cs) [] taken are there = absurd are
 shared_in rows n d (c ∷ cs) (TakesVolume place ∷ shares) taken are (inl is) = inl is

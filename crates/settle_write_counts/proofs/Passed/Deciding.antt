@@ -3,18 +3,18 @@ use Rattle.std.proofs.Common.{◌≡◌, ◌∙◌, ℕ, zero, suc, ◌+◌, ◌
 use Rattle.std.specs.Prelude.{◌==◌, map, slice_get}
 use Rattle.std.specs.List.{list_all}
 use Rattle.std.proofs.lemmas.Bool.Decides.{nat_tests}
-use Rattle.kube_types.specs.declared.key.Key.{Key}
-use Rattle.kube_types.specs.declared.uid.Uid.{Uid}
-use Rattle.kube_types.specs.declared.parts.Kind.TheVariants as kinds
-use Rattle.kube_types.specs.declared.objects.Claim.{Claim as ClaimData}
-use Rattle.kube_types.specs.declared.objects.Node.{Node as NodeData}
-use Rattle.kube_types.specs.declared.objects.Pod.{Pod as PodData}
-use Rattle.kube_types.specs.declared.objects.Object.{Object}
-use Rattle.kube_types.specs.declared.objects.Object.TheVariants.{Class, Node, Volume, Claim, Pod}
-use Rattle.kube_types.specs.Bindings.{is_empty, is_scheduled, is_uid}
-use Rattle.kube_types.specs.Keys.{AreRows, key_of, put_row, row_at}
-use Rattle.kube_types.proofs.KeyOrder.{row_at_key}
-use Rattle.kube_types.proofs.RowPlaces.{row_at_place}
+use Rattle.kube_objects.specs.declared.key.Key.{Key}
+use Rattle.kube_parts.specs.declared.uid.Uid.{Uid}
+use Rattle.kube_parts.specs.declared.parts.Kind.TheVariants as kinds
+use Rattle.kube_objects.specs.declared.objects.Claim.{Claim as ClaimData}
+use Rattle.kube_objects.specs.declared.objects.Node.{Node as NodeData}
+use Rattle.kube_objects.specs.declared.objects.Pod.{Pod as PodData}
+use Rattle.kube_objects.specs.declared.objects.Object.{Object}
+use Rattle.kube_objects.specs.declared.objects.Object.TheVariants.{Class, Node, Volume, Claim, Pod}
+use Rattle.kube_objects.specs.Bindings.{is_empty, is_scheduled, is_uid}
+use Rattle.kube_objects.specs.Keys.{AreRows, key_of, put_row, row_at}
+use Rattle.kube_objects.proofs.KeyOrder.{row_at_key}
+use Rattle.kube_objects.proofs.RowPlaces.{row_at_place}
 use Rattle.call_types.specs.declared.entry.Entry.{Entry}
 use Rattle.call_types.specs.declared.reply.Change.TheVariants.{Modified}
 use Rattle.call_types.specs.declared.request.Request.{Request}
@@ -75,7 +75,8 @@ each_joined : {X : Type 0} (P : X → Type 0) (xs ys : List X) → Each P xs →
 each_joined P [] ys a b = b
 each_joined P (x ∷ xs) ys a b = (a.0, each_joined P xs ys a.1 b)
 
-refs_write : (rows : List Object) (n : NodeData) (cs : List ClaimData) (shares : List Share) (taken : List ℕ) (are : AreShares rows n taken cs shares) → Each (λ r. is_write r ≡ true) (refs_in rows n cs shares taken are)
+refs_write : (rows : List Object) (n : NodeData) (cs : List ClaimData) (shares : List Share) (taken : List ℕ)
+    (are : AreShares rows n taken cs shares) → Each (λ r. is_write r ≡ true) (refs_in rows n cs shares taken are)
 refs_write rows n [] [] taken are = tt
 refs_write rows n [] (TakesVolume place ∷ shares) taken are = absurd are
 refs_write rows n [] (IsProvisioned ∷ shares) taken are = absurd are
@@ -89,7 +90,8 @@ nodes_write name (c ∷ cs) = (refl, nodes_write name cs)
 
 -- ---- what begins for a pod
 
-module _ (setup : Setup) (past : List Entry) (seat : ℕ) (p : PodData) (pass : ImportsPass setup.imports) (there : row_at (key_of (Pod p)) (world setup past).store.rows ≡ Some (Pod p)) (unscheduled : is_scheduled p ≡ false) (last : Option (List ℕ)) (op : ScheduleOp) (call : Request)
+module _ (setup : Setup) (past : List Entry) (seat : ℕ) (p : PodData) (pass : ImportsPass setup.imports)
+    (there : row_at (key_of (Pod p)) (world setup past).store.rows ≡ Some (Pod p)) (unscheduled : is_scheduled p ≡ false) (last : Option (List ℕ)) (op : ScheduleOp) (call : Request)
     (asks : schedule_call op ≡ Some call) where
   abbrev rows : List Object
   rows = (world setup past).store.rows
@@ -169,7 +171,8 @@ module _ (setup : Setup) (past : List Entry) (seat : ℕ) (p : PodData) (pass : 
       (λ at. subst (λ r. Here (at_call setup seat (key_of (Pod p)) (bind_it ∷ []) 0 r)) (one bind_it call at) (spent uid.uid uid.is a.node a.first.there))
 
   -- its claims are prepared
-  prepares : (name : List ℕ) (binds_ : List (Key × Key)) (provisions : List Key) → IsChoice rows p last (Prepare name binds_ provisions) → Some op ≡ begun_with (writes_for rows p (Prepare name binds_ provisions)) → Here (at_pod op)
+  prepares : (name : List ℕ) (binds_ : List (Key × Key)) (provisions : List Key) → IsChoice rows p last (Prepare name binds_ provisions)
+      → Some op ≡ begun_with (writes_for rows p (Prepare name binds_ provisions)) → Here (at_pod op)
   prepares name binds_ provisions f begins =
       let search = search_of rows p last name binds_ provisions f in
       let n = search.prepared.node in
@@ -189,12 +192,19 @@ module _ (setup : Setup) (past : List Entry) (seat : ℕ) (p : PodData) (pass : 
       ap (λ ks. present (map (node_write rows name) ks)) provided ∙ node_writes rows name nodes (each_placed (Stands rows) others shares stand) in
       let writes_are : writes_for rows p (Prepare name binds_ provisions) ≡ writes =
       written rows order p known last name binds_ provisions ∙ (present_both (map (bind_write rows) binds_) (map (node_write rows name) provisions) ∙ (λ i. taken_are i ++ placed_are i)) in
-      let all_write = each_joined (λ r. is_write r ≡ true) (refs_in rows n others shares (set_aside rows) are) (map (placing name) nodes) (refs_write rows n others shares (set_aside rows) are) (nodes_write name nodes) in
+      let all_write = each_joined (λ r. is_write r ≡ true) (refs_in rows n others shares (set_aside rows) are) (map (placing name) nodes)
+      (refs_write rows n others shares (set_aside rows) are) (nodes_write name nodes) in
       let few : length (takers_of others shares ++ nodes) ≤ length p.claims = let a = shared_few others shares in let b = others_few rows p in omega (arith, a, b) in
       from_begun setup seat (key_of (Pod p)) Here op call writes (begins ∙ ap begun_with writes_are) asks
       (λ at. spends_more setup seat _ (costs_on rows) past _ (enough (length (takers_of others shares ++ nodes)) few search.waiting)
-      (takes setup seat p writes (each_at (λ r. is_write r ≡ true) writes all_write) pass name rows order n nodes (each_placed (Stands rows) others shares stand) (each_placed IsOpen others shares open_) (placed_apart others shares apart) others shares (set_aside rows) are 0 past
-      (record { claims = λ c. refl; volumes = λ place v spot out. row_at_place kinds.PersistentVolume place (Volume v) rows order spot; uncarried = all_free rows others sought }) stand open_ apart (all_from writes) there
+      (takes setup seat p writes (each_at (λ r. is_write r ≡ true) writes all_write) pass name rows order n nodes
+      (each_placed (Stands rows) others shares stand) (each_placed IsOpen others shares open_) (placed_apart others shares apart) others shares (set_aside rows) are 0 past
+      (record {
+        claims = λ c. refl;
+        volumes = λ place v spot out. row_at_place kinds.PersistentVolume place (Volume v) rows order spot;
+        uncarried =
+            all_free rows others sought;
+      }) stand open_ apart (all_from writes) there
       (all_covered rows p (takers_of others shares ++ nodes) (λ d i. shared_in rows n d others shares (set_aside rows) are i)) call at))
     where
       enough : (k : ℕ) → k ≤ length p.claims → list_all (is_under_way rows) (claims_of rows p) ≡ false → total (costs_beside (key_of (Pod p)) rows) rows + k + 1 ≤ costs_on rows
@@ -209,17 +219,21 @@ module _ (setup : Setup) (past : List Entry) (seat : ℕ) (p : PodData) (pass : 
   begins_by Wait f begins = none_some (sym begins)
   begins_by NoNode f begins = none_some (sym begins)
 
-begun_spends : (setup : Setup) (past : List Entry) (seat : ℕ) (p : PodData) (refused : List Tried) (op : ScheduleOp) (call : Request) → ImportsPass setup.imports → row_at (key_of (Pod p)) (world setup past).store.rows ≡ Some (Pod p)
-    → BeginsOn (world setup past).store.rows refused (Some (Pod p)) (Some op) → schedule_call op ≡ Some call → Spends setup seat (costs_on (world setup past).store.rows) past (record { key = key_of (Pod p); task = tasks.Schedule op; call = call })
+begun_spends : (setup : Setup) (past : List Entry) (seat : ℕ) (p : PodData) (refused : List Tried) (op : ScheduleOp) (call : Request)
+    → ImportsPass setup.imports → row_at (key_of (Pod p)) (world setup past).store.rows ≡ Some (Pod p)
+    → BeginsOn (world setup past).store.rows refused (Some (Pod p)) (Some op) → schedule_call op ≡ Some call
+    → Spends setup seat (costs_on (world setup past).store.rows) past (record { key = key_of (Pod p); task = tasks.Schedule op; call = call })
 begun_spends setup past seat p refused op call pass there begins asks = by (is_scheduled p) refl begins
   where
-    by : (b : Bool) → is_scheduled p ≡ b → BeginsIf b (world setup past).store.rows refused p (Some op) → Spends setup seat (costs_on (world setup past).store.rows) past (record { key = key_of (Pod p); task = tasks.Schedule op; call = call })
+    by : (b : Bool) → is_scheduled p ≡ b → BeginsIf b (world setup past).store.rows refused p (Some op)
+        → Spends setup seat (costs_on (world setup past).store.rows) past (record { key = key_of (Pod p); task = tasks.Schedule op; call = call })
     by true e b = none_some (sym b)
     by false e b = begins_by setup past seat p pass there e (last_refused (world setup past).store.rows p refused) op call asks b.choice b.chosen b.begins
 
 -- ---- a decision
 
-module _ (setup : Setup) (seat : ℕ) (role : Role) (kind : role.kind ≡ seats.Scheduler) (s : ActorState) (h : List Entry) (u : Under) (pass : ImportsPass setup.imports) (point : IsDecisionPoint setup seat role h s h) (gives : GivesCall s.role s.memory (all_objects s.caches) u) where
+module _ (setup : Setup) (seat : ℕ) (role : Role) (kind : role.kind ≡ seats.Scheduler) (s : ActorState) (h : List Entry) (u : Under)
+    (pass : ImportsPass setup.imports) (point : IsDecisionPoint setup seat role h s h) (gives : GivesCall s.role s.memory (all_objects s.caches) u) where
   abbrev stand : List Object
   stand = (world setup h).store.rows
 
@@ -229,7 +243,8 @@ module _ (setup : Setup) (seat : ℕ) (role : Role) (kind : role.kind ≡ seats.
   decided : IsPodFirst stand refused (row_at u.key stand) (firsts.Begins u.task)
   decided =
       let s_kind : s.role.kind ≡ seats.Scheduler = ap (λ (r : Role). r.kind) point.role_is ∙ kind in
-      subst (λ xs. IsPodFirst xs refused (row_at u.key xs) (firsts.Begins u.task)) (schedulers_see_all setup seat role h s h kind point) (subst (λ k. IsFirstOf k s.role.node s.memory (all_objects s.caches) u.key (firsts.Begins u.task)) s_kind gives.decided)
+      subst (λ xs. IsPodFirst xs refused (row_at u.key xs) (firsts.Begins u.task)) (schedulers_see_all setup seat role h s h kind point)
+      (subst (λ k. IsFirstOf k s.role.node s.memory (all_objects s.caches) u.key (firsts.Begins u.task)) s_kind gives.decided)
 
   -- by the machine that began
   by_op : (op : ScheduleOp) → u.task ≡ tasks.Schedule op → (row : Option Object) → row_at u.key stand ≡ row → BeginsOn stand refused row (Some op) → Spends setup seat (costs_on stand) h u

@@ -2,8 +2,8 @@
 -- the pods may.
 use Rattle.std.proofs.Common.{◌≡◌, ◌≢◌, ◌∙◌, ℕ, ◌+◌, ◌-◌, ◌≤◌, List, ◌∷◌, Bool, true, false, true≢false, Option, Some, None, inl, inr, refl, sym, ap, subst, arith, if◌then◌else◌}
 use Rattle.std.specs.Prelude.{nat_lt}
-use Rattle.kube_types.specs.declared.names.Field.TheVariants as fields
-use Rattle.kube_types.specs.declared.parts.Kind.{Kind}
+use Rattle.kube_parts.specs.declared.names.Field.TheVariants as fields
+use Rattle.kube_parts.specs.declared.parts.Kind.{Kind}
 use Rattle.call_types.specs.declared.entry.Entry.{Entry}
 use Rattle.call_types.specs.declared.reply.Refusal.TheVariants as refusals
 use Rattle.call_types.specs.declared.reply.Reply.{Reply}
@@ -88,10 +88,13 @@ module _ (setup : Setup) (seat : ℕ) (role : Role) (kind : role.kind ≡ seats.
 
   -- a call is of what is under way, or a read
   data CallsSo (h : List Entry) (given : ActorState) (request : Request) : Type 0 where
-    OfUnder : (u : Under) (n : ℕ) → given.under ≡ Some u → given.given ≡ Some givens.Task → request ≡ u.call → Spends setup seat n h u → (world setup h).store.version + n ≤ bound → CallsSo h given request
-    Reads : (caches : AllKnown) (k : Kind) → given.under ≡ None → request ≡ read_of_kind caches k → (world setup h).store.version + costs_on (world setup h).store.rows ≤ bound → CallsSo h given request
+    OfUnder : (u : Under) (n : ℕ) → given.under ≡ Some u → given.given ≡ Some givens.Task → request ≡ u.call → Spends setup seat n h u
+        → (world setup h).store.version + n ≤ bound → CallsSo h given request
+    Reads : (caches : AllKnown) (k : Kind) → given.under ≡ None → request ≡ read_of_kind caches k
+        → (world setup h).store.version + costs_on (world setup h).store.rows ≤ bound → CallsSo h given request
 
-  calls_so : (s given : ActorState) (request : Request) (h : List Entry) → s.role ≡ role → IsHistory setup h → IsReady seat s h → IsTurn s given (Call request) → KnowsBehind setup seat s.role s.pass h → IsWithin h s.under → CallsSo h given request
+  calls_so : (s given : ActorState) (request : Request) (h : List Entry) → s.role ≡ role → IsHistory setup h → IsReady seat s h
+      → IsTurn s given (Call request) → KnowsBehind setup seat s.role s.pass h → IsWithin h s.under → CallsSo h given request
   calls_so s given request h is history ready turn knows within = by s.memory.stale s.under (start_call s.role s.memory) (unlisted s) (passing s) refl refl refl turn
     where
       asked : (x : Request) → Call request ≡ Call x → request ≡ x
@@ -103,15 +106,25 @@ module _ (setup : Setup) (seat : ℕ) (role : Role) (kind : role.kind ≡ seats.
       reads_so : (k : Kind) → s.under ≡ None → given.under ≡ s.under → Call request ≡ Call (read_of_kind s.caches k) → CallsSo h given request
       reads_so k none same e = Reads s.caches k (same ∙ none) (asked (read_of_kind s.caches k) e) (rests none)
 
-      keys : (w : Work) (under : Option Under) → s.under ≡ None → passing s ≡ None → Decides s.role s.memory (all_objects s.caches) w under s.work → AfterKeys s given (Call request) w under → CallsSo h given request
+      keys : (w : Work) (under : Option Under) → s.under ≡ None → passing s ≡ None → Decides s.role s.memory (all_objects s.caches) w under s.work
+          → AfterKeys s given (Call request) w under → CallsSo h given request
       keys w (Some u) none over d b =
-          let point : IsDecisionPoint setup seat role h s h = record { role_is = is; history = history; alike = record { rows = refl; stored = refl; mounts = refl }; ready = ready; sees = sees setup seat s h history ready.stands.told knows over } in
+          let point : IsDecisionPoint setup seat role h s h =
+          record {
+            role_is = is;
+            history = history;
+            alike = record { rows = refl; stored = refl; mounts = refl };
+            ready = ready;
+            sees =
+                sees setup seat s h history ready.stands.told knows over;
+          } in
           OfUnder u (costs_on (world setup h).store.rows) (ap (λ (x : ActorState). x.under) b.state) (ap (λ (x : ActorState). x.given) b.state) (asked u.call b.call)
           (decision_spends setup seat role kind s h u pass point (decides_gives s.role s.memory (all_objects s.caches) w (Some u) u s.work d refl)) (rests none)
       keys w None none over d (inl b) = reads_so b.kind none (ap (λ (x : ActorState). x.under) b.state) b.call
       keys w None none over d (inr b) = none_some (sym (ap call_in b.idle))
 
-      by : (stale : Bool) (under : Option Under) (start : Option Request) (l p : Option Kind) → s.under ≡ under → start_call s.role s.memory ≡ start → passing s ≡ p → TurnBy s given (Call request) stale under start l p → CallsSo h given request
+      by : (stale : Bool) (under : Option Under) (start : Option Request) (l p : Option Kind) → s.under ≡ under → start_call s.role s.memory ≡ start
+          → passing s ≡ p → TurnBy s given (Call request) stale under start l p → CallsSo h given request
       by true under start l p eu est ep t = none_some (sym (ap call_in t.idle))
       by false (Some u) start l p eu est ep t = goes (subst (IsWithin h) eu within)
         where
@@ -123,11 +136,13 @@ module _ (setup : Setup) (seat : ℕ) (role : Role) (kind : role.kind ≡ seats.
       by false None None None None eu est ep t = keys t.work t.under eu ep t.decides t.then_
 
   -- so it goes on behind the call
-  module _ (given next : ActorState) (request : Request) (reply : Reply) (h : List Entry) (of_kind : given.role.kind ≡ seats.Scheduler) (said : reply ≡ reply_to (effect setup (world setup h) given.role.kind request)) (absorbs : next ≡ absorbed given next.caches request (Told reply)) where
+  module _ (given next : ActorState) (request : Request) (reply : Reply) (h : List Entry) (of_kind : given.role.kind ≡ seats.Scheduler)
+      (said : reply ≡ reply_to (effect setup (world setup h) given.role.kind request)) (absorbs : next ≡ absorbed given next.caches request (Told reply)) where
     abbrev entry : Entry
     entry = told_entry seat given request reply
 
-    told_under : (u : Under) (caches : AllKnown) (g : Option Given) (x : Option Under) → g ≡ Some givens.Task → x ≡ Some u → (given_told (record (learned given caches request reply) { under = x }) request reply g).under ≡ under_after u reply
+    told_under : (u : Under) (caches : AllKnown) (g : Option Given) (x : Option Under) → g ≡ Some givens.Task → x ≡ Some u
+        → (given_told (record (learned given caches request reply) { under = x }) request reply g).under ≡ under_after u reply
     told_under u caches g x eg ex = rw (eg, ex) refl
 
     none_told : (caches : AllKnown) (g : Option Given) (x : Option Under) → x ≡ None → (given_told (record (learned given caches request reply) { under = x }) request reply g).under ≡ None
@@ -178,14 +193,16 @@ module _ (setup : Setup) (seat : ℕ) (role : Role) (kind : role.kind ≡ seats.
     not_agent : (s : ActorState) → s.role ≡ role → s.role.kind ≢ seats.Agent
     not_agent s is agent = true≢false (sym (ap is_scheduler (ap (λ (r : Role). r.kind) is ∙ kind)) ∙ ap is_scheduler agent)
 
-    runs_low : (s : ActorState) (h : List Entry) (b : ℕ) → Runs lets seat after_ past left idle s h b → s.role ≡ role → KnowsBehind setup seat s.role s.pass h → (world setup h).store.version ≤ bound → (s.memory.stale ≡ false → IsWithin h s.under) → (world setup past).store.version ≤ bound
+    runs_low : (s : ActorState) (h : List Entry) (b : ℕ) → Runs lets seat after_ past left idle s h b → s.role ≡ role
+        → KnowsBehind setup seat s.role s.pass h → (world setup h).store.version ≤ bound → (s.memory.stale ≡ false → IsWithin h s.under) → (world setup past).store.version ≤ bound
     runs_low s h b (IsSpent spent state entries rest busy) is knows le within = subst (λ es. (world setup es).store.version ≤ bound) (sym entries) le
     runs_low s h b (IsIdle some ready turn entries rest calm) is knows le within = subst (λ es. (world setup es).store.version ≤ bound) (sym entries) le
     runs_low s h b (IsHeld given next request some ready turn held absorbs more) is knows le within =
         absurd (true≢false (sym (others_pass lets seat s given request h holds (built s is) (not_agent s is) ready turn) ∙ held))
     runs_low s h b (Asks given next request reply some ready turn lets_it absorbs more) is knows le within =
         let g = run_grows lets seat after_ past left idle next (told_entry seat given request reply ∷ h) (b - 1) more in
-        let whole = runs_are_histories setup (told_entry seat given request reply ∷ h) (older_run setup g.longer.added (told_entry seat given request reply ∷ h) (subst (IsRunOf setup) g.longer.are run)).run in
+        let whole = runs_are_histories setup (told_entry seat given request reply ∷ h)
+        (older_run setup g.longer.added (told_entry seat given request reply ∷ h) (subst (IsRunOf setup) g.longer.are run)).run in
         let given_role : given.role ≡ role = turn_role s given (Call request) turn ∙ is in
         let of_kind : given.role.kind ≡ seats.Scheduler = ap (λ (r : Role). r.kind) given_role ∙ kind in
         let so = calls_so s given request h is whole.0 ready turn knows (within (calls_fresh s given request turn)) in
@@ -195,7 +212,8 @@ module _ (setup : Setup) (seat : ℕ) (role : Role) (kind : role.kind ≡ seats.
 
 -- from where nothing is under way
 pub writes_from :
-    (setup : Setup) (lets : Lets) (seat : ℕ) (old after : ActorState) (h past : List Entry) (b left : ℕ) (idle : Bool) → old.role.kind ≡ seats.Scheduler → IsRunOf setup past → HoldsMountsAlone lets → (old.memory.stale ≡ false → old.under ≡ None)
+    (setup : Setup) (lets : Lets) (seat : ℕ) (old after : ActorState) (h past : List Entry) (b left : ℕ) (idle : Bool)
+    → old.role.kind ≡ seats.Scheduler → IsRunOf setup past → HoldsMountsAlone lets → (old.memory.stale ≡ false → old.under ≡ None)
     → Runs lets seat after past left idle (begun old) h b → (world setup past).store.version ≤ (world setup h).store.version + pods_writes (world setup h)
 writes_from setup lets seat old after_ h past b left idle kind run holds rests runs =
     let costs = costs_bounded (world setup h).store.rows in

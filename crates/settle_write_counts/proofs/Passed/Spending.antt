@@ -7,19 +7,36 @@ use Rattle.std.proofs.lemmas.Bool.{and_parts}
 use Rattle.std.proofs.lemmas.Bool.Decides.{nat_tests}
 use Rattle.std.proofs.lemmas.Option.{slice_get_within}
 use Rattle.std.proofs.lemmas.Slice.Eq.{bytes_eq-Decides}
-use Rattle.kube_types.specs.declared.key.Key.{Key}
-use Rattle.kube_types.specs.declared.uid.Uid.{Uid}
-use Rattle.kube_types.specs.declared.parts.Kind.TheVariants as kinds
-use Rattle.kube_types.specs.declared.objects.Ref.{Ref}
-use Rattle.kube_types.specs.declared.objects.Claim.{Claim as ClaimData}
-use Rattle.kube_types.specs.declared.objects.Node.{Node as NodeData}
-use Rattle.kube_types.specs.declared.objects.Pod.{Pod as PodData}
-use Rattle.kube_types.specs.declared.objects.Volume.{Volume as VolumeData}
-use Rattle.kube_types.specs.declared.objects.Object.{Object}
-use Rattle.kube_types.specs.declared.objects.Object.TheVariants.{Claim, Class, Node, Pod, Volume}
-use Rattle.kube_types.specs.Bindings.{carries, has_key, has_name, is_available, is_completed, is_deleting, is_ended, is_scheduled, is_uid, names_claim, pv_protection, refers_carrying, refers_for, selected_node, uid_carries, uid_fits}
-use Rattle.kube_types.specs.Keys.{AreRows, key_of, kind_index, put_row, row_at, rows_of}
-use Rattle.kube_types.proofs.KeyOrder.{row_at-put_row, row_at-put_row_other}
+use Rattle.kube_objects.specs.declared.key.Key.{Key}
+use Rattle.kube_parts.specs.declared.uid.Uid.{Uid}
+use Rattle.kube_parts.specs.declared.parts.Kind.TheVariants as kinds
+use Rattle.kube_objects.specs.declared.objects.Ref.{Ref}
+use Rattle.kube_objects.specs.declared.objects.Claim.{Claim as ClaimData}
+use Rattle.kube_objects.specs.declared.objects.Node.{Node as NodeData}
+use Rattle.kube_objects.specs.declared.objects.Pod.{Pod as PodData}
+use Rattle.kube_objects.specs.declared.objects.Volume.{Volume as VolumeData}
+use Rattle.kube_objects.specs.declared.objects.Object.{Object}
+use Rattle.kube_objects.specs.declared.objects.Object.TheVariants.{Claim, Class, Node, Pod, Volume}
+use Rattle.kube_objects.specs.Bindings.{
+  carries,
+  has_key,
+  has_name,
+  is_available,
+  is_completed,
+  is_deleting,
+  is_ended,
+  is_scheduled,
+  is_uid,
+  names_claim,
+  pv_protection,
+  refers_carrying,
+  refers_for,
+  selected_node,
+  uid_carries,
+  uid_fits,
+}
+use Rattle.kube_objects.specs.Keys.{AreRows, key_of, kind_index, put_row, row_at, rows_of}
+use Rattle.kube_objects.proofs.KeyOrder.{row_at-put_row, row_at-put_row_other}
 use Rattle.call_types.specs.declared.entry.Entry.{Entry}
 use Rattle.call_types.specs.declared.reply.Change.TheVariants.{Modified}
 use Rattle.call_types.specs.declared.reply.Reply.{Reply}
@@ -62,7 +79,8 @@ use Rattle.settle_write_counts.proofs.Passed.Covered.{IsCovered, all_under, cove
 pub data Spends (setup : Setup) (seat : ℕ) : ℕ → List Entry → Under → Type 0 where
   EachSpends : {n : ℕ} {h : List Entry} {u : Under} (m : ℕ) → (world setup (own_entry setup seat seats.Scheduler h u.call ∷ h)).store.version + m ≤ (world setup h).store.version + n
       → ((next : Under) → under_after u (reply_to (effect setup (world setup h) seats.Scheduler u.call)) ≡ Some next → Spends setup seat m (own_entry setup seat seats.Scheduler h u.call ∷ h) next)
-      → (under_after u (reply_to (effect setup (world setup h) seats.Scheduler u.call)) ≡ None → costs_on (world setup (own_entry setup seat seats.Scheduler h u.call ∷ h)).store.rows ≤ m) → Spends setup seat n h u
+      → (under_after u (reply_to (effect setup (world setup h) seats.Scheduler u.call)) ≡ None
+      → costs_on (world setup (own_entry setup seat seats.Scheduler h u.call ∷ h)).store.rows ≤ m) → Spends setup seat n h u
 
 pub spends_more : (setup : Setup) (seat few many : ℕ) (h : List Entry) (u : Under) → few ≤ many → Spends setup seat few h u → Spends setup seat many h u
 spends_more setup seat few many h u le (EachSpends m version goes ends) = EachSpends m (omega (arith, version, le)) goes ends
@@ -116,7 +134,8 @@ refers_to c uid known =
     rw (space, own, same) refl
 
 -- a volume that may be taken for a claim that no volume carries, carries no claim that stands
-module _ (rows : List Object) (v : VolumeData) (c d : ClaimData) (n : NodeData) (fit : eligible v c (Some n) ≡ true) (there : row_at (key_of (Volume v)) rows ≡ Some (Volume v)) (claim_there : Stands rows c) (free : has_carrier rows c ≡ false)
+module _ (rows : List Object) (v : VolumeData) (c d : ClaimData) (n : NodeData) (fit : eligible v c (Some n) ≡ true)
+    (there : row_at (key_of (Volume v)) rows ≡ Some (Volume v)) (claim_there : Stands rows c) (free : has_carrier rows c ≡ false)
     (other_there : Stands rows d) (carried : carries v d ≡ true) where
   serves : may_serve v c ≡ true
   serves = by (is_deleting v.meta) (has_name pv_protection v.meta.finalizers) (fits v c) (is_selected c.selector v.meta.labels) (is_admitted_on v (Some n)) fit
@@ -189,7 +208,8 @@ module _ (setup : Setup) (seat : ℕ) (p : PodData) (writes : List Request) (are
   others_at h = total (costs_beside key (rows_at h)) (rows_at h)
 
   -- behind a write that was done nothing is under way only where none is left
-  ended : (place : ℕ) (call : Request) (reply : Reply) → slice_get writes place ≡ Some call → is_refused reply ≡ false → is_written reply ≡ true → under_after (at_call setup seat key writes place call) reply ≡ None → slice_get writes (place + 1) ≡ None
+  ended : (place : ℕ) (call : Request) (reply : Reply) → slice_get writes place ≡ Some call → is_refused reply ≡ false → is_written reply ≡ true
+      → under_after (at_call setup seat key writes place call) reply ≡ None → slice_get writes (place + 1) ≡ None
   unfolding schedule_moved schedule_call
   ended place call reply here calm done none = by (is_refused reply) (is_written reply && nat_lt place (length writes)) calm goes none
     where
@@ -199,15 +219,20 @@ module _ (setup : Setup) (seat : ℕ) (p : PodData) (writes : List Request) (are
           let below : nat_lt place (length writes) ≡ true = grind (arith, nat_tests, within) in
           rw (done, below) refl
 
-      found : (o : Option Request) → slice_get writes (place + 1) ≡ o → with_call key (tasks.Schedule (record { writes = writes; step = steps.Writes (place + 1) })) (only_write o) ≡ None → slice_get writes (place + 1) ≡ None
+      found : (o : Option Request) → slice_get writes (place + 1) ≡ o
+          → with_call key (tasks.Schedule (record { writes = writes; step = steps.Writes (place + 1) })) (only_write o) ≡ None → slice_get writes (place + 1) ≡ None
       found None at e = at
       found (Some r) at e = write_is (is_write r) (are (place + 1) r at) e
         where
-          write_is : (b : Bool) → b ≡ true → with_call key (tasks.Schedule (record { writes = writes; step = steps.Writes (place + 1) })) (if b then Some r else None) ≡ None → slice_get writes (place + 1) ≡ None
+          write_is : (b : Bool) → b ≡ true → with_call key (tasks.Schedule (record { writes = writes; step = steps.Writes (place + 1) })) (if b then
+              Some r else None) ≡ None → slice_get writes (place + 1) ≡ None
           write_is true is f = none_some (sym f)
           write_is false is f = absurd (true≢false (sym is))
 
-      by : (a b : Bool) → a ≡ false → b ≡ true → with_call key (tasks.Schedule (record { writes = writes; step = if a then steps.Parked else if b then steps.Writes (place + 1) else steps.Done })) (schedule_call_at writes (if a then steps.Parked else if b then steps.Writes (place + 1) else steps.Done)) ≡ None → slice_get writes (place + 1) ≡ None
+      by : (a b : Bool) → a ≡ false → b ≡ true
+          → with_call key (tasks.Schedule (record
+          { writes = writes; step = if a then steps.Parked else if b then steps.Writes (place + 1) else steps.Done }))
+          (schedule_call_at writes (if a then steps.Parked else if b then steps.Writes (place + 1) else steps.Done)) ≡ None → slice_get writes (place + 1) ≡ None
       by true b f g e = absurd (true≢false f)
       by false true f g e = found (slice_get writes (place + 1)) refl e
       by false false f g e = absurd (true≢false (sym g))
@@ -219,27 +244,33 @@ module _ (setup : Setup) (seat : ℕ) (p : PodData) (writes : List Request) (are
     pod : row_at key (rows_at (next h call)) ≡ Some (Pod p)
     covered : Each (IsCovered (rows_at (next h call)) p.meta.namespace cs) p.claims
 
-  after_write : (h : List Entry) (call : Request) (c : ClaimData) (cs : List ClaimData) (new old : Object) → rows_at (next h call) ≡ put_row new (rows_at h) → (world setup (next h call)).store.version ≡ (world setup h).store.version + 1
-      → row_at (key_of new) (rows_at h) ≡ Some old → key_of new ≢ key → ((d : ClaimData) → Stands (rows_at h) d → carries_claim d old ≡ true → ⊥) → ((d : ClaimData) → new ≡ Claim d → is_under_way (put_row new (rows_at h)) d ≡ true)
+  after_write : (h : List Entry) (call : Request) (c : ClaimData) (cs : List ClaimData) (new old : Object)
+      → rows_at (next h call) ≡ put_row new (rows_at h) → (world setup (next h call)).store.version ≡ (world setup h).store.version + 1
+      → row_at (key_of new) (rows_at h) ≡ Some old → key_of new ≢ key → ((d : ClaimData) → Stands (rows_at h) d → carries_claim d old ≡ true → ⊥)
+      → ((d : ClaimData) → new ≡ Claim d → is_under_way (put_row new (rows_at h)) d ≡ true)
       → ((d : ClaimData) → row_at (key_of (Claim c)) (put_row new (rows_at h)) ≡ Some (Claim d) → is_under_way (put_row new (rows_at h)) d ≡ true) → pod_costs (put_row new (rows_at h)) new ≡ 0
       → row_at key (rows_at h) ≡ Some (Pod p) → Each (IsCovered (rows_at h) p.meta.namespace (c ∷ cs)) p.claims → IsAfter h call cs
   after_write h call c cs new old rows_are version_is there apart none written served free pod covered = record {
     version = version_is;
     less = subst (λ rows. total (costs_beside key rows) rows ≤ others_at h) (sym rows_are) (beside_falls key new old (rows_at h) (rows_stand_in_order setup h) there grows free);
     pod = ap (row_at key) rows_are ∙ (row_at-put_row_other key new (rows_at h) apart ∙ pod);
-    covered = subst (λ rows. Each (IsCovered rows p.meta.namespace cs) p.claims) (sym rows_are) (covered_next (rows_at h) (put_row new (rows_at h)) p.meta.namespace c cs grows served p.claims covered);
+    covered = subst (λ rows. Each (IsCovered rows p.meta.namespace cs) p.claims) (sym rows_are)
+        (covered_next (rows_at h) (put_row new (rows_at h)) p.meta.namespace c cs grows served p.claims covered);
   }
     where
       grows : Grows (rows_at h) (put_row new (rows_at h))
       grows = put_grows (rows_at h) new old (rows_stand_in_order setup h) there none written
 
   -- a write, and what comes behind it
-  spends : (n : ℕ) (h : List Entry) (place : ℕ) (call : Request) (cs : List ClaimData) (rest : List Request) → others_at h + length cs + 2 ≤ n → slice_get writes place ≡ Some call → is_refused (answer h call) ≡ false → is_written (answer h call) ≡ true
+  spends : (n : ℕ) (h : List Entry) (place : ℕ) (call : Request) (cs : List ClaimData) (rest : List Request) → others_at h + length cs + 2 ≤ n
+      → slice_get writes place ≡ Some call → is_refused (answer h call) ≡ false → is_written (answer h call) ≡ true
       → AreFrom writes (place + 1) rest → length rest ≡ length cs → IsAfter h call cs
-      → ((r : Request) → slice_get writes (place + 1) ≡ Some r → Spends setup seat (others_at (next h call) + length cs + 1) (next h call) (at_call setup seat key writes (place + 1) r)) → Spends setup seat n h (at_call setup seat key writes place call)
+      → ((r : Request) → slice_get writes (place + 1) ≡ Some r
+      → Spends setup seat (others_at (next h call) + length cs + 1) (next h call) (at_call setup seat key writes (place + 1) r)) → Spends setup seat n h (at_call setup seat key writes place call)
   spends n h place call cs rest enough here calm done from many a goes =
       EachSpends (others_at (next h call) + length cs + 1) (let v = a.version in let l = a.less in omega (arith, v, l, enough))
-      (λ u e. let m = next_of setup seat key writes place call (answer h call) u e in subst (Spends setup seat (others_at (next h call) + length cs + 1) (next h call)) (sym m.is) (goes u.call m.there))
+      (λ u e. let m = next_of setup seat key writes place call (answer h call) u e in
+      subst (Spends setup seat (others_at (next h call) + length cs + 1) (next h call)) (sym m.is) (goes u.call m.there))
       (λ e. ends (ended place call (answer h call) here calm done e))
     where
       pod_few : Each (IsCovered (rows_at (next h call)) p.meta.namespace []) p.claims → pod_costs (rows_at (next h call)) (Pod p) ≤ 1
@@ -255,7 +286,8 @@ module _ (setup : Setup) (seat : ℕ) (p : PodData) (writes : List Request) (are
           let empty = none_first rest (sym (at_from writes (place + 1) rest from) ∙ none) in
           let all : cs ≡ [] = no_claims cs (sym many ∙ empty) in
           let few = pod_few (subst (λ ds. Each (IsCovered (rows_at (next h call)) p.meta.namespace ds) p.claims) all a.covered) in
-          let join = costs_join key 1 (rows_at (next h call)) (rows_stand_in_order setup (next h call)) (λ o at. subst (λ x. pod_costs (rows_at (next h call)) x ≤ 1) (one (Pod p) o (sym a.pod ∙ at)) few) in
+          let join = costs_join key 1 (rows_at (next h call)) (rows_stand_in_order setup (next h call))
+          (λ o at. subst (λ x. pod_costs (rows_at (next h call)) x ≤ 1) (one (Pod p) o (sym a.pod ∙ at)) few) in
           omega (arith, join)
 
   module _ (pass : ImportsPass setup.imports) (name : List ℕ) where
@@ -269,7 +301,8 @@ module _ (setup : Setup) (seat : ℕ) (p : PodData) (writes : List Request) (are
       with_node = placed setup (world setup h) name c on_store
 
       is_placed : effect setup (world setup h) seats.Scheduler (placing name c) ≡ OnStore (Stores Modified with_node)
-      is_placed = comes_to setup (world setup h) name c on_store seats.Scheduler refl false (stays_there setup seat key writes pass name (world setup h) c on_store (seeking_parts c open_.seeks).staying)
+      is_placed = comes_to setup (world setup h) name c on_store seats.Scheduler refl false
+          (stays_there setup seat key writes pass name (world setup h) c on_store (seeking_parts c open_.seeks).staying)
 
       rows_placed : rows_at (next h (placing name c)) ≡ put_row with_node (rows_at h)
       unfolding world_after after log_after
@@ -294,7 +327,8 @@ module _ (setup : Setup) (seat : ℕ) (p : PodData) (writes : List Request) (are
       after_placed : (cs : List ClaimData) → row_at key (rows_at h) ≡ Some (Pod p) → Each (IsCovered (rows_at h) p.meta.namespace (c ∷ cs)) p.claims → IsAfter h (placing name c) cs
       unfolding updated_object with_meta with_status_of
       after_placed cs pod covered =
-          after_write h (placing name c) c cs with_node (Claim c) rows_placed version_placed there (λ e. let k = ap (λ (j : Key). kind_index j.kind) e in omega (arith, k)) (λ d stands e. true≢false (sym e)) written
+          after_write h (placing name c) c cs with_node (Claim c) rows_placed version_placed there
+          (λ e. let k = ap (λ (j : Key). kind_index j.kind) e in omega (arith, k)) (λ d stands e. true≢false (sym e)) written
           (λ d at. written d (one with_node (Claim d) (sym (row_at-put_row with_node (rows_at h)) ∙ at))) refl pod covered
         where
           written : (d : ClaimData) → with_node ≡ Claim d → is_under_way (put_row with_node (rows_at h)) d ≡ true
@@ -308,7 +342,8 @@ module _ (setup : Setup) (seat : ℕ) (p : PodData) (writes : List Request) (are
     counted (c ∷ cs) = let rest = counted cs in omega (arith, rest)
 
     -- one after the other
-    places : (cs : List ClaimData) (place : ℕ) (h : List Entry) → AreFrom writes place (map (placing name) cs) → Each (Stands (rows_at h)) cs → Each IsOpen cs → AreApart cs → row_at key (rows_at h) ≡ Some (Pod p) → Each (IsCovered (rows_at h) p.meta.namespace cs) p.claims
+    places : (cs : List ClaimData) (place : ℕ) (h : List Entry) → AreFrom writes place (map (placing name) cs) → Each (Stands (rows_at h)) cs
+        → Each IsOpen cs → AreApart cs → row_at key (rows_at h) ≡ Some (Pod p) → Each (IsCovered (rows_at h) p.meta.namespace cs) p.claims
         → (call : Request) → slice_get writes place ≡ Some call → Spends setup seat (others_at h + length cs + 1) h (at_call setup seat key writes place call)
     places [] place h from stand open_ apart pod covered call at = none_some (sym (at_from writes place [] from) ∙ at)
     places (c ∷ cs) place h from stand open_ apart pod covered call at =
@@ -316,13 +351,17 @@ module _ (setup : Setup) (seat : ℕ) (p : PodData) (writes : List Request) (are
         let later = later_from writes place (placing name c) (map (placing name) cs) from in
         let a = after_placed h c stand.0 open_.0 cs pod covered in
         subst (λ r. Spends setup seat (others_at h + length (c ∷ cs) + 1) h (at_call setup seat key writes place r)) (sym same)
-        (spends (others_at h + length (c ∷ cs) + 1) h place (placing name c) cs (map (placing name) cs) (omega arith) (at ∙ ap Some same) (calm_placed h c stand.0 open_.0) (done_placed h c stand.0 open_.0) later (counted cs) a
-        (λ r there. places cs (place + 1) (next h (placing name c)) later (still_stand (rows_at h) (rows_at (next h (placing name c))) c cs (kept h c stand.0 open_.0) apart.0 stand.1) open_.1 apart.1 a.pod a.covered r there))
+        (spends (others_at h + length (c ∷ cs) + 1) h place (placing name c) cs (map (placing name) cs) (omega arith) (at ∙ ap Some same)
+        (calm_placed h c stand.0 open_.0) (done_placed h c stand.0 open_.0) later (counted cs) a
+        (λ r there. places cs (place + 1) (next h (placing name c)) later
+        (still_stand (rows_at h) (rows_at (next h (placing name c))) c cs (kept h c stand.0 open_.0) apart.0 stand.1) open_.1 apart.1 a.pod a.covered r there))
 
     -- ---- a volume is taken for a claim
 
-    module _ (rows : List Object) (order : AreRows rows) (n : NodeData) (nodes : List ClaimData) (nodes_stand : Each (Stands rows) nodes) (nodes_open : Each IsOpen nodes) (nodes_apart : AreApart nodes) where
-      module _ (c : ClaimData) (v : VolumeData) (place_of : ℕ) (taken : List ℕ) (at : slice_get (rows_of kinds.PersistentVolume rows) place_of ≡ Some (Volume v)) (fit : eligible v c (Some n) ≡ true) (h : List Entry)
+    module _ (rows : List Object) (order : AreRows rows) (n : NodeData) (nodes : List ClaimData) (nodes_stand : Each (Stands rows) nodes)
+        (nodes_open : Each IsOpen nodes) (nodes_apart : AreApart nodes) where
+      module _ (c : ClaimData) (v : VolumeData) (place_of : ℕ) (taken : List ℕ)
+          (at : slice_get (rows_of kinds.PersistentVolume rows) place_of ≡ Some (Volume v)) (fit : eligible v c (Some n) ≡ true) (h : List Entry)
           (there : row_at (key_of (Volume v)) (rows_at h) ≡ Some (Volume v)) (claim_there : Stands (rows_at h) c) (open_ : IsOpen c) (free : has_carrier (rows_at h) c ≡ false) where
         is_taken : IsTaken setup (world setup h) v c
         is_taken = took setup seat key writes pass name rows order n nodes nodes_stand nodes_open nodes_apart c v place_of taken at fit h there claim_there open_ free
@@ -347,12 +386,14 @@ module _ (setup : Setup) (seat : ℕ) (p : PodData) (writes : List Request) (are
         under_taken =
             let uid = has_uid c.meta.uid open_.known in
             by_carrier (put_row (Volume is_taken.new) (rows_at h)) c
-            (any_in (carries_claim c) (Volume is_taken.new) (put_row (Volume is_taken.new) (rows_at h)) (found_in (key_of (Volume is_taken.new)) (put_row (Volume is_taken.new) (rows_at h)) (Volume is_taken.new) (row_at-put_row (Volume is_taken.new) (rows_at h)))
+            (any_in (carries_claim c) (Volume is_taken.new) (put_row (Volume is_taken.new) (rows_at h))
+            (found_in (key_of (Volume is_taken.new)) (put_row (Volume is_taken.new) (rows_at h)) (Volume is_taken.new) (row_at-put_row (Volume is_taken.new) (rows_at h)))
             (ap (λ r. refers_carrying r c) is_taken.refers ∙ refers_to c uid.uid uid.is))
 
         after_taken : (cs : List ClaimData) → row_at key (rows_at h) ≡ Some (Pod p) → Each (IsCovered (rows_at h) p.meta.namespace (c ∷ cs)) p.claims → IsAfter h (write_reference v c) cs
         after_taken cs pod covered =
-            after_write h (write_reference v c) c cs (Volume is_taken.new) (Volume v) rows_taken version_taken (ap (λ k. row_at k (rows_at h)) is_taken.key ∙ there) (λ e. let k = ap (λ (j : Key). kind_index j.kind) e in omega (arith, k))
+            after_write h (write_reference v c) c cs (Volume is_taken.new) (Volume v) rows_taken version_taken
+            (ap (λ k. row_at k (rows_at h)) is_taken.key ∙ there) (λ e. let k = ap (λ (j : Key). kind_index j.kind) e in omega (arith, k))
             (λ d stands e. held_by_none (rows_at h) v c d n fit there claim_there free stands e) (λ d e. absurd (true≢false (sym (ap is_claim e)))) served refl pod covered
           where
             same_rows : row_at (key_of (Claim c)) (put_row (Volume is_taken.new) (rows_at h)) ≡ Some (Claim c)
@@ -369,7 +410,8 @@ module _ (setup : Setup) (seat : ℕ) (p : PodData) (writes : List Request) (are
       many (c ∷ cs) (IsProvisioned ∷ shares) taken shared = many cs shares taken shared.2
       many (c ∷ cs) (TakesVolume p ∷ shares) taken shared = let rest = many cs shares (p ∷ taken) shared.1 in omega (arith, rest)
 
-      many_with : (cs : List ClaimData) (shares : List Share) (taken : List ℕ) (shared : AreShares rows n taken cs shares) → length (refs_in rows n cs shares taken shared ++ map (placing name) nodes) ≡ length (takers_of cs shares ++ nodes)
+      many_with : (cs : List ClaimData) (shares : List Share) (taken : List ℕ) (shared : AreShares rows n taken cs shares)
+          → length (refs_in rows n cs shares taken shared ++ map (placing name) nodes) ≡ length (takers_of cs shares ++ nodes)
       many_with cs shares taken shared =
           let a = length-append (refs_in rows n cs shares taken shared) (map (placing name) nodes) in
           let b = length-append (takers_of cs shares) nodes in
@@ -377,8 +419,11 @@ module _ (setup : Setup) (seat : ℕ) (p : PodData) (writes : List Request) (are
           let k = counted nodes in
           omega (arith, a, b, m, k)
 
-      pub takes : (cs : List ClaimData) (shares : List Share) (taken : List ℕ) (shared : AreShares rows n taken cs shares) (place : ℕ) (h : List Entry) → IsBehind setup seat key writes pass name rows order n nodes nodes_stand nodes_open nodes_apart h taken cs
-          → Each (Stands rows) cs → Each IsOpen cs → AreApart cs → AreFrom writes place (refs_in rows n cs shares taken shared ++ map (placing name) nodes) → row_at key (rows_at h) ≡ Some (Pod p) → Each (IsCovered (rows_at h) p.meta.namespace (takers_of cs shares ++ nodes)) p.claims
+      pub takes : (cs : List ClaimData) (shares : List Share) (taken : List ℕ) (shared : AreShares rows n taken cs shares) (place : ℕ)
+          (h : List Entry) → IsBehind setup seat key writes pass name rows order n nodes nodes_stand nodes_open nodes_apart h taken cs
+          → Each (Stands rows) cs → Each IsOpen cs → AreApart cs
+          → AreFrom writes place (refs_in rows n cs shares taken shared ++ map (placing name) nodes) → row_at key (rows_at h) ≡ Some (Pod p)
+          → Each (IsCovered (rows_at h) p.meta.namespace (takers_of cs shares ++ nodes)) p.claims
           → (call : Request) → slice_get writes place ≡ Some call → Spends setup seat (others_at h + length (takers_of cs shares ++ nodes) + 1) h (at_call setup seat key writes place call)
       takes [] [] taken shared place h b stand open_ apart from pod covered call at = places nodes place h from (stand_here nodes nodes_stand) nodes_open nodes_apart pod covered call at
         where
@@ -403,6 +448,7 @@ module _ (setup : Setup) (seat : ℕ) (p : PodData) (writes : List Request) (are
           let a = after_taken c v q taken spot fit h there claim_there open_.0 free (takers_of cs shares ++ nodes) pod covered in
           let after_it = behind setup seat key writes pass name rows order n nodes nodes_stand nodes_open nodes_apart c v q taken spot fit h there claim_there open_.0 free cs apart.0 b in
           subst (λ r. Spends setup seat (others_at h + length (c ∷ takers_of cs shares ++ nodes) + 1) h (at_call setup seat key writes place r)) (sym same)
-          (spends (others_at h + length (c ∷ takers_of cs shares ++ nodes) + 1) h place (write_reference v c) (takers_of cs shares ++ nodes) rest (omega arith) (at ∙ ap Some same) (calm_taken c v q taken spot fit h there claim_there open_.0 free)
+          (spends (others_at h + length (c ∷ takers_of cs shares ++ nodes) + 1) h place (write_reference v c) (takers_of cs shares ++ nodes) rest
+          (omega arith) (at ∙ ap Some same) (calm_taken c v q taken spot fit h there claim_there open_.0 free)
           (done_taken c v q taken spot fit h there claim_there open_.0 free) later (many_with cs shares (q ∷ taken) shared.1) a
           (λ r next_there. takes cs shares (q ∷ taken) shared.1 (place + 1) (next h (write_reference v c)) after_it stand.1 open_.1 apart.1 later a.pod a.covered r next_there))

@@ -1,15 +1,15 @@
 -- What ops has under way: phase Failed is to be written only after an Erase was answered with a fault.
 use Rattle.std.proofs.Common.{◌≡◌, ℕ, ◌+◌, ◌≤◌, List, Bool, true, false, true≢false, Option, Some, None, refl, sym, ap, subst, arith, if◌then◌else◌}
 use Rattle.std.specs.Prelude.{is_some}
-use Rattle.kube_types.specs.declared.names.Due.{Due}
-use Rattle.kube_types.specs.declared.names.Due.TheVariants as dues
-use Rattle.kube_types.specs.declared.objects.Class.{Class as ClassData}
-use Rattle.kube_types.specs.declared.objects.Claim.{Claim as ClaimData}
-use Rattle.kube_types.specs.declared.objects.Volume.{Volume as VolumeData}
-use Rattle.kube_types.specs.declared.objects.Object.{Object}
-use Rattle.kube_types.specs.declared.objects.Object.TheVariants.{Volume}
-use Rattle.kube_types.specs.declared.uid.Uid.{Uid}
-use Rattle.kube_types.specs.Keys.{row_at}
+use Rattle.kube_parts.specs.declared.names.Due.{Due}
+use Rattle.kube_parts.specs.declared.names.Due.TheVariants as dues
+use Rattle.kube_objects.specs.declared.objects.Class.{Class as ClassData}
+use Rattle.kube_objects.specs.declared.objects.Claim.{Claim as ClaimData}
+use Rattle.kube_objects.specs.declared.objects.Volume.{Volume as VolumeData}
+use Rattle.kube_objects.specs.declared.objects.Object.{Object}
+use Rattle.kube_objects.specs.declared.objects.Object.TheVariants.{Volume}
+use Rattle.kube_parts.specs.declared.uid.Uid.{Uid}
+use Rattle.kube_objects.specs.Keys.{row_at}
 use Rattle.call_types.specs.declared.reply.Refusal.TheVariants as refusals
 use Rattle.call_types.specs.declared.reply.Reply.{Reply}
 use Rattle.call_types.specs.declared.reply.Reply.TheVariants as replies
@@ -81,7 +81,8 @@ module _ (t : Task) where
   of_claim (Some op) row e = ap task_fails (one t _ (ap begun_in e))
 
 pub none_begins : (role : Role) (memory : Memory) (rows : List Object) (u : Under) → role.kind ≡ seats.Ops → GivesCall role memory rows u → under_fails (Some u) ≡ 0
-none_begins role memory rows u kind gives = of_claim u.task (claim_begins rows (row_at u.key rows)) (row_at u.key rows) (subst (λ k. IsFirstOf k role.node memory rows u.key (firsts.Begins u.task)) kind gives.decided)
+none_begins role memory rows u kind gives =
+    of_claim u.task (claim_begins rows (row_at u.key rows)) (row_at u.key rows) (subst (λ k. IsFirstOf k role.node memory rows u.key (firsts.Begins u.task)) kind gives.decided)
 
 -- ---- an answer
 
@@ -96,7 +97,8 @@ found_none op v = by (is_some (reclaim_due v)) (known_none op v v.meta.uid)
     by true h = h
     by false h = refl
 
-erase_goes : (op : EraseOp) (step : EraseStep) (request : Request) (reply : Reply) → erase_call_at step op.volume ≡ Some request → step_fails (moved_at op step reply).step + phase_written request ≤ step_fails step + erase_failed request reply
+erase_goes : (op : EraseOp) (step : EraseStep) (request : Request) (reply : Reply) → erase_call_at step op.volume ≡ Some request
+    → step_fails (moved_at op step reply).step + phase_written request ≤ step_fails step + erase_failed request reply
 erase_goes op erase_steps.Done request reply call = none_some call
 erase_goes op erase_steps.Parked request reply call = none_some call
 erase_goes op erase_steps.ReadsVolume request (replies.Found (Volume v)) call = let h = found_none op v in let p = ap phase_written (one _ request call) in omega (arith, h, p)
@@ -125,7 +127,8 @@ abbrev pub is_ops : SeatKind → Bool
 is_ops seats.Ops = true
 is_ops kind = false
 
-pub fails_go : (u : Under) (reply : Reply) → task_kind u.task ≡ seats.Ops → task_call u.task ≡ Some u.call → under_fails (under_after u reply) + phase_written u.call ≤ under_fails (Some u) + erase_failed u.call reply
+pub fails_go : (u : Under) (reply : Reply) → task_kind u.task ≡ seats.Ops → task_call u.task ≡ Some u.call
+    → under_fails (under_after u reply) + phase_written u.call ≤ under_fails (Some u) + erase_failed u.call reply
 unfolding provision_call provision_moved erase_call erase_moved
 fails_go u reply kind call = by u.task kind call
   where

@@ -3,16 +3,16 @@ use Rattle.std.proofs.Common.{◌≡◌, ◌≢◌, ◌∙◌, ℕ, ◌+◌, ◌
 use Rattle.std.proofs.Math.Nat.{add-mul}
 use Rattle.std.proofs.lemmas.Nat.{mul-le}
 use Rattle.plain_data.proofs.RowFacts.{rising_without}
-use Rattle.kube_types.specs.declared.key.Key.{Key}
-use Rattle.kube_types.specs.declared.parts.Kind.TheVariants as kinds
-use Rattle.kube_types.specs.declared.objects.Claim.{Claim as ClaimData}
-use Rattle.kube_types.specs.declared.objects.Pod.{Pod as PodData}
-use Rattle.kube_types.specs.declared.objects.Object.{Object}
-use Rattle.kube_types.specs.declared.objects.Object.TheVariants.{Class, Node, Volume, Claim, Pod}
-use Rattle.kube_types.specs.declared.uid.Uid.{Uid}
-use Rattle.kube_types.specs.Keys.{AreRows, key_of, kind_index, kind_of, meta_of, put_row, row_at, without_row}
-use Rattle.kube_types.proofs.KeyOrder.{key_cmp_total, row_at-put_row, row_at-put_row_other, row_at-without_row, row_at-without_row_other, row_at_key}
-use Rattle.kube_types.proofs.SameKeys.{key_tells}
+use Rattle.kube_objects.specs.declared.key.Key.{Key}
+use Rattle.kube_parts.specs.declared.parts.Kind.TheVariants as kinds
+use Rattle.kube_objects.specs.declared.objects.Claim.{Claim as ClaimData}
+use Rattle.kube_objects.specs.declared.objects.Pod.{Pod as PodData}
+use Rattle.kube_objects.specs.declared.objects.Object.{Object}
+use Rattle.kube_objects.specs.declared.objects.Object.TheVariants.{Class, Node, Volume, Claim, Pod}
+use Rattle.kube_parts.specs.declared.uid.Uid.{Uid}
+use Rattle.kube_objects.specs.Keys.{AreRows, key_of, kind_index, kind_of, meta_of, put_row, row_at, without_row}
+use Rattle.kube_objects.proofs.KeyOrder.{key_cmp_total, row_at-put_row, row_at-put_row_other, row_at-without_row, row_at-without_row_other, row_at_key}
+use Rattle.kube_objects.proofs.SameKeys.{key_tells}
 use Rattle.binder_model.specs.ObjectKeys.{claim_key, volume_key}
 use Rattle.binder_model.specs.Provisioning.{data_name}
 use Rattle.model_laws.proofs.Lists.{IsIn, none_some, one}
@@ -52,7 +52,8 @@ in_for key (Some uid) keys i = inr i
 
 is_made : (uid : Uid) (c : ClaimData) (rows : List Object) → c.meta.uid ≡ Some uid → IsIn (Claim c) rows → IsIn (volume_key (data_name uid)) (made_keys rows)
 is_made uid c [] has i = absurd i
-is_made uid c (o ∷ os) has (inl is) = subst (λ x. IsIn (volume_key (data_name uid)) (made_keys (x ∷ os))) (sym is) (subst (λ u. IsIn (volume_key (data_name uid)) (keys_for u (made_keys os))) (sym has) (inl refl))
+is_made uid c (o ∷ os) has (inl is) = subst (λ x. IsIn (volume_key (data_name uid)) (made_keys (x ∷ os))) (sym is) (subst
+    (λ u. IsIn (volume_key (data_name uid)) (keys_for u (made_keys os))) (sym has) (inl refl))
 is_made uid c (o ∷ os) has (inr more) = by o (is_made uid c os has more)
   where
     by : (x : Object) → IsIn (volume_key (data_name uid)) (made_keys os) → IsIn (volume_key (data_name uid)) (made_keys (x ∷ os))
@@ -91,7 +92,8 @@ given_first rows key o there = IsOld o there (omega arith) refl
 -- an object is written over another, or is made for a claim that stands
 pub data Comes (rows : List Object) (o : Object) : Type 0 where
   IsOver : (old : Object) → row_at (key_of o) rows ≡ Some old → names_in o ≤ names_in old → (meta_of o).uid ≡ (meta_of old).uid → Comes rows o
-  IsFor : (c : ClaimData) (uid : Uid) → row_at (claim_key c.meta.namespace c.meta.name) rows ≡ Some (Claim c) → c.meta.uid ≡ Some uid → key_of o ≡ volume_key (data_name uid) → names_in o ≡ 0 → Comes rows o
+  IsFor : (c : ClaimData) (uid : Uid) → row_at (claim_key c.meta.namespace c.meta.name) rows ≡ Some (Claim c) → c.meta.uid ≡ Some uid
+      → key_of o ≡ volume_key (data_name uid) → names_in o ≡ 0 → Comes rows o
 
 -- what stands at the key of a claim is one
 claim_at : (key : Key) (o : Object) (rows : List Object) → row_at key rows ≡ Some o → kind_index key.kind ≡ 3 → (c : ClaimData) × (o ≡ Claim c)
@@ -168,7 +170,8 @@ module _ (f : Object → ℕ) (n : ℕ) where
       differs : (o : Object) → IsIn o xs → key_of o ≢ key_of x
       differs o i = others_behind x xs order.0 o i
 
-      by : IsCovered old spare x → ((o : List Object) (s : List Key) → AreRows o → ((y : Object) → IsIn y xs → IsCovered o s y) → total f xs ≤ total f o + length s * n) → f x + total f xs ≤ total f old + length spare * n
+      by : IsCovered old spare x → ((o : List Object) (s : List Key) → AreRows o → ((y : Object) → IsIn y xs → IsCovered o s y) → total f xs ≤ total
+          f o + length s * n) → f x + total f xs ≤ total f old + length spare * n
       by (ByOld was there few) rest =
           let gone = gone_falls f f none_paid (key_of x) was old before there (λ o i other. omega arith) in
           let none = none_pays old in

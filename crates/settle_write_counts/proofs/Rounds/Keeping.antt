@@ -4,17 +4,17 @@ use Rattle.std.specs.declared.cmp.Ordering.{Ordering}
 use Rattle.std.specs.declared.cmp.Ordering.TheVariants.{Less, Equal, Greater}
 use Rattle.std.specs.Ordering.{is_eq, match_ordering}
 use Rattle.plain_data.specs.Pairs.{Pair, pair_key, put_pair, text_cmp}
-use Rattle.kube_types.specs.declared.parts.ClaimPhase.{ClaimPhase}
-use Rattle.kube_types.specs.declared.parts.Modes.{Modes}
-use Rattle.kube_types.specs.declared.objects.Amount.{Amount}
-use Rattle.kube_types.specs.declared.objects.Claim.{Claim as ClaimData}
-use Rattle.kube_types.specs.declared.objects.Meta.{Meta}
-use Rattle.kube_types.specs.declared.objects.Volume.{Volume as VolumeData}
-use Rattle.kube_types.specs.declared.objects.Object.{Object}
-use Rattle.kube_types.specs.declared.objects.Object.TheVariants.{Class, Node, Volume, Claim, Pod}
-use Rattle.kube_types.specs.Bindings.{bind_completed, bound_by_controller, is_completed, is_empty, is_protected_claim, selected_node, yes}
-use Rattle.kube_types.specs.Keys.{key_of, row_at}
-use Rattle.kube_types.proofs.KeyOrder.{row_at_key}
+use Rattle.kube_parts.specs.declared.parts.ClaimPhase.{ClaimPhase}
+use Rattle.kube_parts.specs.declared.parts.Modes.{Modes}
+use Rattle.kube_objects.specs.declared.objects.Amount.{Amount}
+use Rattle.kube_objects.specs.declared.objects.Claim.{Claim as ClaimData}
+use Rattle.kube_objects.specs.declared.objects.Meta.{Meta}
+use Rattle.kube_objects.specs.declared.objects.Volume.{Volume as VolumeData}
+use Rattle.kube_objects.specs.declared.objects.Object.{Object}
+use Rattle.kube_objects.specs.declared.objects.Object.TheVariants.{Class, Node, Volume, Claim, Pod}
+use Rattle.kube_objects.specs.Bindings.{bind_completed, bound_by_controller, is_completed, is_empty, is_protected_claim, selected_node, yes}
+use Rattle.kube_objects.specs.Keys.{key_of, row_at}
+use Rattle.kube_objects.proofs.KeyOrder.{row_at_key}
 use Rattle.call_types.specs.declared.entry.Entry.{Entry}
 use Rattle.call_types.specs.declared.request.NewStatus.TheVariants as statuses
 use Rattle.call_types.specs.declared.request.Request.{Request}
@@ -45,7 +45,8 @@ put_other : (k v : List ℕ) (ps : List Pair) → is_eq (text_cmp k selected_nod
 put_other k v [] other = let none : one_if (is_eq (text_cmp k selected_node)) ≡ 0 = ap one_if other in omega (arith, none)
 put_other k v (p ∷ ps) other = by (text_cmp (pair_key p) k) (put_other k v ps other) (ap one_if other)
   where
-    by : (r : Ordering) → selections_in (put_pair k v ps) ≤ selections_in ps → one_if (is_eq (text_cmp k selected_node)) ≡ 0 → selections_in (match_ordering r (p ∷ put_pair k v ps) ((k, v) ∷ ps) ((k, v) ∷ p ∷ ps)) ≤ selections_in (p ∷ ps)
+    by : (r : Ordering) → selections_in (put_pair k v ps) ≤ selections_in ps → one_if (is_eq (text_cmp k selected_node)) ≡ 0
+        → selections_in (match_ordering r (p ∷ put_pair k v ps) ((k, v) ∷ ps) ((k, v) ∷ p ∷ ps)) ≤ selections_in (p ∷ ps)
     by Less rest none = omega (arith, rest)
     by Equal rest none = omega (arith, none)
     by Greater rest none = omega (arith, none)
@@ -86,7 +87,8 @@ module _ (mine : List Entry) (new c : ClaimData) where
   guard_few false may = let same : selections_in new.meta.annotations ≡ selections_in c.meta.annotations = ap (λ (x : ClaimData). selections_in x.meta.annotations) may.change in omega (arith, same)
 
 -- a status of a claim leaves its annotations
-status_same : (phase : ClaimPhase) (modes : Modes) (amount : Option Amount) (old new : Object) (n : ℕ) → with_status (statuses.Claim phase modes amount) old ≡ Some new → (nodes_on (at_version new n) ≡ nodes_on old) × (key_of (at_version new n) ≡ key_of old)
+status_same : (phase : ClaimPhase) (modes : Modes) (amount : Option Amount) (old new : Object) (n : ℕ)
+    → with_status (statuses.Claim phase modes amount) old ≡ Some new → (nodes_on (at_version new n) ≡ nodes_on old) × (key_of (at_version new n) ≡ key_of old)
 unfolding with_status at_version with_meta
 status_same phase modes amount (Claim c) new n e = subst (λ o. (nodes_on (at_version o n) ≡ nodes_on (Claim c)) × (key_of (at_version o n) ≡ key_of (Claim c))) (one _ new e) (refl, refl)
 status_same phase modes amount (Class x) new n e = none_some e
@@ -106,7 +108,8 @@ module _ (setup : Setup) (seat : ℕ) (h : List Entry) (history : IsHistory setu
       let less = binder_few (own seat h) new r.on (is_completed new) r.row in
       omega (arith, few, nodes, less)
   binder_nodes (requests.Update (Volume new) given) may i = no_node setup seat h history o rows moved (ap nodes_on i.is ∙ updated_none i.old new ((world setup h).store.version + 1))
-  binder_nodes (requests.UpdateStatus key (statuses.Volume phase) given) may i = no_node setup seat h history o rows moved (ap nodes_on i.is ∙ phase_none phase i.old i.new ((world setup h).store.version + 1) i.fits)
+  binder_nodes (requests.UpdateStatus key (statuses.Volume phase) given) may i =
+      no_node setup seat h history o rows moved (ap nodes_on i.is ∙ phase_none phase i.old i.new ((world setup h).store.version + 1) i.fits)
   binder_nodes (requests.UpdateStatus key (statuses.Claim phase modes amount) given) may i =
       let same = status_same phase modes amount i.old i.new ((world setup h).store.version + 1) i.fits in
       let keyed : key_of o ≡ key = ap key_of i.is ∙ (same.1 ∙ row_at_key key i.old (world setup h).store.rows i.there) in
@@ -167,7 +170,8 @@ module _ (setup : Setup) (seat : ℕ) (h : List Entry) (history : IsHistory setu
   agent_nodes (requests.BindPod key uid node) may i = absurd may.1
   agent_nodes _ may i = absurd i
 
-  pub other_nodes : (kind : SeatKind) (r : Request) → IsBuiltKind kind → kind ≢ seats.Scheduler → kind ≢ seats.Ops → Licensed kind (own seat h) r → Writes (world setup h) kind r o → total nodes_on rows ≤ nodes_in (world setup h)
+  pub other_nodes : (kind : SeatKind) (r : Request) → IsBuiltKind kind → kind ≢ seats.Scheduler → kind ≢ seats.Ops → Licensed kind (own seat h) r
+      → Writes (world setup h) kind r o → total nodes_on rows ≤ nodes_in (world setup h)
   other_nodes seats.User r built scheduler ops may writes = absurd built
   other_nodes seats.Scheduler r built scheduler ops may writes = absurd (scheduler refl)
   other_nodes seats.Ops r built scheduler ops may writes = absurd (ops refl)

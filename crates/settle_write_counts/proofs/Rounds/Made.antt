@@ -1,18 +1,18 @@
 -- In a slot that begins with nothing under way each new object is the volume of a claim that stands.
 use Rattle.std.proofs.Common.{◌≡◌, ◌∙◌, ℕ, ◌+◌, ◌-◌, ◌≤◌, List, ◌∷◌, Bool, true, false, true≢false, Option, Some, None, inl, inr, refl, sym, ap, subst, arith}
 use Rattle.std.specs.Prelude.{option_map}
-use Rattle.kube_types.specs.declared.key.Key.{Key}
-use Rattle.kube_types.specs.declared.parts.Kind.{Kind}
-use Rattle.kube_types.specs.declared.parts.Kind.TheVariants as kinds
-use Rattle.kube_types.specs.declared.objects.Class.{Class as ClassData}
-use Rattle.kube_types.specs.declared.objects.Claim.{Claim as ClaimData}
-use Rattle.kube_types.specs.declared.objects.DataId.{DataId}
-use Rattle.kube_types.specs.declared.objects.Volume.{Volume as VolumeData}
-use Rattle.kube_types.specs.declared.objects.Object.{Object}
-use Rattle.kube_types.specs.declared.objects.Object.TheVariants.{Class, Node, Volume, Claim, Pod}
-use Rattle.kube_types.specs.declared.uid.Uid.{Uid}
-use Rattle.kube_types.specs.Keys.{key_of, kind_of, meta_of, row_at}
-use Rattle.kube_types.proofs.KeyOrder.{row_at_key}
+use Rattle.kube_objects.specs.declared.key.Key.{Key}
+use Rattle.kube_parts.specs.declared.parts.Kind.{Kind}
+use Rattle.kube_parts.specs.declared.parts.Kind.TheVariants as kinds
+use Rattle.kube_objects.specs.declared.objects.Class.{Class as ClassData}
+use Rattle.kube_objects.specs.declared.objects.Claim.{Claim as ClaimData}
+use Rattle.kube_objects.specs.declared.objects.DataId.{DataId}
+use Rattle.kube_objects.specs.declared.objects.Volume.{Volume as VolumeData}
+use Rattle.kube_objects.specs.declared.objects.Object.{Object}
+use Rattle.kube_objects.specs.declared.objects.Object.TheVariants.{Class, Node, Volume, Claim, Pod}
+use Rattle.kube_parts.specs.declared.uid.Uid.{Uid}
+use Rattle.kube_objects.specs.Keys.{key_of, kind_of, meta_of, row_at}
+use Rattle.kube_objects.proofs.KeyOrder.{row_at_key}
 use Rattle.call_types.specs.declared.edit.Edit.{Edit}
 use Rattle.call_types.specs.declared.entry.Entry.{Entry}
 use Rattle.call_types.specs.declared.reply.Reply.{Reply}
@@ -125,7 +125,8 @@ no_names (Volume x) e = refl
 no_names (Claim x) e = refl
 no_names (Pod x) e = absurd (true≢false e)
 
-made_name : (v : VolumeData) (c : ClaimData) (uid : Uid) (class : ClassData) (id : DataId) (topology : Option (List ℕ × List ℕ)) → v ≡ provisioned_volume c uid class id topology → key_of (Volume v) ≡ volume_key (data_name uid)
+made_name : (v : VolumeData) (c : ClaimData) (uid : Uid) (class : ClassData) (id : DataId) (topology : Option (List ℕ × List ℕ))
+    → v ≡ provisioned_volume c uid class id topology → key_of (Volume v) ≡ volume_key (data_name uid)
 unfolding provisioned_volume
 made_name v c uid class id topology is = ap (λ (x : VolumeData). key_of (Volume x)) is
 
@@ -181,7 +182,8 @@ module _ (w : World) (mine : List Entry) (kind : SeatKind) (built : IsBuiltKind 
   comes (requests.UpdateStatus key status given) o may i knows =
       let v : IsVersionOf i.old (Some i.new) = subst (IsVersionOf i.old) i.fits (status_kept status i.old) in
       let none : names_in o ≡ 0 = ap names_in i.is ∙ status_names status i.old i.new (w.store.version + 1) i.fits in
-      over key i.old o i.there (ap key_of i.is ∙ (key-at_version i.new (w.store.version + 1) ∙ v.1)) (omega (arith, none)) (ap (λ y. (meta_of y).uid) i.is ∙ (at_version_keeps i.old i.new (w.store.version + 1) v.0 v.2).uid)
+      over key i.old o i.there (ap key_of i.is ∙ (key-at_version i.new (w.store.version + 1) ∙ v.1)) (omega (arith, none))
+      (ap (λ y. (meta_of y).uid) i.is ∙ (at_version_keeps i.old i.new (w.store.version + 1) v.0 v.2).uid)
   comes (requests.Edit key change) o may i knows = absurd (no_edit kind mine key change built may)
   comes (requests.Delete key given) o may i knows =
       let same = marked_same i.old (w.store.version + 1) w.moment in
@@ -274,7 +276,8 @@ module _ (setup : Setup) (seat : ℕ) (x : ActorState) (request : Request) (repl
   -- what a call writes comes so
   pub data Writing : Type 0 where
     WritesNone : (world setup (told_entry seat x request reply ∷ h)).store.rows ≡ (world setup h).store.rows → Writing
-    WritesOne : (o : Object) → Writes (world setup h) x.role.kind request o → Comes (world setup h).store.rows o → IsMoved (world setup h).store.rows (world setup (told_entry seat x request reply ∷ h)).store.rows o → Writing
+    WritesOne : (o : Object) → Writes (world setup h) x.role.kind request o → Comes (world setup h).store.rows o
+        → IsMoved (world setup h).store.rows (world setup (told_entry seat x request reply ∷ h)).store.rows o → Writing
 
   pub call_writes : IsBuiltKind x.role.kind → KnowsBehind setup seat x.role x.pass h → IsOrdered x → Writing
   call_writes built knows ordered = by (comes_to (world setup h) (effect setup (world setup h) x.role.kind request))
@@ -282,7 +285,8 @@ module _ (setup : Setup) (seat : ℕ) (x : ActorState) (request : Request) (repl
       history : IsHistory setup (told_entry seat x request reply ∷ h)
       history = runs_are_histories setup (told_entry seat x request reply ∷ h) called.run.run
 
-      claims : is_create request ≡ true → x.role.kind ≡ seats.Ops → (c : ClaimData) → IsNewest (own seat h) (claim_key c.meta.namespace c.meta.name) (Claim c) → row_at (claim_key c.meta.namespace c.meta.name) (world setup h).store.rows ≡ Some (Claim c)
+      claims : is_create request ≡ true → x.role.kind ≡ seats.Ops → (c : ClaimData)
+          → IsNewest (own seat h) (claim_key c.meta.namespace c.meta.name) (Claim c) → row_at (claim_key c.meta.namespace c.meta.name) (world setup h).store.rows ≡ Some (Claim c)
       claims is kind c newest =
           let shown = sees setup seat x h history.0 called.stands knows (create_over kind is ordered) (claim_key c.meta.namespace c.meta.name) (ap (λ k. follows k kinds.PersistentVolumeClaim) kind) in
           sym shown ∙ (called.stands.caches.rows (claim_key c.meta.namespace c.meta.name) ∙ newest)
@@ -290,11 +294,13 @@ module _ (setup : Setup) (seat : ℕ) (x : ActorState) (request : Request) (repl
       by : ComesTo (world setup h) (effect setup (world setup h) x.role.kind request) → Writing
       by (Leaves same) = WritesNone (ap (λ s. s.rows) same)
       by (Wrote o written version moved) =
-          let writes = write_asked setup (world setup h) x.role.kind request o (effect setup (world setup h) x.role.kind request) (effect_form setup (world setup h) x.role.kind request (rows_stand_in_order setup h)) written in
+          let writes = write_asked setup (world setup h) x.role.kind request o (effect setup (world setup h) x.role.kind request)
+          (effect_form setup (world setup h) x.role.kind request (rows_stand_in_order setup h)) written in
           WritesOne o writes (comes (world setup h) (own seat h) x.role.kind built request o called.may writes claims) moved
 
   -- so each call keeps what is given
-  given_on : (first : List Object) → IsBuiltKind x.role.kind → KnowsBehind setup seat x.role x.pass h → IsOrdered x → AreGiven first (world setup h).store.rows → AreGiven first (world setup (told_entry seat x request reply ∷ h)).store.rows
+  given_on : (first : List Object) → IsBuiltKind x.role.kind → KnowsBehind setup seat x.role x.pass h → IsOrdered x
+      → AreGiven first (world setup h).store.rows → AreGiven first (world setup (told_entry seat x request reply ∷ h)).store.rows
   given_on first built knows ordered given = by (call_writes built knows ordered)
     where
       by : Writing → AreGiven first (world setup (told_entry seat x request reply ∷ h)).store.rows
@@ -304,14 +310,17 @@ module _ (setup : Setup) (seat : ℕ) (x : ActorState) (request : Request) (repl
 -- ---- a slot
 
 module _ (setup : Setup) (lets : Lets) (seat : ℕ) (after : ActorState) (past : List Entry) (left : ℕ) (idle : Bool) (run : IsRunOf setup past) (first : List Object) where
-  run_given : (s : ActorState) (h : List Entry) (b : ℕ) → Runs lets seat after past left idle s h b → IsBuiltKind s.role.kind → KnowsBehind setup seat s.role s.pass h → IsOrdered s → AreGiven first (world setup h).store.rows → AreGiven first (world setup past).store.rows
+  run_given : (s : ActorState) (h : List Entry) (b : ℕ) → Runs lets seat after past left idle s h b → IsBuiltKind s.role.kind
+      → KnowsBehind setup seat s.role s.pass h → IsOrdered s → AreGiven first (world setup h).store.rows → AreGiven first (world setup past).store.rows
   run_given s h b (IsSpent none state entries rest busy) built knows ordered given = subst (λ es. AreGiven first (world setup es).store.rows) (sym entries) given
   run_given s h b (IsIdle some ready turn entries rest calm) built knows ordered given = subst (λ es. AreGiven first (world setup es).store.rows) (sym entries) given
   run_given s h b (Asks given next request reply some ready turn lets_it absorbs more) built knows ordered so =
-      run_given next (told_entry seat given request reply ∷ h) (b - 1) more (subst (λ (r : Role). IsBuiltKind r.kind) (sym (still_role s given next (Call request) request (Told reply) turn absorbs)) built)
+      run_given next (told_entry seat given request reply ∷ h) (b - 1) more
+      (subst (λ (r : Role). IsBuiltKind r.kind) (sym (still_role s given next (Call request) request (Told reply) turn absorbs)) built)
       (told_knows setup seat s given request reply h built ready turn whole knows next absorbs)
       (subst IsOrdered (sym absorbs) (told_ordered setup seat given request reply h called next.caches turned))
-      (given_on setup seat given request reply h called first (subst (λ (r : Role). IsBuiltKind r.kind) (sym (turn_role s given (Call request) turn)) built) (turned_knows setup seat s given (Call request) h turn knows) turned so)
+      (given_on setup seat given request reply h called first
+      (subst (λ (r : Role). IsBuiltKind r.kind) (sym (turn_role s given (Call request) turn)) built) (turned_knows setup seat s given (Call request) h turn knows) turned so)
     where
       whole_run : IsRunOf setup (told_entry seat given request reply ∷ h)
       whole_run = run_at setup lets seat after past left idle run next (told_entry seat given request reply ∷ h) (b - 1) more
@@ -320,7 +329,8 @@ module _ (setup : Setup) (lets : Lets) (seat : ℕ) (after : ActorState) (past :
       whole = runs_are_histories setup (told_entry seat given request reply ∷ h) (run_at setup lets seat after past left idle run next (told_entry seat given request reply ∷ h) (b - 1) more).run
 
       called : IsCalled setup seat given request reply h
-      called = called_at setup lets seat after past left idle run s given h request reply built ready turn (run_at setup lets seat after past left idle run next (told_entry seat given request reply ∷ h) (b - 1) more)
+      called = called_at setup lets seat after past left idle run s given h request reply built ready turn
+          (run_at setup lets seat after past left idle run next (told_entry seat given request reply ∷ h) (b - 1) more)
 
       turned : IsOrdered given
       turned = turned_ordered s given request turn ordered
@@ -330,7 +340,8 @@ module _ (setup : Setup) (lets : Lets) (seat : ℕ) (after : ActorState) (past :
       (subst IsOrdered (sym absorbs) (lost_ordered given (turned_ordered s given request turn ordered)))
       so
 
-pub slot_given : (setup : Setup) (lets : Lets) (seat : ℕ) (old after : ActorState) (h past : List Entry) (b left : ℕ) (idle : Bool) (first : List Object) → IsRunOf setup past → IsBuiltKind old.role.kind → (old.memory.stale ≡ false → old.under ≡ None)
+pub slot_given : (setup : Setup) (lets : Lets) (seat : ℕ) (old after : ActorState) (h past : List Entry) (b left : ℕ) (idle : Bool)
+    (first : List Object) → IsRunOf setup past → IsBuiltKind old.role.kind → (old.memory.stale ≡ false → old.under ≡ None)
     → Runs lets seat after past left idle (woken old) h b → AreGiven first (world setup h).store.rows → AreGiven first (world setup past).store.rows
 slot_given setup lets seat old after h past b left idle first run built rests runs given = by old.memory.stale refl
   where

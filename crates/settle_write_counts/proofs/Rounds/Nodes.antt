@@ -5,15 +5,15 @@ use Rattle.std.specs.declared.cmp.Ordering.{Ordering}
 use Rattle.std.specs.declared.cmp.Ordering.TheVariants.{Less, Equal, Greater}
 use Rattle.std.specs.Ordering.{is_eq, match_ordering}
 use Rattle.plain_data.specs.Pairs.{Pair, pair_at, pair_key, put_pair, text_cmp, value_at, without_key}
-use Rattle.kube_types.specs.declared.key.Key.{Key}
-use Rattle.kube_types.specs.declared.parts.VolumePhase.{VolumePhase}
-use Rattle.kube_types.specs.declared.objects.Claim.{Claim as ClaimData}
-use Rattle.kube_types.specs.declared.objects.Volume.{Volume as VolumeData}
-use Rattle.kube_types.specs.declared.objects.Object.{Object}
-use Rattle.kube_types.specs.declared.objects.Object.TheVariants.{Class, Node, Volume, Claim, Pod}
-use Rattle.kube_types.specs.Bindings.{selected_node}
-use Rattle.kube_types.specs.Keys.{AreRows, key_of, kind_index, kind_of, meta_of, put_row, row_at, without_row}
-use Rattle.kube_types.proofs.KeyOrder.{row_at_key}
+use Rattle.kube_objects.specs.declared.key.Key.{Key}
+use Rattle.kube_parts.specs.declared.parts.VolumePhase.{VolumePhase}
+use Rattle.kube_objects.specs.declared.objects.Claim.{Claim as ClaimData}
+use Rattle.kube_objects.specs.declared.objects.Volume.{Volume as VolumeData}
+use Rattle.kube_objects.specs.declared.objects.Object.{Object}
+use Rattle.kube_objects.specs.declared.objects.Object.TheVariants.{Class, Node, Volume, Claim, Pod}
+use Rattle.kube_objects.specs.Bindings.{selected_node}
+use Rattle.kube_objects.specs.Keys.{AreRows, key_of, kind_index, kind_of, meta_of, put_row, row_at, without_row}
+use Rattle.kube_objects.proofs.KeyOrder.{row_at_key}
 use Rattle.call_types.specs.declared.entry.Entry.{Entry}
 use Rattle.call_types.specs.declared.request.NewStatus.TheVariants as statuses
 use Rattle.call_types.specs.declared.request.Request.{Request}
@@ -131,7 +131,8 @@ pub record Rests (w : World) (new : ClaimData) (o : Object) (Row : ClaimData →
   pub nodes : nodes_on o ≡ selections_in new.meta.annotations
 
 module _ (setup : Setup) (seat : ℕ) (h : List Entry) (history : IsHistory setup h) where
-  pub rests : (kind : SeatKind) (new : ClaimData) (given : Option ℕ) (o : Object) (Row : ClaimData → Type 0) → ToldClaim (λ c. IsWrittenAt given new.meta.namespace new.meta.name c.meta × Row c) (own seat h) → IsUpdate (world setup h).store kind (Claim new) given o
+  pub rests : (kind : SeatKind) (new : ClaimData) (given : Option ℕ) (o : Object) (Row : ClaimData → Type 0)
+      → ToldClaim (λ c. IsWrittenAt given new.meta.namespace new.meta.name c.meta × Row c) (own seat h) → IsUpdate (world setup h).store kind (Claim new) given o
       → Rests (world setup h) new o Row
   unfolding updated_object with_meta with_status_of
   rests kind new given o Row told u = by t.0 t.1 t.2
@@ -142,7 +143,8 @@ module _ (setup : Setup) (seat : ℕ) (h : List Entry) (history : IsHistory setu
       by : (x : Object) → ToldObject (λ y. y ≡ x) (own seat h) → IsClaimWith (λ c. IsWrittenAt given new.meta.namespace new.meta.name c.meta × Row c) x → Rests (world setup h) new o Row
       by (Claim c) it is =
           let keyed : key_of (Claim c) ≡ key_of (Claim new) = λ i. claim_key (is.0.placed i) (is.0.named i) in
-          let same : u.old ≡ Claim c = stands_it setup h (Claim c) u.old (key_of (Claim new)) (told_is_true setup h seat (Claim c) history it) keyed u.there (subst (λ g. is_other_version g (meta_of u.old).version ≡ false) is.0.version u.version) in
+          let same : u.old ≡ Claim c = stands_it setup h (Claim c) u.old (key_of (Claim new)) (told_is_true setup h seat (Claim c) history it) keyed
+          u.there (subst (λ g. is_other_version g (meta_of u.old).version ≡ false) is.0.version u.version) in
           let is_o : o ≡ updated_object (Claim c) (Claim new) ((world setup h).store.version + 1) = u.is ∙ ap (λ y. updated_object y (Claim new) ((world setup h).store.version + 1)) same in
           record { on = c; row = is.1; there = ap (λ y. row_at (key_of y) (world setup h).store.rows) is_o ∙ (u.there ∙ ap Some same); nodes = ap nodes_on is_o }
       by (Class x) it is = absurd is
@@ -162,7 +164,8 @@ module _ (setup : Setup) (seat : ℕ) (h : List Entry) (history : IsHistory setu
         let r = rests seats.Scheduler new given o (λ c. MaySelectNode (own seat h) c new) may u in
         let over = moved_over (world setup h).store.rows rows o (Claim r.on) (rows_stand_in_order setup h) r.there moved in
         let nodes = r.nodes in
-        let change : selections_in new.meta.annotations ≡ selections_in (put_pair selected_node r.row.node.meta.name r.on.meta.annotations) = ap (λ (c : ClaimData). selections_in c.meta.annotations) r.row.change in
+        let change : selections_in new.meta.annotations ≡ selections_in (put_pair selected_node r.row.node.meta.name r.on.meta.annotations) =
+        ap (λ (c : ClaimData). selections_in c.meta.annotations) r.row.change in
         let more = one_more selected_node r.row.node.meta.name r.on.meta.annotations in
         omega (arith, over, nodes, change, more)
     scheduled_nodes (requests.Update (Volume new) given) may i = let none = no_node (ap nodes_on i.is ∙ updated_none i.old new ((world setup h).store.version + 1)) in omega (arith, none)
@@ -193,7 +196,8 @@ module _ (setup : Setup) (seat : ℕ) (h : List Entry) (history : IsHistory setu
     ops_nodes (requests.Create (Node x)) may i = absurd may
     ops_nodes (requests.Create (Claim x)) may i = absurd may
     ops_nodes (requests.Create (Pod x)) may i = absurd may
-    ops_nodes (requests.UpdateStatus key (statuses.Volume phase) given) may i = let none = no_node (ap nodes_on i.is ∙ phase_none phase i.old i.new ((world setup h).store.version + 1) i.fits) in omega (arith, none)
+    ops_nodes (requests.UpdateStatus key (statuses.Volume phase) given) may i = let none =
+        no_node (ap nodes_on i.is ∙ phase_none phase i.old i.new ((world setup h).store.version + 1) i.fits) in omega (arith, none)
     ops_nodes (requests.UpdateStatus key (statuses.Claim phase modes amount) given) may i = absurd may
     ops_nodes (requests.Delete key (Some uid)) may i =
         let own_kind : kind_index (kind_of i.old) ≡ 2 = ap (λ (k : Key). kind_index k.kind) (row_at_key key i.old (world setup h).store.rows i.there) ∙ ap kind_index may.0 in

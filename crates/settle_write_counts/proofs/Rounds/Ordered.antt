@@ -4,11 +4,11 @@ use Rattle.std.proofs.lemmas.Cmp.{nat_list_cmp_total}
 use Rattle.std.specs.Ordering.{is_eq}
 use Rattle.plain_data.specs.Pairs.{ArePairs, Pair, pair_at, pair_key, text_cmp, without_key}
 use Rattle.plain_data.proofs.RowLookups.{find-without}
-use Rattle.kube_types.specs.declared.objects.Claim.{Claim as ClaimData}
-use Rattle.kube_types.specs.declared.objects.Object.{Object}
-use Rattle.kube_types.specs.declared.objects.Object.TheVariants.{Class, Node, Volume, Claim, Pod}
-use Rattle.kube_types.specs.Bindings.{selected_node}
-use Rattle.kube_types.specs.Keys.{key_of}
+use Rattle.kube_objects.specs.declared.objects.Claim.{Claim as ClaimData}
+use Rattle.kube_objects.specs.declared.objects.Object.{Object}
+use Rattle.kube_objects.specs.declared.objects.Object.TheVariants.{Class, Node, Volume, Claim, Pod}
+use Rattle.kube_objects.specs.Bindings.{selected_node}
+use Rattle.kube_objects.specs.Keys.{key_of}
 use Rattle.model_laws.proofs.Lists.{IsIn, none_some}
 use Rattle.settle_measure.specs.Left.Measure.{claims_in, total}
 use Rattle.settle_measure.proofs.Left.Sums.{stands}
@@ -19,7 +19,8 @@ none_there : (ps : List Pair) → pair_at selected_node ps ≡ None → selectio
 none_there [] e = refl
 none_there (p ∷ ps) e = by (is_eq (text_cmp (pair_key p) selected_node)) refl e (none_there ps)
   where
-    by : (b : Bool) → is_eq (text_cmp (pair_key p) selected_node) ≡ b → (if b then Some p else pair_at selected_node ps) ≡ None → (pair_at selected_node ps ≡ None → selections_in ps ≡ 0) → one_if (is_eq (text_cmp (pair_key p) selected_node)) + selections_in ps ≡ 0
+    by : (b : Bool) → is_eq (text_cmp (pair_key p) selected_node) ≡ b → (if b then Some p else pair_at selected_node ps) ≡ None
+        → (pair_at selected_node ps ≡ None → selections_in ps ≡ 0) → one_if (is_eq (text_cmp (pair_key p) selected_node)) + selections_in ps ≡ 0
     by true is found rest = none_some (sym found)
     by false is found rest = let few = rest found in let none = ap one_if is in omega (arith, few, none)
 

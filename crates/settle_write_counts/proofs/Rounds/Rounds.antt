@@ -60,7 +60,8 @@ stand_so roles these = subst StandSo (sym these.are) (refl, (refl, (refl, (refl,
 -- a scheduler that is run from here with nothing under way writes no more than it may
 abbrev pub WritesLittleFrom : Setup → Lets → List Entry → Type 0
 WritesLittleFrom setup lets h =
-    (seat : ℕ) (old after : ActorState) (past : List Entry) (b left : ℕ) (idle : Bool) → old.role.kind ≡ seats.Scheduler → IsRunOf setup past → (old.memory.stale ≡ false → old.under ≡ None) → Runs lets seat after past left idle (woken old) h b
+    (seat : ℕ) (old after : ActorState) (past : List Entry) (b left : ℕ) (idle : Bool) → old.role.kind ≡ seats.Scheduler → IsRunOf setup past
+    → (old.memory.stale ≡ false → old.under ≡ None) → Runs lets seat after past left idle (woken old) h b
     → (world setup past).store.version ≤ (world setup h).store.version + pods_writes (world setup h)
 
 module _ (setup : Setup) (lets : Lets) (past : List Entry) (left : ℕ) (run : IsRunOf setup past) where
@@ -70,10 +71,12 @@ module _ (setup : Setup) (lets : Lets) (past : List Entry) (left : ℕ) (run : I
   run_middle : (ds : List Drainer) (h : List Entry) (b : ℕ) (after : List Drainer) (whole : Bool) → IsRound lets past left ds h b after whole → IsRunOf setup h
   run_middle ds h b after whole round = let g = round_grows lets past left ds h b after whole round in older_run setup g.longer.added h (subst (IsRunOf setup) g.longer.are run)
 
-  more_done : (ds : List Drainer) (h : List Entry) (b : ℕ) (after : List Drainer) (whole : Bool) → IsRound lets past left ds h b after whole → writes_since setup h past + (world setup h).store.version ≡ (world setup past).store.version
+  more_done : (ds : List Drainer) (h : List Entry) (b : ℕ) (after : List Drainer) (whole : Bool) → IsRound lets past left ds h b after whole
+      → writes_since setup h past + (world setup h).store.version ≡ (world setup past).store.version
   more_done ds h b after whole round = let g = round_grows lets past left ds h b after whole round in counted setup g.longer.added h past g.longer.are
 
-  plain_round : (ds : List Drainer) (h : List Entry) (b : ℕ) (after : List Drainer) (whole : Bool) → IsRound lets past left ds h b after whole → ArePlain (roles_of ds) → ArePayers ds → writes_since setup h past + to_write setup (world setup past) ≤ to_write setup (world setup h)
+  plain_round : (ds : List Drainer) (h : List Entry) (b : ℕ) (after : List Drainer) (whole : Bool) → IsRound lets past left ds h b after whole
+      → ArePlain (roles_of ds) → ArePayers ds → writes_since setup h past + to_write setup (world setup past) ≤ to_write setup (world setup h)
   plain_round _ h b _ _ (Ends entries rest) plain payers =
       let version = ap (λ es. (world setup es).store.version) entries in
       let rest_ = ap (λ es. to_write setup (world setup es)) entries in
@@ -81,7 +84,8 @@ module _ (setup : Setup) (lets : Lets) (past : List Entry) (left : ℕ) (run : I
   plain_round _ h b _ _ (Turns {ds = ds} {after = after} {whole = whole} d ran middle rest idle seat runs more) plain payers =
       let p = payers 0 d refl in
       let here = run_middle ds middle rest after whole more in
-      let slot = others_write_little setup lets d.seat d.actor ran.actor h middle b rest idle p.built (no_scheduler d.actor.role.kind plain.0) (no_ops d.actor.role.kind plain.0) here p.rests p.pays runs in
+      let slot = others_write_little setup lets d.seat d.actor ran.actor h middle b rest idle p.built (no_scheduler d.actor.role.kind plain.0)
+      (no_ops d.actor.role.kind plain.0) here p.rests p.pays runs in
       let nodes = others_select_none setup lets d.seat d.actor ran.actor h middle b rest idle p.built (no_scheduler d.actor.role.kind plain.0) (no_ops d.actor.role.kind plain.0) here runs in
       let later = plain_round ds middle rest after whole more plain.1 (λ place x at. payers (suc place) x at) in
       let n = more_done ds middle rest after whole more in
@@ -102,7 +106,8 @@ module _ (setup : Setup) (lets : Lets) (past : List Entry) (left : ℕ) (run : I
       let m = counted setup g.longer.added h middle g.longer.are in
       omega (arith, slot, later, n, m)
 
-  whole_round : (ds : List Drainer) (h : List Entry) (b : ℕ) (after : List Drainer) (whole : Bool) → IsRound lets past left ds h b after whole → StandSo (roles_of ds) → ArePayers ds → WritesLittleFrom setup lets h
+  whole_round : (ds : List Drainer) (h : List Entry) (b : ℕ) (after : List Drainer) (whole : Bool) → IsRound lets past left ds h b after whole
+      → StandSo (roles_of ds) → ArePayers ds → WritesLittleFrom setup lets h
       → writes_since setup h past + to_write setup (world setup past) ≤ to_write setup (world setup h) + 2 * pods_writes (world setup h)
   whole_round _ h b _ _ (Ends entries rest) so payers few = absurd so
   whole_round _ h b _ _ (Turns {ds = ds} {after = after} {whole = whole} d ran middle rest idle seat runs more) so payers few =
@@ -132,4 +137,5 @@ rounds_write_as setup lets ds after h past b left whole roles run round payers f
 
 pub rounds_write_little : RoundsWriteLittle
 rounds_write_little setup lets ds after h past b left whole roles run round payers few =
-    rounds_write_as setup lets ds after h past b left whole roles run round payers (λ seat old ran middle c rest idle kind here rests runs. schedulers_write_little setup lets seat old ran h middle c rest idle kind here rests few runs)
+    rounds_write_as setup lets ds after h past b left whole roles run round payers
+    (λ seat old ran middle c rest idle kind here rests runs. schedulers_write_little setup lets seat old ran h middle c rest idle kind here rests few runs)

@@ -1,8 +1,8 @@
 -- What each call of a run lowers, the run lowers.
 use Rattle.std.proofs.Common.{◌≡◌, ◌∙◌, ℕ, ◌+◌, ◌-◌, ◌≤◌, List, [], ◌∷◌, ◌++◌, append_assoc, Bool, true, false, true≢false, Option, Some, None, inl, inr, refl, sym, ap, subst, arith}
 use Rattle.std.proofs.lemmas.List.{append_cancel_right}
-use Rattle.kube_types.specs.declared.parts.Kind.{Kind}
-use Rattle.kube_types.specs.declared.objects.Object.{Object}
+use Rattle.kube_parts.specs.declared.parts.Kind.{Kind}
+use Rattle.kube_objects.specs.declared.objects.Object.{Object}
 use Rattle.call_types.specs.declared.entry.Entry.{Entry}
 use Rattle.call_types.specs.declared.reply.Reply.{Reply}
 use Rattle.call_types.specs.declared.request.Request.{Request}
@@ -63,12 +63,14 @@ module _ (setup : Setup) (lets : Lets) (seat : ℕ) (after : ActorState) (past :
   pub run_at : (s : ActorState) (h : List Entry) (b : ℕ) → Runs lets seat after past left idle s h b → IsRunOf setup h
   run_at s h b runs = let g = run_grows lets seat after past left idle s h b runs in older_run setup g.longer.added h (subst (IsRunOf setup) g.longer.are run)
 
-  pub called_at : (s given : ActorState) (h : List Entry) (request : Request) (reply : Reply) → IsBuiltKind s.role.kind → IsReady seat s h → IsTurn s given (Call request) → IsRunOf setup (told_entry seat given request reply ∷ h) → IsCalled setup seat given request reply h
+  pub called_at : (s given : ActorState) (h : List Entry) (request : Request) (reply : Reply) → IsBuiltKind s.role.kind → IsReady seat s h
+      → IsTurn s given (Call request) → IsRunOf setup (told_entry seat given request reply ∷ h) → IsCalled setup seat given request reply h
   called_at s given h request reply built ready turn whole = record {
     run = whole;
     stands = turn_stands s given (Call request) (own seat h) ready.rows ready.stands.told turn;
     ask = sym (gives_asked s given (Call request) turn);
-    may = subst (λ (r : Role). Licensed r.kind (own seat h) request) (sym (turn_role s given (Call request) turn)) (answer_licensed s given (Call request) (own seat h) built ready.rows ready.stands.told turn);
+    may = subst (λ (r : Role). Licensed r.kind (own seat h) request) (sym (turn_role s given (Call request) turn))
+        (answer_licensed s given (Call request) (own seat h) built ready.rows ready.stands.told turn);
   }
 
   -- an actor that was told that its epoch is stale makes no call
@@ -80,7 +82,8 @@ module _ (setup : Setup) (lets : Lets) (seat : ℕ) (after : ActorState) (past :
 
   -- ---- what each call does to the world, where it adds up
   module _ (role : Role) (built : IsBuiltKind role.kind) (Moves : World → World → Type 0) (stays : (w : World) → Moves w w) (joins : (a b c : World) → Moves a b → Moves b c → Moves a c)
-      (calls : (x : ActorState) (request : Request) (reply : Reply) (h : List Entry) → x.role ≡ role → IsCalled setup seat x request reply h → Moves (world setup h) (world setup (told_entry seat x request reply ∷ h))) where
+      (calls : (x : ActorState) (request : Request) (reply : Reply) (h : List Entry) → x.role ≡ role → IsCalled setup seat x request reply h
+      → Moves (world setup h) (world setup (told_entry seat x request reply ∷ h))) where
     pub run_moves : (s : ActorState) (h : List Entry) (b : ℕ) → Runs lets seat after past left idle s h b → s.role ≡ role → Moves (world setup h) (world setup past)
     run_moves s h b (IsSpent spent state entries rest busy) is = subst (λ es. Moves (world setup h) (world setup es)) (sym entries) (stays (world setup h))
     run_moves s h b (IsIdle some ready turn entries rest calm) is = subst (λ es. Moves (world setup h) (world setup es)) (sym entries) (stays (world setup h))
@@ -91,8 +94,10 @@ module _ (setup : Setup) (lets : Lets) (seat : ℕ) (after : ActorState) (past :
     run_moves s h b (IsHeld given next request some ready turn held absorbs more) is = run_moves next h (b - 1) more (still_role s given next (Call request) request Lost turn absorbs ∙ is)
 
   -- ---- a number that each call lowers, by the world and by what is under way. What a decision begins adds nothing to it
-  module _ (role : Role) (built : IsBuiltKind role.kind) (low : World → ℕ) (weigh : Option Under → ℕ) (none : weigh None ≡ 0) (begins : (memory : Memory) (rows : List Object) (u : Under) → GivesCall role memory rows u → weigh (Some u) ≡ 0)
-      (calls : (x : ActorState) (caches : AllKnown) (request : Request) (reply : Reply) (h : List Entry) → x.role ≡ role → IsCalled setup seat x request reply h → Pays setup (world setup h) x.role.kind request
+  module _ (role : Role) (built : IsBuiltKind role.kind) (low : World → ℕ) (weigh : Option Under → ℕ) (none : weigh None ≡ 0)
+      (begins : (memory : Memory) (rows : List Object) (u : Under) → GivesCall role memory rows u → weigh (Some u) ≡ 0)
+      (calls : (x : ActorState) (caches : AllKnown) (request : Request) (reply : Reply) (h : List Entry) → x.role ≡ role
+      → IsCalled setup seat x request reply h → Pays setup (world setup h) x.role.kind request
       → low (world setup (told_entry seat x request reply ∷ h)) + weigh (told_to x caches request reply).under ≤ low (world setup h) + weigh x.under) where
     decided : (memory : Memory) (rows : List Object) (after_ : Work) (under : Option Under) (w : Work) → Decides role memory rows after_ under w → weigh under ≡ 0
     decided memory rows after_ under w (Nothing empty same nothing) = ap weigh nothing ∙ none
@@ -133,7 +138,8 @@ module _ (setup : Setup) (lets : Lets) (seat : ℕ) (after : ActorState) (past :
         by (Some givens.Task) = of_task x.under
         by (Some (givens.Read k)) = omega arith
 
-    pub run_low : (s : ActorState) (h : List Entry) (b : ℕ) → Runs lets seat after past left idle s h b → s.role ≡ role → HavePaid setup h past → low (world setup past) ≤ low (world setup h) + weigh s.under
+    pub run_low : (s : ActorState) (h : List Entry) (b : ℕ) → Runs lets seat after past left idle s h b → s.role ≡ role → HavePaid setup h past
+        → low (world setup past) ≤ low (world setup h) + weigh s.under
     run_low s h b (IsSpent spent state entries rest busy) is paid = let e = ap (λ es. low (world setup es)) entries in omega (arith, e)
     run_low s h b (IsIdle some ready turn entries rest calm) is paid = let e = ap (λ es. low (world setup es)) entries in omega (arith, e)
     run_low s h b (Asks given next request reply some ready turn lets_it absorbs more) is paid =

@@ -1,8 +1,8 @@
 -- How many writes a round does, by the sizes of its world.
 use Rattle.std.proofs.Common.{◌+◌, ◌*◌, ◌≤◌, List, [], ◌∷◌, Bool, true, false, arith, length, if◌then◌else◌}
-use Rattle.kube_types.specs.declared.objects.Object.{Object}
-use Rattle.kube_types.specs.declared.objects.Object.TheVariants.{Class, Node, Volume, Claim, Pod}
-use Rattle.kube_types.specs.Bindings.{is_scheduled}
+use Rattle.kube_objects.specs.declared.objects.Object.{Object}
+use Rattle.kube_objects.specs.declared.objects.Object.TheVariants.{Class, Node, Volume, Claim, Pod}
+use Rattle.kube_objects.specs.Bindings.{is_scheduled}
 use Rattle.binder_model.specs.World.{World, world}
 use Rattle.settle_measure.specs.Left.Measure.{claims_in, left_of, pods_in, total, volumes_in}
 use Rattle.settle_measure.proofs.Left.Bounds.{left_is_bounded}
@@ -22,7 +22,8 @@ sized (Claim x ∷ os) = let rest = sized os in omega (arith, rest)
 sized (Pod p ∷ os) = by (is_scheduled p) (sized os)
   where
     by : (b : Bool) → 18 * claims_in os + 10 * volumes_in os + 4 * pods_in os + 2 * total pod_writes os ≤ 18 * total (λ o. 1 + names_in o) os
-        → 18 * claims_in os + 10 * volumes_in os + 4 * (1 + pods_in os) + 2 * ((if b then 0 else 1 + length p.claims) + total pod_writes os) ≤ 18 * (1 + length p.claims + total (λ o. 1 + names_in o) os)
+        → 18 * claims_in os + 10 * volumes_in os + 4 * (1 + pods_in os) + 2 * ((if b then 0 else 1 + length p.claims) + total pod_writes os) ≤ 18 *
+        (1 + length p.claims + total (λ o. 1 + names_in o) os)
     by true rest = omega (arith, rest)
     by false rest = omega (arith, rest)
 

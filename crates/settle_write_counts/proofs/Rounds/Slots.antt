@@ -1,8 +1,8 @@
 -- A slot does few writes: each leaves less to do, or is counted apart.
 use Rattle.std.proofs.Common.{◌≡◌, ◌≢◌, ◌∙◌, ℕ, ◌+◌, ◌≤◌, List, [], ◌∷◌, ◌++◌, Bool, true, false, Option, Some, None, inl, inr, refl, sym, ap, subst, arith}
 use Rattle.std.specs.Prelude.{option_map}
-use Rattle.kube_types.specs.declared.objects.Object.{Object}
-use Rattle.kube_types.specs.declared.objects.Object.TheVariants.{Claim}
+use Rattle.kube_objects.specs.declared.objects.Object.{Object}
+use Rattle.kube_objects.specs.declared.objects.Object.TheVariants.{Claim}
 use Rattle.call_types.specs.declared.entry.Entry.{Entry}
 use Rattle.call_types.specs.declared.reply.Refusal.TheVariants as refusals
 use Rattle.call_types.specs.declared.reply.Reply.{Reply}
@@ -43,7 +43,7 @@ use Rattle.informer_cache.specs.declared.cache.Ask.{Ask}
 use Rattle.informer_cache.specs.declared.cache.Ask.TheVariants as asks
 use Rattle.informer_cache.specs.All.{cache_of}
 use Rattle.informer_cache.specs.Cache.{ask_of}
-use Rattle.kube_types.specs.declared.parts.Kind.{Kind}
+use Rattle.kube_parts.specs.declared.parts.Kind.{Kind}
 use Rattle.settle_writes.specs.Writes.Lasting.{IsBackFault, Lasts}
 use Rattle.settle_writes.specs.Done.Apart.{is_apart}
 use Rattle.settle_writes.proofs.Done.Doing.{other_writes_last, write_asked}
@@ -116,18 +116,21 @@ module _ (setup : Setup) (seat : ℕ) (x : ActorState) (request : Request) (repl
   stays pays = (paid_is_less setup h (told_entry seat x request reply ∷ h) history (one_paid setup (told_entry seat x request reply) h pays)).stays
 
   wrote : (o : Object) → written_by (effect setup (world setup h) x.role.kind request) ≡ Some o → Writes (world setup h) x.role.kind request o
-  wrote o written = write_asked setup (world setup h) x.role.kind request o (effect setup (world setup h) x.role.kind request) (effect_form setup (world setup h) x.role.kind request (rows_stand_in_order setup h)) written
+  wrote o written = write_asked setup (world setup h) x.role.kind request o (effect setup (world setup h) x.role.kind request)
+      (effect_form setup (world setup h) x.role.kind request (rows_stand_in_order setup h)) written
 
   lasting : (o : Object) → written_by (effect setup (world setup h) x.role.kind request) ≡ Some o → is_apart x.role.kind request ≡ false → Lasts setup (world setup h) x.role.kind request
   lasting o written plain = other_writes_last setup seat x request h o here.imports history.0 called.stands called.ask plain written
 
   -- of another actor
   other_call : x.role.kind ≢ seats.Scheduler → x.role.kind ≢ seats.Ops → Pays setup (world setup h) x.role.kind request
-      → (world setup (told_entry seat x request reply ∷ h)).store.version + work_left setup (world setup (told_entry seat x request reply ∷ h)) ≤ (world setup h).store.version + work_left setup (world setup h)
+      → (world setup (told_entry seat x request reply ∷ h)).store.version + work_left setup (world setup (told_entry seat x request reply ∷ h)) ≤
+      (world setup h).store.version + work_left setup (world setup h)
   other_call scheduler ops pays = by came
     where
       by : ComesTo (world setup h) (effect setup (world setup h) x.role.kind request)
-          → (world setup (told_entry seat x request reply ∷ h)).store.version + work_left setup (world setup (told_entry seat x request reply ∷ h)) ≤ (world setup h).store.version + work_left setup (world setup h)
+          → (world setup (told_entry seat x request reply ∷ h)).store.version + work_left setup (world setup (told_entry seat x request reply ∷ h)) ≤
+          (world setup h).store.version + work_left setup (world setup h)
       by (Leaves same) =
           let version : (world setup (told_entry seat x request reply ∷ h)).store.version ≡ (world setup h).store.version = ap (λ s. s.version) same in
           let less = stays pays in
@@ -139,19 +142,22 @@ module _ (setup : Setup) (seat : ℕ) (x : ActorState) (request : Request) (repl
           omega (arith, version, less, one_worth)
 
   -- of the scheduler
-  scheduler_call : x.role.kind ≡ seats.Scheduler → nodes_in (world setup (told_entry seat x request reply ∷ h)) + (world setup h).store.version ≤ nodes_in (world setup h) + (world setup (told_entry seat x request reply ∷ h)).store.version
+  scheduler_call : x.role.kind ≡ seats.Scheduler
+      → nodes_in (world setup (told_entry seat x request reply ∷ h)) + (world setup h).store.version ≤ nodes_in (world setup h) + (world setup (told_entry seat x request reply ∷ h)).store.version
   scheduler_call kind = by came
     where
       may : RowAllows seats.Scheduler (own seat h) request
       may = (subst (λ k. Licensed k (own seat h) request) kind called.may).1
 
-      by : ComesTo (world setup h) (effect setup (world setup h) x.role.kind request) → nodes_in (world setup (told_entry seat x request reply ∷ h)) + (world setup h).store.version ≤ nodes_in (world setup h) + (world setup (told_entry seat x request reply ∷ h)).store.version
+      by : ComesTo (world setup h) (effect setup (world setup h) x.role.kind request)
+          → nodes_in (world setup (told_entry seat x request reply ∷ h)) + (world setup h).store.version ≤ nodes_in (world setup h) + (world setup (told_entry seat x request reply ∷ h)).store.version
       by (Leaves same) =
           let version : (world setup (told_entry seat x request reply ∷ h)).store.version ≡ (world setup h).store.version = ap (λ s. s.version) same in
           let nodes : nodes_in (world setup (told_entry seat x request reply ∷ h)) ≡ nodes_in (world setup h) = ap (λ s. total nodes_on s.rows) same in
           omega (arith, version, nodes)
       by (Wrote o written version moved) =
-          let few = scheduled_nodes setup seat h history.0 o (world setup (told_entry seat x request reply ∷ h)).store.rows moved request may (subst (λ k. Writes (world setup h) k request o) kind (wrote o written)) in
+          let few = scheduled_nodes setup seat h history.0 o (world setup (told_entry seat x request reply ∷ h)).store.rows moved request may
+          (subst (λ k. Writes (world setup h) k request o) kind (wrote o written)) in
           omega (arith, version, few)
 
   -- no other selects a node
@@ -162,11 +168,13 @@ module _ (setup : Setup) (seat : ℕ) (x : ActorState) (request : Request) (repl
       by (Leaves same) =
           let nodes : nodes_in (world setup (told_entry seat x request reply ∷ h)) ≡ nodes_in (world setup h) = ap (λ s. total nodes_on s.rows) same in
           omega (arith, nodes)
-      by (Wrote o written version moved) = other_nodes setup seat h history.0 o (world setup (told_entry seat x request reply ∷ h)).store.rows moved x.role.kind request built scheduler ops called.may (wrote o written)
+      by (Wrote o written version moved) = other_nodes setup seat h history.0 o (world setup (told_entry seat x request reply ∷ h)).store.rows moved
+          x.role.kind request built scheduler ops called.may (wrote o written)
 
   -- of ops
   ops_call : x.role.kind ≡ seats.Ops → Pays setup (world setup h) x.role.kind request
-      → (world setup (told_entry seat x request reply ∷ h)).store.version + work_left setup (world setup (told_entry seat x request reply ∷ h)) + nodes_in (world setup (told_entry seat x request reply ∷ h)) + erase_failed request reply
+      → (world setup (told_entry seat x request reply ∷ h)).store.version + work_left setup
+      (world setup (told_entry seat x request reply ∷ h)) + nodes_in (world setup (told_entry seat x request reply ∷ h)) + erase_failed request reply
       ≤ (world setup h).store.version + work_left setup (world setup h) + nodes_in (world setup h) + phase_written request
   ops_call kind pays = by came
     where
@@ -177,17 +185,20 @@ module _ (setup : Setup) (seat : ℕ) (x : ActorState) (request : Request) (repl
       by_worth lasts = let less = pays lasts in let same = ap (λ k. worth k request) kind in omega (arith, less, same)
 
       by : ComesTo (world setup h) (effect setup (world setup h) x.role.kind request)
-          → (world setup (told_entry seat x request reply ∷ h)).store.version + work_left setup (world setup (told_entry seat x request reply ∷ h)) + nodes_in (world setup (told_entry seat x request reply ∷ h)) + erase_failed request reply
+          → (world setup (told_entry seat x request reply ∷ h)).store.version + work_left setup
+          (world setup (told_entry seat x request reply ∷ h)) + nodes_in (world setup (told_entry seat x request reply ∷ h)) + erase_failed request reply
           ≤ (world setup h).store.version + work_left setup (world setup h) + nodes_in (world setup h) + phase_written request
       by (Leaves same) =
           let version : (world setup (told_entry seat x request reply ∷ h)).store.version ≡ (world setup h).store.version = ap (λ s. s.version) same in
           let nodes : nodes_in (world setup (told_entry seat x request reply ∷ h)) ≡ nodes_in (world setup h) = ap (λ s. total nodes_on s.rows) same in
-          let less = fault_worth request reply (work_left setup (world setup h)) (work_left setup (world setup (told_entry seat x request reply ∷ h))) (λ fault. by_worth (inr (inr (subst IsBackFault history.1 fault)))) (stays pays) in
+          let less = fault_worth request reply (work_left setup (world setup h))
+          (work_left setup (world setup (told_entry seat x request reply ∷ h))) (λ fault. by_worth (inr (inr (subst IsBackFault history.1 fault)))) (stays pays) in
           omega (arith, version, nodes, less)
       by (Wrote o written version moved) =
           let writes = wrote o written in
           let none = no_erase (world setup h) x.role.kind request reply o writes in
-          let less = ops_worth request (work_left setup (world setup h)) (work_left setup (world setup (told_entry seat x request reply ∷ h))) (λ plain. by_worth (lasting o written (ap (λ k. is_apart k request) kind ∙ plain))) (stays pays) in
+          let less = ops_worth request (work_left setup (world setup h)) (work_left setup (world setup (told_entry seat x request reply ∷ h)))
+          (λ plain. by_worth (lasting o written (ap (λ k. is_apart k request) kind ∙ plain))) (stays pays) in
           let few = ops_nodes setup seat h history.0 o (world setup (told_entry seat x request reply ∷ h)).store.rows moved request may (subst (λ k. Writes (world setup h) k request o) kind writes) in
           omega (arith, version, none, less, few)
 
@@ -195,7 +206,8 @@ module _ (setup : Setup) (seat : ℕ) (x : ActorState) (request : Request) (repl
   ops_under : (caches : AllKnown) → x.role.kind ≡ seats.Ops → under_fails (told_to x caches request reply).under + phase_written request ≤ under_fails x.under + erase_failed request reply
   ops_under caches kind = by x.given refl
     where
-      goes : (u : Option Under) → x.under ≡ u → AnyIsUnderWay x.role u (own seat h) → option_map call_under u ≡ Some request → under_fails (task_told (learned x caches request reply) reply u).under + phase_written request ≤ under_fails u + erase_failed request reply
+      goes : (u : Option Under) → x.under ≡ u → AnyIsUnderWay x.role u (own seat h) → option_map call_under u ≡ Some request
+          → under_fails (task_told (learned x caches request reply) reply u).under + phase_written request ≤ under_fails u + erase_failed request reply
       goes None eu way c = none_some c
       goes (Some u) eu way c =
           let kept : KeepsUnder x.role u (own seat h) = keeps_under x.role u (own seat h) (stood x (own seat h) called.stands) way in
@@ -210,7 +222,8 @@ module _ (setup : Setup) (seat : ℕ) (x : ActorState) (request : Request) (repl
       by None e = none_some (ap (given_call x) (sym e) ∙ called.ask)
       by (Some givens.Start) e = none_some (ap (λ k. start_of k x.role.node x.memory) (sym kind) ∙ (ap (given_call x) (sym e) ∙ called.ask))
       by (Some givens.Task) e =
-          let under : (told_to x caches request reply).under ≡ (task_told (learned x caches request reply) reply x.under).under = ap (λ g. (given_told (learned x caches request reply) request reply g).under) e in
+          let under : (told_to x caches request reply).under ≡ (task_told (learned x caches request reply) reply x.under).under =
+          ap (λ g. (given_told (learned x caches request reply) request reply g).under) e in
           let moves = goes x.under refl called.stands.settle_round_calls (ap (given_call x) (sym e) ∙ called.ask) in
           let same = ap under_fails under in
           omega (arith, moves, same)
@@ -226,7 +239,8 @@ module _ (setup : Setup) (seat : ℕ) (x : ActorState) (request : Request) (repl
 pub counted : (setup : Setup) (newer h past : List Entry) → past ≡ newer ++ h → writes_since setup h past + (world setup h).store.version ≡ (world setup past).store.version
 counted setup newer h past are = let low = subst (λ es. (world setup h).store.version ≤ (world setup es).store.version) (sym are) (rises setup newer h) in omega (arith, low)
 
-module _ (setup : Setup) (lets : Lets) (seat : ℕ) (old after_ : ActorState) (h past : List Entry) (b left : ℕ) (idle : Bool) (run : IsRunOf setup past) (runs : Runs lets seat after_ past left idle (begun old) h b) where
+module _ (setup : Setup) (lets : Lets) (seat : ℕ) (old after_ : ActorState) (h past : List Entry) (b left : ℕ) (idle : Bool)
+    (run : IsRunOf setup past) (runs : Runs lets seat after_ past left idle (begun old) h b) where
   done : writes_since setup h past + (world setup h).store.version ≡ (world setup past).store.version
   done = let g = run_grows lets seat after_ past left idle (begun old) h b runs in counted setup g.longer.added h past g.longer.are
 
@@ -234,12 +248,15 @@ module _ (setup : Setup) (lets : Lets) (seat : ℕ) (old after_ : ActorState) (h
       → writes_since setup h past + work_left setup (world setup past) ≤ work_left setup (world setup h)
   other_slot built scheduler ops rests decides =
       let paid = pays_from setup lets seat old after_ h past b left idle built run runs rests decides in
-      let low = run_low setup lets seat after_ past left idle run old.role built (λ w. w.store.version + work_left setup w) (λ u. 0) refl (λ memory rows u gives. refl) calls (begun old) h b runs refl paid in
+      let low = run_low setup lets seat after_ past left idle run old.role built (λ w. w.store.version + work_left setup w) (λ u. 0) refl
+      (λ memory rows u gives. refl) calls (begun old) h b runs refl paid in
       let n = done in
       omega (arith, low, n)
     where
-      calls : (x : ActorState) (caches : AllKnown) (request : Request) (reply : Reply) (hh : List Entry) → x.role ≡ old.role → IsCalled setup seat x request reply hh → Pays setup (world setup hh) x.role.kind request
-          → (world setup (told_entry seat x request reply ∷ hh)).store.version + work_left setup (world setup (told_entry seat x request reply ∷ hh)) + 0 ≤ (world setup hh).store.version + work_left setup (world setup hh) + 0
+      calls : (x : ActorState) (caches : AllKnown) (request : Request) (reply : Reply) (hh : List Entry) → x.role ≡ old.role
+          → IsCalled setup seat x request reply hh → Pays setup (world setup hh) x.role.kind request
+          → (world setup (told_entry seat x request reply ∷ hh)).store.version + work_left setup
+          (world setup (told_entry seat x request reply ∷ hh)) + 0 ≤ (world setup hh).store.version + work_left setup (world setup hh) + 0
       calls x caches request reply hh is called pays =
           let low = other_call setup seat x request reply hh called (subst (λ (r : Role). r.kind ≢ seats.Scheduler) (sym is) scheduler) (subst (λ (r : Role). r.kind ≢ seats.Ops) (sym is) ops) pays in
           omega (arith, low)
@@ -251,8 +268,10 @@ module _ (setup : Setup) (lets : Lets) (seat : ℕ) (old after_ : ActorState) (h
       built : IsBuiltKind old.role.kind
       built = subst IsBuiltKind (sym kind) tt
 
-      calls : (x : ActorState) (caches : AllKnown) (request : Request) (reply : Reply) (hh : List Entry) → x.role ≡ old.role → IsCalled setup seat x request reply hh → Pays setup (world setup hh) x.role.kind request
-          → (world setup (told_entry seat x request reply ∷ hh)).store.version + work_left setup (world setup (told_entry seat x request reply ∷ hh)) + nodes_in (world setup (told_entry seat x request reply ∷ hh)) + under_fails (told_to x caches request reply).under
+      calls : (x : ActorState) (caches : AllKnown) (request : Request) (reply : Reply) (hh : List Entry) → x.role ≡ old.role
+          → IsCalled setup seat x request reply hh → Pays setup (world setup hh) x.role.kind request
+          → (world setup (told_entry seat x request reply ∷ hh)).store.version + work_left setup
+          (world setup (told_entry seat x request reply ∷ hh)) + nodes_in (world setup (told_entry seat x request reply ∷ hh)) + under_fails (told_to x caches request reply).under
           ≤ (world setup hh).store.version + work_left setup (world setup hh) + nodes_in (world setup hh) + under_fails x.under
       calls x caches request reply hh is called pays =
           let of_kind : x.role.kind ≡ seats.Ops = ap (λ (r : Role). r.kind) is ∙ kind in
@@ -269,31 +288,40 @@ module _ (setup : Setup) (lets : Lets) (seat : ℕ) (old after_ : ActorState) (h
           omega (arith, version, work, nodes)
       by false fresh =
           let paid = pays_from setup lets seat old after_ h past b left idle built run runs rests decides in
-          let low = run_low setup lets seat after_ past left idle run old.role built (λ w. w.store.version + work_left setup w + nodes_in w) under_fails refl (λ memory rows u gives. none_begins old.role memory rows u kind gives) calls (begun old) h b runs refl paid in
+          let low = run_low setup lets seat after_ past left idle run old.role built
+          (λ w. w.store.version + work_left setup w + nodes_in w) under_fails refl (λ memory rows u gives. none_begins old.role memory rows u kind gives) calls (begun old) h b runs refl paid in
           let none : under_fails old.under ≡ 0 = ap under_fails (rests fresh) in
           let n = done in
           omega (arith, low, none, n)
 
 pub others_write_little : OthersWriteLittle
-others_write_little setup lets seat old after_ h past b left idle built scheduler ops run rests decides runs = other_slot setup lets seat (woken old) after_ h past b left idle run runs built scheduler ops rests decides
+others_write_little setup lets seat old after_ h past b left idle built scheduler ops run rests decides runs =
+    other_slot setup lets seat (woken old) after_ h past b left idle run runs built scheduler ops rests decides
 
 pub ops_write_little : OpsWriteLittle
 ops_write_little setup lets seat old after_ h past b left idle kind run rests decides runs = ops_slot setup lets seat (woken old) after_ h past b left idle run runs kind rests decides
 
 -- ---- the nodes that are selected
 
-module _ (setup : Setup) (lets : Lets) (seat : ℕ) (old after_ : ActorState) (h past : List Entry) (b left : ℕ) (idle : Bool) (run : IsRunOf setup past) (runs : Runs lets seat after_ past left idle (woken old) h b) where
+module _ (setup : Setup) (lets : Lets) (seat : ℕ) (old after_ : ActorState) (h past : List Entry) (b left : ℕ) (idle : Bool)
+    (run : IsRunOf setup past) (runs : Runs lets seat after_ past left idle (woken old) h b) where
   few_selected : old.role.kind ≡ seats.Scheduler → nodes_in (world setup past) + (world setup h).store.version ≤ nodes_in (world setup h) + (world setup past).store.version
-  few_selected kind = run_moves setup lets seat after_ past left idle run old.role (subst IsBuiltKind (sym kind) tt) (λ v w. nodes_in w + v.store.version ≤ nodes_in v + w.store.version) (λ w. omega arith) (λ u v w first then_. omega (arith, first, then_)) calls (woken old) h b runs refl
+  few_selected kind = run_moves setup lets seat after_ past left idle run old.role (subst IsBuiltKind (sym kind) tt)
+      (λ v w. nodes_in w + v.store.version ≤ nodes_in v + w.store.version) (λ w. omega arith) (λ u v w first then_. omega (arith, first, then_)) calls (woken old) h b runs refl
     where
-      calls : (x : ActorState) (request : Request) (reply : Reply) (hh : List Entry) → x.role ≡ old.role → IsCalled setup seat x request reply hh → nodes_in (world setup (told_entry seat x request reply ∷ hh)) + (world setup hh).store.version ≤ nodes_in (world setup hh) + (world setup (told_entry seat x request reply ∷ hh)).store.version
+      calls : (x : ActorState) (request : Request) (reply : Reply) (hh : List Entry) → x.role ≡ old.role → IsCalled setup seat x request reply hh
+          → nodes_in (world setup (told_entry seat x request reply ∷ hh)) + (world setup hh).store.version ≤ nodes_in (world setup hh) +
+          (world setup (told_entry seat x request reply ∷ hh)).store.version
       calls x request reply hh is called = scheduler_call setup seat x request reply hh called (ap (λ (r : Role). r.kind) is ∙ kind)
 
   none_selected : IsBuiltKind old.role.kind → old.role.kind ≢ seats.Scheduler → old.role.kind ≢ seats.Ops → nodes_in (world setup past) ≤ nodes_in (world setup h)
-  none_selected built scheduler ops = run_moves setup lets seat after_ past left idle run old.role built (λ v w. nodes_in w ≤ nodes_in v) (λ w. omega arith) (λ u v w first then_. omega (arith, first, then_)) calls (woken old) h b runs refl
+  none_selected built scheduler ops = run_moves setup lets seat after_ past left idle run old.role built (λ v w. nodes_in w ≤ nodes_in v) (λ w. omega
+      arith) (λ u v w first then_. omega (arith, first, then_)) calls (woken old) h b runs refl
     where
-      calls : (x : ActorState) (request : Request) (reply : Reply) (hh : List Entry) → x.role ≡ old.role → IsCalled setup seat x request reply hh → nodes_in (world setup (told_entry seat x request reply ∷ hh)) ≤ nodes_in (world setup hh)
-      calls x request reply hh is called = other_nodes_call setup seat x request reply hh called (subst (λ (r : Role). IsBuiltKind r.kind) (sym is) built) (subst (λ (r : Role). r.kind ≢ seats.Scheduler) (sym is) scheduler) (subst (λ (r : Role). r.kind ≢ seats.Ops) (sym is) ops)
+      calls : (x : ActorState) (request : Request) (reply : Reply) (hh : List Entry) → x.role ≡ old.role → IsCalled setup seat x request reply hh
+          → nodes_in (world setup (told_entry seat x request reply ∷ hh)) ≤ nodes_in (world setup hh)
+      calls x request reply hh is called = other_nodes_call setup seat x request reply hh called (subst (λ (r : Role). IsBuiltKind r.kind) (sym is)
+          built) (subst (λ (r : Role). r.kind ≢ seats.Scheduler) (sym is) scheduler) (subst (λ (r : Role). r.kind ≢ seats.Ops) (sym is) ops)
 
 pub schedulers_select_few : SchedulersSelectFew
 schedulers_select_few setup lets seat old after_ h past b left idle kind run runs =

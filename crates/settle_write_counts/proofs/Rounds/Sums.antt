@@ -3,7 +3,7 @@ use Rattle.std.proofs.Common.{◌≡◌, ℕ, suc, ◌+◌, ◌*◌, ◌≤◌, 
 use Rattle.std.specs.Prelude.{◌/◌}
 use Rattle.std.proofs.Math.Nat.{add-mul, mul-add}
 use Rattle.std.proofs.lemmas.Nat.{div-add-mod', le-div, mul-le}
-use Rattle.kube_types.specs.declared.objects.Object.{Object}
+use Rattle.kube_objects.specs.declared.objects.Object.{Object}
 use Rattle.call_types.specs.declared.entry.Entry.{Entry}
 use Rattle.call_types.specs.declared.request.SeatKind.TheVariants as seats
 use Rattle.call_types.specs.declared.setup.Setup.{Setup}
@@ -69,27 +69,32 @@ module _ (setup : Setup) (lets : Lets) (past : List Entry) (left : ℕ) (run : I
   middle_run ds h b after whole round = let g = round_grows lets past left ds h b after whole round in older_run setup g.longer.added h (subst (IsRunOf setup) g.longer.are run)
 
   -- each new object is the volume of a claim that stood
-  pub round_given : (first : List Object) (ds : List Drainer) (h : List Entry) (b : ℕ) (after : List Drainer) (whole : Bool) → IsRound lets past left ds h b after whole → AreBuilt (roles_of ds) → AreAtRest ds → AreGiven first (world setup h).store.rows → AreGiven first (world setup past).store.rows
+  pub round_given : (first : List Object) (ds : List Drainer) (h : List Entry) (b : ℕ) (after : List Drainer) (whole : Bool)
+      → IsRound lets past left ds h b after whole → AreBuilt (roles_of ds) → AreAtRest ds → AreGiven first (world setup h).store.rows → AreGiven first (world setup past).store.rows
   round_given first _ h b _ _ (Ends entries rest) built rests given = subst (λ es. AreGiven first (world setup es).store.rows) (sym entries) given
   round_given first _ h b _ _ (Turns {ds = ds} {after = after} {whole = whole} d ran middle rest idle seat runs more) built rests given =
       let here = middle_run ds middle rest after whole more in
-      round_given first ds middle rest after whole more built.1 (λ place x at. rests (suc place) x at) (slot_given setup lets d.seat d.actor ran.actor h middle b rest idle first here built.0 (rests 0 d refl) runs given)
+      round_given first ds middle rest after whole more built.1 (λ place x at. rests (suc place) x at)
+      (slot_given setup lets d.seat d.actor ran.actor h middle b rest idle first here built.0 (rests 0 d refl) runs given)
 
   module _ (passes : PassesReads lets) (start : List Entry) where
     -- what all objects may cost an actor, wherever the round has come to
-    light : (h : List Entry) (d : Drainer) → AreGiven (world setup start).store.rows (world setup h).store.rows → total (calls_for d.actor.role.kind) (world setup h).store.rows ≤ 3 * most_size (world setup start)
+    light : (h : List Entry) (d : Drainer) → AreGiven (world setup start).store.rows (world setup h).store.rows
+        → total (calls_for d.actor.role.kind) (world setup h).store.rows ≤ 3 * most_size (world setup start)
     light h d given =
         let cheap = total_less (calls_for seats.Agent) (calls_for d.actor.role.kind) (world setup h).store.rows (cheaper d.actor.role.kind) in
         let three = total_sized (world setup h).store.rows in
         let few = given_few (world setup start).store.rows (world setup h).store.rows (rows_stand_in_order setup start) (rows_stand_in_order setup h) given in
         omega (arith, cheap, three, few)
 
-    slot : (all : ℕ) (d ran : Drainer) (h middle : List Entry) (b rest : ℕ) (idle : Bool) → IsRunOf setup middle → IsBuiltKind d.actor.role.kind → (d.actor.memory.stale ≡ false → d.actor.under ≡ None) → Runs lets d.seat ran.actor middle rest idle (woken d.actor) h b
+    slot : (all : ℕ) (d ran : Drainer) (h middle : List Entry) (b rest : ℕ) (idle : Bool) → IsRunOf setup middle → IsBuiltKind d.actor.role.kind
+        → (d.actor.memory.stale ≡ false → d.actor.under ≡ None) → Runs lets d.seat ran.actor middle rest idle (woken d.actor) h b
         → writes_since setup h middle ≤ all → AreGiven (world setup start).store.rows (world setup h).store.rows
         → b ≤ rest + (23 * writes_since setup h middle + (3 * most_size (world setup start) + 62) + 5 * ((3 * most_size (world setup start) + 3 * all + 7) * (writes_since setup h middle / 513)))
     slot all d ran h middle b rest idle here built rests runs few given = by d.actor.memory.stale refl
       where
-        by : (stale : Bool) → d.actor.memory.stale ≡ stale → b ≤ rest + (23 * writes_since setup h middle + (3 * most_size (world setup start) + 62) + 5 * ((3 * most_size (world setup start) + 3 * all + 7) * (writes_since setup h middle / 513)))
+        by : (stale : Bool) → d.actor.memory.stale ≡ stale
+            → b ≤ rest + (23 * writes_since setup h middle + (3 * most_size (world setup start) + 62) + 5 * ((3 * most_size (world setup start) + 3 * all + 7) * (writes_since setup h middle / 513)))
         by true e = let same = (silent_run setup lets d.seat ran.actor middle rest idle here (woken d.actor) h b runs e).1 in omega (arith, same)
         by false e =
             let short = slots_are_short setup lets d.seat d.actor ran.actor h middle b rest idle built (runs_are_histories setup middle here.run) passes runs in
@@ -98,8 +103,10 @@ module _ (setup : Setup) (lets : Lets) (past : List Entry) (left : ℕ) (run : I
             let part = slot_part (total (calls_for d.actor.role.kind) (world setup h).store.rows) (most_size (world setup start)) (writes_since setup h middle) all few (light h d given) in
             omega (arith, short, free, part)
 
-    pub sum : (all : ℕ) (ds : List Drainer) (h : List Entry) (b : ℕ) (after : List Drainer) (whole : Bool) → IsRound lets past left ds h b after whole → AreBuilt (roles_of ds) → AreAtRest ds → writes_since setup h past ≤ all → AreGiven (world setup start).store.rows (world setup h).store.rows
-        → b ≤ left + (23 * writes_since setup h past + length ds * (3 * most_size (world setup start) + 62) + 5 * ((3 * most_size (world setup start) + 3 * all + 7) * (writes_since setup h past / 513)))
+    pub sum : (all : ℕ) (ds : List Drainer) (h : List Entry) (b : ℕ) (after : List Drainer) (whole : Bool)
+        → IsRound lets past left ds h b after whole → AreBuilt (roles_of ds) → AreAtRest ds → writes_since setup h past ≤ all → AreGiven (world setup start).store.rows (world setup h).store.rows
+        → b ≤ left + (23 * writes_since setup h past + length ds * (3 * most_size (world setup start) + 62) + 5 *
+        ((3 * most_size (world setup start) + 3 * all + 7) * (writes_since setup h past / 513)))
     sum all _ h b _ _ (Ends entries rest) built rests few given = omega (arith, rest)
     sum all _ h b _ _ (Turns {ds = ds} {after = after} {whole = whole} d ran middle rest idle seat runs more) built rests few given =
         let here = middle_run ds middle rest after whole more in
@@ -108,7 +115,8 @@ module _ (setup : Setup) (lets : Lets) (past : List Entry) (left : ℕ) (run : I
         let gg = round_grows lets past left ds middle rest after whole more in
         let n = counted setup gg.longer.added middle past gg.longer.are in
         let split : writes_since setup h past ≡ writes_since setup h middle + writes_since setup middle past = omega (arith, m, n) in
-        let later = sum all ds middle rest after whole more built.1 (λ place x at. rests (suc place) x at) (omega (arith, split, few)) (slot_given setup lets d.seat d.actor ran.actor h middle b rest idle (world setup start).store.rows here built.0 (rests 0 d refl) runs given) in
+        let later = sum all ds middle rest after whole more built.1 (λ place x at. rests (suc place) x at) (omega (arith, split, few))
+        (slot_given setup lets d.seat d.actor ran.actor h middle b rest idle (world setup start).store.rows here built.0 (rests 0 d refl) runs given) in
         let first = slot all d ran h middle b rest idle here built.0 (rests 0 d refl) runs (omega (arith, split, few)) given in
         let sweeps = swept (3 * most_size (world setup start) + 3 * all + 7) (writes_since setup h middle) (writes_since setup middle past) in
         let whole_ = ap (λ k. (3 * most_size (world setup start) + 3 * all + 7) * (k / 513)) split in
@@ -116,20 +124,25 @@ module _ (setup : Setup) (lets : Lets) (past : List Entry) (left : ℕ) (run : I
         omega (arith, later, first, split, sweeps, whole_, actors)
 
 -- a round of these, from the world with which it begins on
-all_given : (setup : Setup) (lets : Lets) (ds after : List Drainer) (h past : List Entry) (b left : ℕ) (whole : Bool) → AreRoles (roles_of ds) → AreAtRest ds → IsRunOf setup past → IsRound lets past left ds h b after whole → AreGiven (world setup h).store.rows (world setup past).store.rows
-all_given setup lets ds after h past b left whole roles rests run round = round_given setup lets past left run (world setup h).store.rows ds h b after whole round (roles_built (roles_of ds) roles) rests (given_first (world setup h).store.rows)
+all_given : (setup : Setup) (lets : Lets) (ds after : List Drainer) (h past : List Entry) (b left : ℕ) (whole : Bool) → AreRoles (roles_of ds)
+    → AreAtRest ds → IsRunOf setup past → IsRound lets past left ds h b after whole → AreGiven (world setup h).store.rows (world setup past).store.rows
+all_given setup lets ds after h past b left whole roles rests run round =
+    round_given setup lets past left run (world setup h).store.rows ds h b after whole round (roles_built (roles_of ds) roles) rests (given_first (world setup h).store.rows)
 
 pub rounds_add_little : RoundsAddLittle
 rounds_add_little setup lets ds after h past b left whole roles rests run round =
-    given_few (world setup h).store.rows (world setup past).store.rows (rows_stand_in_order setup h) (rows_stand_in_order setup past) (all_given setup lets ds after h past b left whole roles rests run round)
+    given_few (world setup h).store.rows (world setup past).store.rows (rows_stand_in_order setup h) (rows_stand_in_order setup past)
+    (all_given setup lets ds after h past b left whole roles rests run round)
 
 pub rounds_add_no_pod : RoundsAddNoPod
 rounds_add_no_pod setup lets ds after h past b left whole roles rests run round =
-    pods_few (world setup h).store.rows (world setup past).store.rows (rows_stand_in_order setup h) (rows_stand_in_order setup past) (all_given setup lets ds after h past b left whole roles rests run round)
+    pods_few (world setup h).store.rows (world setup past).store.rows (rows_stand_in_order setup h) (rows_stand_in_order setup past)
+    (all_given setup lets ds after h past b left whole roles rests run round)
 
 pub calls_are_few : CallsAreFew
 calls_are_few setup lets ds after h past b left whole roles rests run passes round =
-    let all = sum setup lets past left run passes h (writes_since setup h past) ds h b after whole round (roles_built (roles_of ds) roles) rests (omega arith) (given_first (world setup h).store.rows) in
+    let all = sum setup lets past left run passes h (writes_since setup h past) ds h b after whole round (roles_built (roles_of ds) roles) rests
+    (omega arith) (given_first (world setup h).store.rows) in
     omega (arith, all)
 
 -- with more writes it is more

@@ -1,18 +1,46 @@
 -- What a scheduler begins for a pod has no more writes than the pod has claims, and one; each call leaves fewer.
-use Rattle.std.proofs.Common.{◌≡◌, ℕ, suc, ◌+◌, ◌-◌, ◌≤◌, ◌<◌, List, [], ◌∷◌, ◌++◌, length, length-append, Bool, true, false, true≢false, Option, Some, None, filter, refl, sym, ap, subst, arith, if◌then◌else◌}
+use Rattle.std.proofs.Common.{
+  ◌≡◌,
+  ℕ,
+  suc,
+  ◌+◌,
+  ◌-◌,
+  ◌≤◌,
+  ◌<◌,
+  List,
+  [],
+  ◌∷◌,
+  ◌++◌,
+  length,
+  length-append,
+  Bool,
+  true,
+  false,
+  true≢false,
+  Option,
+  Some,
+  None,
+  filter,
+  refl,
+  sym,
+  ap,
+  subst,
+  arith,
+  if◌then◌else◌,
+}
 use Rattle.std.specs.Prelude.{◌&&◌, filter_map, map, nat_lt, slice_get}
 use Rattle.std.specs.Ordering.{is_gt}
 use Rattle.std.proofs.lemmas.Option.{slice_get_within}
-use Rattle.kube_types.specs.declared.key.Key.{Key}
-use Rattle.kube_types.specs.declared.uid.Uid.{Uid}
-use Rattle.kube_types.specs.declared.objects.Claim.{Claim as ClaimData}
-use Rattle.kube_types.specs.declared.objects.Node.{Node as NodeData}
-use Rattle.kube_types.specs.declared.objects.Pod.{Pod as PodData}
-use Rattle.kube_types.specs.declared.objects.Volume.{Volume as VolumeData}
-use Rattle.kube_types.specs.declared.objects.Object.{Object}
-use Rattle.kube_types.specs.declared.objects.Object.TheVariants.{Class, Node, Volume, Claim, Pod}
-use Rattle.kube_types.specs.Bindings.{is_scheduled}
-use Rattle.kube_types.specs.Keys.{row_at}
+use Rattle.kube_objects.specs.declared.key.Key.{Key}
+use Rattle.kube_parts.specs.declared.uid.Uid.{Uid}
+use Rattle.kube_objects.specs.declared.objects.Claim.{Claim as ClaimData}
+use Rattle.kube_objects.specs.declared.objects.Node.{Node as NodeData}
+use Rattle.kube_objects.specs.declared.objects.Pod.{Pod as PodData}
+use Rattle.kube_objects.specs.declared.objects.Volume.{Volume as VolumeData}
+use Rattle.kube_objects.specs.declared.objects.Object.{Object}
+use Rattle.kube_objects.specs.declared.objects.Object.TheVariants.{Class, Node, Volume, Claim, Pod}
+use Rattle.kube_objects.specs.Bindings.{is_scheduled}
+use Rattle.kube_objects.specs.Keys.{row_at}
 use Rattle.call_types.specs.declared.reply.Reply.{Reply}
 use Rattle.call_types.specs.declared.request.Request.{Request}
 use Rattle.call_types.specs.declared.request.SeatKind.{SeatKind}
@@ -20,7 +48,22 @@ use Rattle.call_types.specs.declared.request.SeatKind.TheVariants as seats
 use Rattle.binder_model.specs.Choice.{IsProvisioned, Share, TakesVolume, by_size, claim_cmp, claim_named, claims_of, insert_claim, is_other}
 use Rattle.delayed_binding.specs.declared.choice.Choice.{Choice}
 use Rattle.delayed_binding.specs.declared.choice.Choice.TheVariants.{Assign, NoNode, Prepare, Wait}
-use Rattle.delayed_binding.specs.Choices.{IsChoice, IsChoiceAt, IsCompleted, IsSearching, IsServedElsewhere, IsUnderWay, LacksClaim, Prepares, Stage, binds_of, others_in, pair_of, provisions_of, stage_of}
+use Rattle.delayed_binding.specs.Choices.{
+  IsChoice,
+  IsChoiceAt,
+  IsCompleted,
+  IsSearching,
+  IsServedElsewhere,
+  IsUnderWay,
+  LacksClaim,
+  Prepares,
+  Stage,
+  binds_of,
+  others_in,
+  pair_of,
+  provisions_of,
+  stage_of,
+}
 use Rattle.delayed_binding.specs.Writes.{bind_write, node_write, writes_of}
 use Rattle.volume_match.specs.Volumes.{volume_at}
 use Rattle.model_laws.proofs.Lists.{none_some, one}
@@ -86,7 +129,8 @@ shared rows (c ∷ cs) [] = omega arith
 shared rows (c ∷ cs) (IsProvisioned ∷ shares) = let rest = shared rows cs shares in omega (arith, rest)
 shared rows (c ∷ cs) (TakesVolume place ∷ shares) = by (volume_at rows place) (shared rows cs shares)
   where
-    by : (v : Option VolumeData) → length (binds_of rows cs shares) + length (provisions_of cs shares) ≤ length cs → length (pair_of c v ++ binds_of rows cs shares) + length (provisions_of cs shares) ≤ suc (length cs)
+    by : (v : Option VolumeData) → length (binds_of rows cs shares) + length (provisions_of cs shares) ≤ length cs
+        → length (pair_of c v ++ binds_of rows cs shares) + length (provisions_of cs shares) ≤ suc (length cs)
     by None rest = omega (arith, rest)
     by (Some v) rest = omega (arith, rest)
 
@@ -96,7 +140,8 @@ abbrev is_preparing : Choice → Bool
 is_preparing (Prepare node binds provisions) = true
 is_preparing choice = false
 
-few_shares : (rows : List Object) (p : PodData) (last : Option (List ℕ)) (node : List ℕ) (binds : List (Key × Key)) (provisions : List Key) → IsChoice rows p last (Prepare node binds provisions) → length binds + length provisions ≤ length p.claims
+few_shares : (rows : List Object) (p : PodData) (last : Option (List ℕ)) (node : List ℕ) (binds : List (Key × Key)) (provisions : List Key)
+    → IsChoice rows p last (Prepare node binds provisions) → length binds + length provisions ≤ length p.claims
 few_shares rows p last node binds provisions chosen = of (stage_of rows p) chosen
   where
     prepares : (n : NodeData) → Prepares rows (claims_of rows p) n binds provisions → length binds + length provisions ≤ length p.claims
@@ -176,11 +221,13 @@ begun_few rows refused (Some (Claim x)) (tasks.Schedule op) first = none_some (s
 begun_few rows refused row _ first = absurd first
 
 pub begins_few : (role : Role) (memory : Memory) (rows : List Object) (u : Under) → role.kind ≡ seats.Scheduler → GivesCall role memory rows u → task_writes u.task ≤ key_writes rows u.key
-begins_few role memory rows u kind gives = begun_few rows memory.tries.refused (row_at u.key rows) u.task (subst (λ k. IsFirstOf k role.node memory rows u.key (firsts.Begins u.task)) kind gives.decided)
+begins_few role memory rows u kind gives =
+    begun_few rows memory.tries.refused (row_at u.key rows) u.task (subst (λ k. IsFirstOf k role.node memory rows u.key (firsts.Begins u.task)) kind gives.decided)
 
 -- ---- an answer
 
-step_goes : (writes : List Request) (step : ScheduleStep) (request : Request) (reply : Reply) → schedule_call_at writes step ≡ Some request → step_writes writes (schedule_step_after writes step reply) + 1 ≤ step_writes writes step
+step_goes : (writes : List Request) (step : ScheduleStep) (request : Request) (reply : Reply) → schedule_call_at writes step ≡ Some request
+    → step_writes writes (schedule_step_after writes step reply) + 1 ≤ step_writes writes step
 step_goes writes steps.Done request reply call = none_some call
 step_goes writes steps.Parked request reply call = none_some call
 step_goes writes (steps.Writes place) request reply call = of (slice_get writes place) refl call
@@ -209,7 +256,8 @@ call_goes u reply kind call = by u.task kind call
     with_it t (Some r) n le = le
 
     by : (t : Task) → task_kind t ≡ seats.Scheduler → task_call t ≡ Some u.call → under_writes (with_task u.key (task_moved t reply)) + 1 ≤ task_writes t
-    by (tasks.Schedule op) k c = with_it (tasks.Schedule (schedule_moved op reply)) (task_call (tasks.Schedule (schedule_moved op reply))) (step_writes op.writes op.step) (step_goes op.writes op.step u.call reply c)
+    by (tasks.Schedule op) k c = with_it (tasks.Schedule (schedule_moved op reply)) (task_call (tasks.Schedule (schedule_moved op reply)))
+        (step_writes op.writes op.step) (step_goes op.writes op.step u.call reply c)
     by (tasks.Binder m) k c = absurd (true≢false (sym (ap is_scheduler k)))
     by (tasks.ClaimProtect op) k c = absurd (true≢false (sym (ap is_scheduler k)))
     by (tasks.VolumeProtect op) k c = absurd (true≢false (sym (ap is_scheduler k)))

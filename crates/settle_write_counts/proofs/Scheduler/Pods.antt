@@ -1,10 +1,10 @@
 -- A scheduler that is run with nothing under way decides each pod once, as long as the log reaches back to the beginning of its slot.
 use Rattle.std.proofs.Common.{◌≡◌, ◌∙◌, ◌⊎◌, ℕ, ◌+◌, ◌-◌, ◌≤◌, ◌<◌, List, [], ◌∷◌, ◌++◌, length, Bool, true, false, true≢false, Option, Some, None, inl, inr, refl, sym, ap, subst, arith}
 use Rattle.std.specs.Prelude.{◌==◌, map, option_map}
-use Rattle.kube_types.specs.declared.parts.Kind.{Kind}
-use Rattle.kube_types.specs.declared.objects.Object.{Object}
-use Rattle.kube_types.specs.Keys.{key_of, same_kind}
-use Rattle.kube_types.proofs.SameKeys.{same_kind-Decides}
+use Rattle.kube_parts.specs.declared.parts.Kind.{Kind}
+use Rattle.kube_objects.specs.declared.objects.Object.{Object}
+use Rattle.kube_objects.specs.Keys.{key_of, same_kind}
+use Rattle.kube_objects.proofs.SameKeys.{same_kind-Decides}
 use Rattle.call_types.specs.declared.entry.Entry.{Entry}
 use Rattle.call_types.specs.declared.reply.Event.{Event}
 use Rattle.call_types.specs.declared.reply.Reply.{Reply}
@@ -90,7 +90,9 @@ record IsReached (base seat : ℕ) (h : List Entry) (kind : Kind) : Type 0 where
 no_start : {X : Type 0} (x : ActorState) (request : Request) → x.role.kind ≡ seats.Scheduler → asked x ≡ Some request → x.given ≡ Some givens.Start → X
 no_start x request kind ask eg = none_some (ap (λ k. start_of k x.role.node x.memory) (sym kind) ∙ (ap (given_call x) (sym eg) ∙ ask))
 
-module _ (setup : Setup) (seat base : ℕ) (x : ActorState) (request : Request) (reply : Reply) (h : List Entry) (given : IsCallGiven setup seat x request reply h) (kind_is : x.role.kind ≡ seats.Scheduler) (low : base_of setup ≤ base) (near : (world setup h).store.version ≤ base + 512) (begun : base ≤ (world setup h).store.version) where
+module _ (setup : Setup) (seat base : ℕ) (x : ActorState) (request : Request) (reply : Reply) (h : List Entry)
+    (given : IsCallGiven setup seat x request reply h) (kind_is : x.role.kind ≡ seats.Scheduler) (low : base_of setup ≤ base)
+    (near : (world setup h).store.version ≤ base + 512) (begun : base ≤ (world setup h).store.version) where
   abbrev entry : Entry
   entry = told_entry seat x request reply
 
@@ -98,7 +100,8 @@ module _ (setup : Setup) (seat base : ℕ) (x : ActorState) (request : Request) 
   kept k unread r = record { from = r.from; is = unread_from seat (told_entry seat x request reply) h refl refl k unread ∙ r.is; up = r.up }
 
   -- a watch that is answered comes no less far, and to the store's version where its answer is not full
-  watched : (k : Kind) (f : ℕ) → from_of seat h k ≡ Some f → base ≤ f → request ≡ requests.Watch k f → f ≤ (world setup h).store.version → reply ≡ replies.Events (told_events k f (world setup h).store.version (world setup h).log)
+  watched : (k : Kind) (f : ℕ) → from_of seat h k ≡ Some f → base ≤ f → request ≡ requests.Watch k f → f ≤ (world setup h).store.version
+      → reply ≡ replies.Events (told_events k f (world setup h).store.version (world setup h).log)
       → IsReached base seat (told_entry seat x request reply ∷ h) k
   watched k f some up asks below answered = by (length (told k f (world setup h).log) == most_events) refl
     where
@@ -106,8 +109,10 @@ module _ (setup : Setup) (seat base : ℕ) (x : ActorState) (request : Request) 
       now = watched_from seat (told_entry seat x request reply) h refl refl k f f (world setup h).store.version (world setup h).log asks answered some
 
       by : (full : Bool) → (length (told k f (world setup h).log) == most_events) ≡ full → IsReached base seat (told_entry seat x request reply ∷ h) k
-      by true e = let r = (told_so setup h k f true below e).reached refl in record { from = (told_events k f (world setup h).store.version (world setup h).log).upto; is = now; up = omega (arith, r, up) }
-      by false e = let r = (told_so setup h k f false below e).whole refl in record { from = (told_events k f (world setup h).store.version (world setup h).log).upto; is = now; up = omega (arith, r, begun) }
+      by true e = let r = (told_so setup h k f true below e).reached refl in
+          record { from = (told_events k f (world setup h).store.version (world setup h).log).upto; is = now; up = omega (arith, r, up) }
+      by false e = let r = (told_so setup h k f false below e).whole refl in
+          record { from = (told_events k f (world setup h).store.version (world setup h).log).upto; is = now; up = omega (arith, r, begun) }
 
   -- what a list or a watch does to a kind that was reached
   read_on : (kind : Kind) → Reads setup seat x kind request reply h → (k : Kind) → IsReached base seat h k → IsReached base seat (told_entry seat x request reply ∷ h) k
@@ -146,7 +151,8 @@ record At (setup : Setup) (seat base : ℕ) (h : List Entry) : Type 0 where
   reached : (k : Kind) → IsReached base seat h k
   light : (x : Event) → IsIn x (world setup h).log → base < x.version → key_writes (world setup h).store.rows (key_of x.object) ≤ 0
 
-module _ (setup : Setup) (seat : ℕ) (x : ActorState) (request : Request) (reply : Reply) (h : List Entry) (given : IsCallGiven setup seat x request reply h) (kind_is : x.role.kind ≡ seats.Scheduler) (run : IsRunOf setup h) (may : RowAllows seats.Scheduler (own seat h) request) where
+module _ (setup : Setup) (seat : ℕ) (x : ActorState) (request : Request) (reply : Reply) (h : List Entry)
+    (given : IsCallGiven setup seat x request reply h) (kind_is : x.role.kind ≡ seats.Scheduler) (run : IsRunOf setup h) (may : RowAllows seats.Scheduler (own seat h) request) where
   abbrev next_h : List Entry
   next_h = told_entry seat x request reply ∷ h
 
@@ -160,44 +166,58 @@ module _ (setup : Setup) (seat : ℕ) (x : ActorState) (request : Request) (repl
   none : Wrote (world setup h) (world setup (told_entry seat x request reply ∷ h)) reply → (o : Object) → reply ≡ replies.Done o → pod_writes o ≡ 0
   none wrote o done =
       let written = done_written (world setup h) o (effect setup (world setup h) x.role.kind request) wrote.version (sym given.history.1 ∙ done) in
-      let writes = write_asked setup (world setup h) x.role.kind request o (effect setup (world setup h) x.role.kind request) (effect_form setup (world setup h) x.role.kind request (rows_stand_in_order setup h)) written in
+      let writes = write_asked setup (world setup h) x.role.kind request o (effect setup (world setup h) x.role.kind request)
+      (effect_form setup (world setup h) x.role.kind request (rows_stand_in_order setup h)) written in
       scheduled_none (world setup h) (own seat h) request o bound may (subst (λ k. Writes (world setup h) k request o) kind_is writes)
 
   -- the call of a task: a write is one of those that were ahead
-  task_on : (caches : AllKnown) → x.given ≡ Some givens.Task → (world setup (told_entry seat x request reply ∷ h)).store.version + ahead (world setup (told_entry seat x request reply ∷ h)) (told_to x caches request reply) ≤ (world setup h).store.version + ahead (world setup h) x
+  task_on : (caches : AllKnown) → x.given ≡ Some givens.Task
+      → (world setup (told_entry seat x request reply ∷ h)).store.version + ahead (world setup (told_entry seat x request reply ∷ h))
+      (told_to x caches request reply) ≤ (world setup h).store.version + ahead (world setup h) x
   task_on caches eg = of x.under refl given.stands.settle_round_calls (ap (given_call x) (sym eg) ∙ given.ask)
     where
       of : (u : Option Under) → x.under ≡ u → AnyIsUnderWay x.role u (own seat h) → option_map call_under u ≡ Some request
-          → (world setup (told_entry seat x request reply ∷ h)).store.version + ahead (world setup (told_entry seat x request reply ∷ h)) (told_to x caches request reply) ≤ (world setup h).store.version + ahead (world setup h) x
+          → (world setup (told_entry seat x request reply ∷ h)).store.version + ahead (world setup (told_entry seat x request reply ∷ h))
+          (told_to x caches request reply) ≤ (world setup h).store.version + ahead (world setup h) x
       of None eu way c = none_some c
       of (Some u) eu way c =
           let k : KeepsUnder x.role u (own seat h) = keeps_under x.role u (own seat h) (stood x (own seat h) given.stands) way in
           let goes = call_goes u reply (k.of_kind ∙ kind_is) k.call in
           let under : under_writes x.under ≡ task_writes u.task = ap under_writes eu in
-          let is : told_to x caches request reply ≡ task_told (learned x caches request reply) reply (Some u) = ap (given_told (learned x caches request reply) request reply) eg ∙ ap (task_told (learned x caches request reply) reply) eu in
+          let is : told_to x caches request reply ≡ task_told (learned x caches request reply) reply (Some u) =
+          ap (given_told (learned x caches request reply) request reply) eg ∙ ap (task_told (learned x caches request reply) reply) eu in
           let ended = ended_cost (key_writes (world setup (told_entry seat x request reply ∷ h)).store.rows) u reply x.work in
-          subst (λ y. (world setup (told_entry seat x request reply ∷ h)).store.version + ahead (world setup (told_entry seat x request reply ∷ h)) y ≤ (world setup h).store.version + ahead (world setup h) x) (sym is)
+          subst (λ y. (world setup (told_entry seat x request reply ∷ h)).store.version + ahead
+          (world setup (told_entry seat x request reply ∷ h)) y ≤ (world setup h).store.version + ahead (world setup h) x) (sym is)
           (by (world_moves setup (told_entry seat x request reply) h given.history.1) goes under ended)
         where
           by : Stays (world setup h) (world setup (told_entry seat x request reply ∷ h)) request reply ⊎ Wrote (world setup h) (world setup (told_entry seat x request reply ∷ h)) reply
               → under_writes (under_after u reply) + 1 ≤ task_writes u.task → under_writes x.under ≡ task_writes u.task
-              → work_cost (key_writes (world setup (told_entry seat x request reply ∷ h)).store.rows) (work_after u reply x.work) ≤ work_cost (key_writes (world setup (told_entry seat x request reply ∷ h)).store.rows) x.work
-              → (world setup (told_entry seat x request reply ∷ h)).store.version + (under_writes (under_after u reply) + work_cost (key_writes (world setup (told_entry seat x request reply ∷ h)).store.rows) (work_after u reply x.work)) ≤ (world setup h).store.version + ahead (world setup h) x
+              → work_cost (key_writes (world setup (told_entry seat x request reply ∷ h)).store.rows) (work_after u reply x.work) ≤ work_cost
+              (key_writes (world setup (told_entry seat x request reply ∷ h)).store.rows) x.work
+              → (world setup (told_entry seat x request reply ∷ h)).store.version +
+              (under_writes (under_after u reply) + work_cost (key_writes (world setup (told_entry seat x request reply ∷ h)).store.rows)
+              (work_after u reply x.work)) ≤ (world setup h).store.version + ahead (world setup h) x
           by (inl stays) goes under ended =
               let v = stays.version in
-              let same : work_cost (key_writes (world setup (told_entry seat x request reply ∷ h)).store.rows) x.work ≡ work_cost (key_writes (world setup h).store.rows) x.work = ap (λ rows. work_cost (key_writes rows) x.work) stays.rows in
+              let same : work_cost (key_writes (world setup (told_entry seat x request reply ∷ h)).store.rows) x.work ≡ work_cost
+              (key_writes (world setup h).store.rows) x.work = ap (λ rows. work_cost (key_writes rows) x.work) stays.rows in
               omega (arith, v, same, goes, under, ended)
           by (inr wrote) goes under ended =
               let v = wrote.version in
-              let less = work_less (key_writes (world setup h).store.rows) (key_writes (world setup (told_entry seat x request reply ∷ h)).store.rows) x.work (no_more (world setup h) (world setup (told_entry seat x request reply ∷ h)) reply wrote (rows_stand_in_order setup h) (none wrote)) in
+              let less = work_less (key_writes (world setup h).store.rows)
+              (key_writes (world setup (told_entry seat x request reply ∷ h)).store.rows) x.work
+              (no_more (world setup h) (world setup (told_entry seat x request reply ∷ h)) reply wrote (rows_stand_in_order setup h) (none wrote)) in
               omega (arith, v, less, goes, under, ended)
 
   -- a list or a watch tells no pod that is still to be decided
   read_kept : (base : ℕ) (caches : AllKnown) (kind : Kind) → x.given ≡ Some (givens.Read kind) → base_of setup ≤ base → (world setup h).store.version ≤ base + 512 → At setup seat base h
-      → (world setup (told_entry seat x request reply ∷ h)).store.version + ahead (world setup (told_entry seat x request reply ∷ h)) (told_to x caches request reply) ≤ (world setup h).store.version + ahead (world setup h) x
+      → (world setup (told_entry seat x request reply ∷ h)).store.version + ahead (world setup (told_entry seat x request reply ∷ h))
+      (told_to x caches request reply) ≤ (world setup h).store.version + ahead (world setup h) x
   read_kept base caches kind eg low near at =
       let is : told_to x caches request reply ≡ read_told (learned x caches request reply) kind request reply = ap (given_told (learned x caches request reply) request reply) eg in
-      subst (λ y. (world setup (told_entry seat x request reply ∷ h)).store.version + ahead (world setup (told_entry seat x request reply ∷ h)) y ≤ (world setup h).store.version + ahead (world setup h) x) (sym is) (of (read_called setup seat x request reply h given kind eg).reads)
+      subst (λ y. (world setup (told_entry seat x request reply ∷ h)).store.version + ahead (world setup (told_entry seat x request reply ∷ h)) y ≤
+      (world setup h).store.version + ahead (world setup h) x) (sym is) (of (read_called setup seat x request reply h given kind eg).reads)
     where
       stays : Stays (world setup h) (world setup (told_entry seat x request reply ∷ h)) request reply
       stays = (read_called setup seat x request reply h given kind eg).stays
@@ -206,7 +226,9 @@ module _ (setup : Setup) (seat : ℕ) (x : ActorState) (request : Request) (repl
       r = at.reached kind
 
       of : Reads setup seat x kind request reply h
-          → (world setup (told_entry seat x request reply ∷ h)).store.version + (under_writes x.under + work_cost (key_writes (world setup (told_entry seat x request reply ∷ h)).store.rows) (all_added (keys_in reply) x.work)) ≤ (world setup h).store.version + ahead (world setup h) x
+          → (world setup (told_entry seat x request reply ∷ h)).store.version +
+          (under_writes x.under + work_cost (key_writes (world setup (told_entry seat x request reply ∷ h)).store.rows)
+          (all_added (keys_in reply) x.work)) ≤ (world setup h).store.version + ahead (world setup h) x
       of (Lists none asks answered) = none_some (sym none ∙ r.is)
       of (FindsGone f gone some passes asks old answered) =
           let is : f ≡ r.from = one f r.from (sym some ∙ r.is) in
@@ -216,10 +238,14 @@ module _ (setup : Setup) (seat : ℕ) (x : ActorState) (request : Request) (repl
           let is : f ≡ r.from = one f r.from (sym some ∙ r.is) in
           let up = r.up in
           let v = stays.version in
-          let free = told_free (key_writes (world setup h).store.rows) (told kind f (world setup h).log) (λ y i. at.light y (told_after kind f (world setup h).log y i).0 (after_base is (told_after kind f (world setup h).log y i).1)) in
-          let keys : keys_cost (key_writes (world setup h).store.rows) (keys_in reply) ≡ keys_cost (key_writes (world setup h).store.rows) (map (λ (y : Event). key_of y.object) (told kind f (world setup h).log)) = ap (λ a. keys_cost (key_writes (world setup h).store.rows) (keys_in a)) answered in
+          let free = told_free (key_writes (world setup h).store.rows) (told kind f (world setup h).log)
+          (λ y i. at.light y (told_after kind f (world setup h).log y i).0 (after_base is (told_after kind f (world setup h).log y i).1)) in
+          let keys : keys_cost (key_writes (world setup h).store.rows) (keys_in reply) ≡ keys_cost (key_writes (world setup h).store.rows)
+          (map (λ (y : Event). key_of y.object) (told kind f (world setup h).log)) = ap (λ a. keys_cost (key_writes (world setup h).store.rows) (keys_in a)) answered in
           let more = all_added_cost (key_writes (world setup h).store.rows) (keys_in reply) x.work (taken_once x.work given.queue.once) in
-          let same : work_cost (key_writes (world setup (told_entry seat x request reply ∷ h)).store.rows) (all_added (keys_in reply) x.work) ≡ work_cost (key_writes (world setup h).store.rows) (all_added (keys_in reply) x.work) = ap (λ rows. work_cost (key_writes rows) (all_added (keys_in reply) x.work)) stays.rows in
+          let same : work_cost (key_writes (world setup (told_entry seat x request reply ∷ h)).store.rows)
+          (all_added (keys_in reply) x.work) ≡ work_cost (key_writes (world setup h).store.rows) (all_added (keys_in reply) x.work) =
+          ap (λ rows. work_cost (key_writes rows) (all_added (keys_in reply) x.work)) stays.rows in
           omega (arith, v, free, keys, more, same)
         where
           after_base : {n : ℕ} → f ≡ r.from → f < n → base < n
@@ -232,7 +258,8 @@ module _ (setup : Setup) (seat : ℕ) (x : ActorState) (request : Request) (repl
       reached : (k : Kind) → IsReached base seat (told_entry seat x request reply ∷ h) k
       reached k = reached_on setup seat base x request reply h given kind_is low near at.begun k (at.reached k)
 
-      by : Stays (world setup h) (world setup (told_entry seat x request reply ∷ h)) request reply ⊎ Wrote (world setup h) (world setup (told_entry seat x request reply ∷ h)) reply → At setup seat base (told_entry seat x request reply ∷ h)
+      by : Stays (world setup h) (world setup (told_entry seat x request reply ∷ h)) request reply
+          ⊎ Wrote (world setup h) (world setup (told_entry seat x request reply ∷ h)) reply → At setup seat base (told_entry seat x request reply ∷ h)
       by (inl stays) =
           let v = stays.version in let b = at.begun in
           record {
@@ -268,13 +295,15 @@ module _ (setup : Setup) (lets : Lets) (seat : ℕ) (after : ActorState) (past :
   run_at : (s : ActorState) (h : List Entry) (b : ℕ) → Runs lets seat after past left idle s h b → IsRunOf setup h
   run_at s h b runs = let g = run_grows lets seat after past left idle s h b runs in older_run setup g.longer.added h (subst (IsRunOf setup) g.longer.are run)
 
-  may_at : (s given : ActorState) (h : List Entry) (request : Request) → s.role.kind ≡ seats.Scheduler → IsReady seat s h → IsTurn s given (Call request) → RowAllows seats.Scheduler (own seat h) request
+  may_at : (s given : ActorState) (h : List Entry) (request : Request) → s.role.kind ≡ seats.Scheduler → IsReady seat s h
+      → IsTurn s given (Call request) → RowAllows seats.Scheduler (own seat h) request
   may_at s given h request kind ready turn =
       let l : Licensed s.role.kind (own seat h) request = answer_licensed s given (Call request) (own seat h) (subst IsBuiltKind (sym kind) tt) ready.rows ready.stands.told turn in
       (subst (λ k. Licensed k (own seat h) request) kind l).1
 
   module _ (base most : ℕ) (few : most ≤ 512) (low : base_of setup ≤ base) where
-    second : (s : ActorState) (h : List Entry) (b : ℕ) → Runs lets seat after past left idle s h b → s.role.kind ≡ seats.Scheduler → At setup seat base h → KnowsBehind setup seat s.role s.pass h → (world setup h).store.version + ahead (world setup h) s ≤ base + most
+    second : (s : ActorState) (h : List Entry) (b : ℕ) → Runs lets seat after past left idle s h b → s.role.kind ≡ seats.Scheduler
+        → At setup seat base h → KnowsBehind setup seat s.role s.pass h → (world setup h).store.version + ahead (world setup h) s ≤ base + most
         → (world setup past).store.version ≤ base + most
     second s h b (IsSpent none state entries rest busy) kind at knows enough = let e = ap (λ es. (world setup es).store.version) entries in omega (arith, e, enough)
     second s h b (IsIdle some ready turn entries rest calm) kind at knows enough = let e = ap (λ es. (world setup es).store.version) entries in omega (arith, e, enough)
@@ -306,7 +335,8 @@ module _ (setup : Setup) (lets : Lets) (seat : ℕ) (after : ActorState) (past :
         near : (world setup h).store.version ≤ base + 512
         near = omega (arith, enough, few)
 
-        told_on : GivenSo given → (world setup (told_entry seat given request reply ∷ h)).store.version + ahead (world setup (told_entry seat given request reply ∷ h)) (told_to given next.caches request reply) ≤ (world setup h).store.version + ahead (world setup h) given
+        told_on : GivenSo given → (world setup (told_entry seat given request reply ∷ h)).store.version + ahead (world setup
+            (told_entry seat given request reply ∷ h)) (told_to given next.caches request reply) ≤ (world setup h).store.version + ahead (world setup h) given
         told_on (GivesTask e) = task_on setup seat given request reply h g given_kind here may next.caches e
         told_on (GivesStart e) = no_start given request given_kind g.ask e
         told_on (GivesRead k e) = read_kept setup seat given request reply h g given_kind here may base next.caches k e low near at
@@ -331,7 +361,8 @@ module _ (setup : Setup) (lets : Lets) (seat : ℕ) (after : ActorState) (past :
   Behind s h = (place : ℕ) (kind : Kind) → place < s.pass.behind → kind_in_order s.role place ≡ Some kind → IsReached (world setup h).store.version seat h kind
 
   -- past it the second part begins
-  begins : (s : ActorState) (h : List Entry) (b : ℕ) → Runs lets seat after past left idle s h b → s.role.kind ≡ seats.Scheduler → IsReady seat s h → s.under ≡ None → passing s ≡ None → Behind s h → KnowsBehind setup seat s.role s.pass h → pods_writes (world setup h) ≤ 512
+  begins : (s : ActorState) (h : List Entry) (b : ℕ) → Runs lets seat after past left idle s h b → s.role.kind ≡ seats.Scheduler → IsReady seat s h
+      → s.under ≡ None → passing s ≡ None → Behind s h → KnowsBehind setup seat s.role s.pass h → pods_writes (world setup h) ≤ 512
       → (world setup past).store.version ≤ (world setup h).store.version + pods_writes (world setup h)
   begins s h b runs kind ready none over behind knows few =
       second (world setup h).store.version (pods_writes (world setup h)) few (first_low setup h) s h b runs kind point knows
@@ -353,29 +384,35 @@ module _ (setup : Setup) (lets : Lets) (seat : ℕ) (after : ActorState) (past :
       }
 
   -- a read of the first pass
-  behind_on : (x : ActorState) (request : Request) (reply : Reply) (h : List Entry) (caches : AllKnown) (k : Kind) → IsCallGiven setup seat x request reply h → x.role.kind ≡ seats.Scheduler → x.given ≡ Some (givens.Read k) → Behind x h
+  behind_on : (x : ActorState) (request : Request) (reply : Reply) (h : List Entry) (caches : AllKnown) (k : Kind)
+      → IsCallGiven setup seat x request reply h → x.role.kind ≡ seats.Scheduler → x.given ≡ Some (givens.Read k) → Behind x h
       → Behind (told_to x caches request reply) (told_entry seat x request reply ∷ h)
   behind_on x request reply h caches k given kind_is eg behind place kind lt there = by (pass_on setup seat x request reply h given caches)
     where
-      moved : (kind : Kind) → IsReached (world setup h).store.version seat (told_entry seat x request reply ∷ h) kind → IsReached (world setup (told_entry seat x request reply ∷ h)).store.version seat (told_entry seat x request reply ∷ h) kind
+      moved : (kind : Kind) → IsReached (world setup h).store.version seat (told_entry seat x request reply ∷ h) kind
+          → IsReached (world setup (told_entry seat x request reply ∷ h)).store.version seat (told_entry seat x request reply ∷ h) kind
       moved kind q = let v = (read_called setup seat x request reply h given k eg).stays.version in let up = q.up in record { from = q.from; is = q.is; up = omega (arith, v, up) }
 
       there_before : kind_in_order x.role place ≡ Some kind
       there_before = ap (λ (r : Role). kind_in_order r place) (sym (answer_role x caches request (Told reply))) ∙ there
 
       old : place < x.pass.behind → IsReached (world setup (told_entry seat x request reply ∷ h)).store.version seat (told_entry seat x request reply ∷ h) kind
-      old before = moved kind (reached_on setup seat (world setup h).store.version x request reply h given kind_is (first_low setup h) (omega arith) (omega arith) kind (behind place kind before there_before))
+      old before = moved kind (reached_on setup seat (world setup h).store.version x request reply h given kind_is (first_low setup h) (omega arith)
+          (omega arith) kind (behind place kind before there_before))
 
-      by : PassOn seat x (told_to x caches request reply) (told_entry seat x request reply ∷ h) (world setup h).store.version → IsReached (world setup (told_entry seat x request reply ∷ h)).store.version seat (told_entry seat x request reply ∷ h) kind
+      by : PassOn seat x (told_to x caches request reply) (told_entry seat x request reply ∷ h) (world setup h).store.version
+          → IsReached (world setup (told_entry seat x request reply ∷ h)).store.version seat (told_entry seat x request reply ∷ h) kind
       by (Stands same) = old (omega (arith, lt, same))
       by (GoesOn j at_j reached_j goes) = elim (at_or_before place x.pass.behind (omega (arith, lt, goes))) [
         | inl before ↦ old before
         | inr here ↦
             let j_is = one j kind (sym at_j ∙ (ap (kind_in_order x.role) (sym here) ∙ there_before)) in
-            moved kind (subst (IsReached (world setup h).store.version seat (told_entry seat x request reply ∷ h)) j_is (record { from = (world setup h).store.version; is = reached_j; up = omega arith }))
+            moved kind (subst (IsReached (world setup h).store.version seat (told_entry seat x request reply ∷ h)) j_is
+            (record { from = (world setup h).store.version; is = reached_j; up = omega arith }))
       ]
 
-  first : (s : ActorState) (h : List Entry) (b : ℕ) → Runs lets seat after past left idle s h b → s.role.kind ≡ seats.Scheduler → s.under ≡ None → Behind s h → KnowsBehind setup seat s.role s.pass h → pods_writes (world setup h) ≤ 512
+  first : (s : ActorState) (h : List Entry) (b : ℕ) → Runs lets seat after past left idle s h b → s.role.kind ≡ seats.Scheduler → s.under ≡ None
+      → Behind s h → KnowsBehind setup seat s.role s.pass h → pods_writes (world setup h) ≤ 512
       → (world setup past).store.version ≤ (world setup h).store.version + pods_writes (world setup h)
   first s h b (IsSpent none state entries rest busy) kind rests behind knows few = let e = ap (λ es. (world setup es).store.version) entries in omega (arith, e)
   first s h b (IsIdle some ready turn entries rest calm) kind rests behind knows few = let e = ap (λ es. (world setup es).store.version) entries in omega (arith, e)
@@ -392,7 +429,8 @@ module _ (setup : Setup) (lets : Lets) (seat : ℕ) (after : ActorState) (past :
       given_kind = ap (λ (r : Role). r.kind) (turn_role s given (Call request) turn) ∙ kind
 
       by : TurnOf s given
-          → (next.role.kind ≡ seats.Scheduler → next.under ≡ None → Behind next (told_entry seat given request reply ∷ h) → KnowsBehind setup seat next.role next.pass (told_entry seat given request reply ∷ h) → pods_writes (world setup (told_entry seat given request reply ∷ h)) ≤ 512
+          → (next.role.kind ≡ seats.Scheduler → next.under ≡ None → Behind next (told_entry seat given request reply ∷ h)
+          → KnowsBehind setup seat next.role next.pass (told_entry seat given request reply ∷ h) → pods_writes (world setup (told_entry seat given request reply ∷ h)) ≤ 512
           → (world setup past).store.version ≤ (world setup (told_entry seat given request reply ∷ h)).store.version + pods_writes (world setup (told_entry seat given request reply ∷ h)))
           → (world setup past).store.version ≤ (world setup h).store.version + pods_writes (world setup h)
       by (IsPast eu el ep) again = begins s h b (Asks given next request reply some ready turn lets_it absorbs more) kind ready eu ep behind knows few
@@ -409,21 +447,25 @@ module _ (setup : Setup) (lets : Lets) (seat : ℕ) (after : ActorState) (past :
               let v = r.stays.version in
               let p : pods_writes (world setup (told_entry seat given request reply ∷ h)) ≡ pods_writes (world setup h) = ap (total pod_writes) r.stays.rows in
               let is : next ≡ told_to given next.caches request reply = absorbs in
-              let is_read : told_to given next.caches request reply ≡ read_told (learned given next.caches request reply) k request reply = ap (given_told (learned given next.caches request reply) request reply) eg in
+              let is_read : told_to given next.caches request reply ≡ read_told (learned given next.caches request reply) k request reply =
+              ap (given_told (learned given next.caches request reply) request reply) eg in
               let here : Behind given h = subst (λ y. Behind y h) (sym e) behind in
               let ih = again (ap (λ (y : Role). y.kind) (still_role s given next (Call request) request (Told reply) turn absorbs) ∙ kind)
-              (ap (λ (y : ActorState). y.under) (is ∙ is_read) ∙ no_under) (subst (λ y. Behind y (told_entry seat given request reply ∷ h)) (sym is) (behind_on given request reply h next.caches k g given_kind eg here))
+              (ap (λ (y : ActorState). y.under) (is ∙ is_read) ∙ no_under)
+              (subst (λ y. Behind y (told_entry seat given request reply ∷ h)) (sym is) (behind_on given request reply h next.caches k g given_kind eg here))
               (told_knows setup seat s given request reply h (subst IsBuiltKind (sym kind) tt) ready turn whole knows next absorbs) (omega (arith, p, few)) in
               omega (arith, ih, v, p)
   first s h b (IsHeld given next request some ready turn held absorbs more) kind rests behind knows few = by (turn_of s given request turn) (λ nk nu nb nn. first next h (b - 1) more nk nu nb nn few)
     where
       by : TurnOf s given
-          → (next.role.kind ≡ seats.Scheduler → next.under ≡ None → Behind next h → KnowsBehind setup seat next.role next.pass h → (world setup past).store.version ≤ (world setup h).store.version + pods_writes (world setup h))
+          → (next.role.kind ≡ seats.Scheduler → next.under ≡ None → Behind next h → KnowsBehind setup seat next.role next.pass h
+          → (world setup past).store.version ≤ (world setup h).store.version + pods_writes (world setup h))
           → (world setup past).store.version ≤ (world setup h).store.version + pods_writes (world setup h)
       by (IsPast eu el ep) again = begins s h b (IsHeld given next request some ready turn held absorbs more) kind ready eu ep behind knows few
       by (IsBefore gg e) again =
           again (ap (λ (y : Role). y.kind) (still_role s given next (Call request) request Lost turn absorbs) ∙ kind) (ap (λ (y : ActorState). y.under) is)
-          (subst (λ y. Behind y h) (sym is) (subst (λ y. Behind (record y { under = None; given = None }) h) (sym e) behind)) (lost_knows setup seat given next request h (turned_knows setup seat s given (Call request) h turn knows) absorbs)
+          (subst (λ y. Behind y h) (sym is) (subst (λ y. Behind (record y { under = None; given = None }) h) (sym e) behind))
+          (lost_knows setup seat given next request h (turned_knows setup seat s given (Call request) h turn knows) absorbs)
         where
           no_under : given.under ≡ None
           no_under = ap (λ (y : ActorState). y.under) e ∙ rests

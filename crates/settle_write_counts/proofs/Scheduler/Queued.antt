@@ -1,17 +1,17 @@
 -- What the keys that wait in a scheduler come to in writes: what it does to the queue, to the caches and to the store never raises it.
 use Rattle.std.proofs.Common.{◌≡◌, ◌≢◌, ◌∙◌, ◌⊎◌, ℕ, ◌+◌, ◌≤◌, List, [], ◌∷◌, length, Bool, true, false, true≢false, Option, Some, None, inl, inr, refl, sym, ap, subst, arith, if◌then◌else◌}
 use Rattle.std.specs.Prelude.{◌<◌, map, not, ⊤}
-use Rattle.kube_types.specs.declared.key.Key.{Key}
-use Rattle.kube_types.specs.declared.parts.Kind.{Kind}
-use Rattle.kube_types.specs.declared.parts.Kind.TheVariants as kinds
-use Rattle.kube_types.specs.declared.objects.Claim.{Claim as ClaimData}
-use Rattle.kube_types.specs.declared.objects.Volume.{Volume as VolumeData}
-use Rattle.kube_types.specs.declared.objects.Object.{Object}
-use Rattle.kube_types.specs.declared.objects.Object.TheVariants.{Class, Node, Volume, Claim, Pod}
-use Rattle.kube_types.specs.Bindings.{is_empty}
-use Rattle.kube_types.specs.Keys.{AreRows, key_of, put_row, row_at, without_row}
-use Rattle.kube_types.proofs.KeyOrder.{row_at-put_row, row_at-put_row_other, row_at-without_row, row_at-without_row_other}
-use Rattle.kube_types.proofs.SameKeys.{key_tells}
+use Rattle.kube_objects.specs.declared.key.Key.{Key}
+use Rattle.kube_parts.specs.declared.parts.Kind.{Kind}
+use Rattle.kube_parts.specs.declared.parts.Kind.TheVariants as kinds
+use Rattle.kube_objects.specs.declared.objects.Claim.{Claim as ClaimData}
+use Rattle.kube_objects.specs.declared.objects.Volume.{Volume as VolumeData}
+use Rattle.kube_objects.specs.declared.objects.Object.{Object}
+use Rattle.kube_objects.specs.declared.objects.Object.TheVariants.{Class, Node, Volume, Claim, Pod}
+use Rattle.kube_objects.specs.Bindings.{is_empty}
+use Rattle.kube_objects.specs.Keys.{AreRows, key_of, put_row, row_at, without_row}
+use Rattle.kube_objects.proofs.KeyOrder.{row_at-put_row, row_at-put_row_other, row_at-without_row, row_at-without_row_other}
+use Rattle.kube_objects.proofs.SameKeys.{key_tells}
 use Rattle.call_types.specs.declared.entry.Entry.{Entry}
 use Rattle.call_types.specs.declared.reply.Event.{Event}
 use Rattle.call_types.specs.declared.reply.Reply.{Reply}
@@ -85,12 +85,14 @@ module _ (role : Role) (memory : Memory) (rows stored : List Object) (kind : rol
   queues_none : {X : Type 0} (key other : Key) → GivesNone role memory rows key (firsts.Queues other) → X
   queues_none key other gives = absurd (subst (λ k. IsFirstOf k role.node memory rows key (firsts.Queues other)) kind gives.decided)
 
-  dropped_few : (first : First) (key : Key) (w : Work) → oldest_of w.waiting ≡ Some key → GivesNone role memory rows key first → work_cost (key_writes stored) (dropped first key w) ≤ work_cost (key_writes stored) w
+  dropped_few : (first : First) (key : Key) (w : Work) → oldest_of w.waiting ≡ Some key → GivesNone role memory rows key first
+      → work_cost (key_writes stored) (dropped first key w) ≤ work_cost (key_writes stored) w
   dropped_few firsts.Drops key w old gives = let a = begun_cost (key_writes stored) key w old in let b = finished_cost (key_writes stored) key (begun w) in omega (arith, a, b)
   dropped_few (firsts.Begins task) key w old gives = let a = begun_cost (key_writes stored) key w old in let b = finished_cost (key_writes stored) key (begun w) in omega (arith, a, b)
   dropped_few (firsts.Queues other) key w old gives = queues_none key other gives
 
-  decided_few : (after_ : Work) (under : Option Under) (w : Work) → Decides role memory rows after_ under w → under_writes under + work_cost (key_writes stored) after_ ≤ work_cost (key_writes stored) w
+  decided_few : (after_ : Work) (under : Option Under) (w : Work) → Decides role memory rows after_ under w
+      → under_writes under + work_cost (key_writes stored) after_ ≤ work_cost (key_writes stored) w
   decided_few after_ under w (Nothing empty same none) = let a = ap (work_cost (key_writes stored)) same in let b = ap under_writes none in omega (arith, a, b)
   decided_few after_ under w (Begins u old gives same some) =
       let few = begins_few role memory rows u kind gives in
@@ -105,7 +107,8 @@ module _ (role : Role) (memory : Memory) (rows stored : List Object) (kind : rol
       omega (arith, a, b)
 
 -- a turn that gives a call leaves it as it is
-pub turned_few : (setup : Setup) (s given : ActorState) (request : Request) (h : List Entry) → s.role.kind ≡ seats.Scheduler → IsTurn s given (Call request) → (passing s ≡ None → SeesStore setup s h) → ahead (world setup h) given ≤ ahead (world setup h) s
+pub turned_few : (setup : Setup) (s given : ActorState) (request : Request) (h : List Entry) → s.role.kind ≡ seats.Scheduler
+    → IsTurn s given (Call request) → (passing s ≡ None → SeesStore setup s h) → ahead (world setup h) given ≤ ahead (world setup h) s
 turned_few setup s given request h kind turn exact = by s.memory.stale s.under (start_call s.role s.memory) (unlisted s) (passing s) refl refl turn
   where
     w : World
@@ -117,7 +120,8 @@ turned_few setup s given request h kind turn exact = by s.memory.stale s.under (
     shown : passing s ≡ None → (key : Key) → row_at key (all_objects s.caches) ≡ row_at key (world setup h).store.rows
     shown over key = exact over key (ap (λ k. follows k key.kind) kind ∙ follows_all key.kind)
 
-    keys : (x : Work) (under : Option Under) → s.under ≡ None → passing s ≡ None → Decides s.role s.memory (all_objects s.caches) x under s.work → AfterKeys s given (Call request) x under → ahead (world setup h) given ≤ ahead (world setup h) s
+    keys : (x : Work) (under : Option Under) → s.under ≡ None → passing s ≡ None → Decides s.role s.memory (all_objects s.caches) x under s.work
+        → AfterKeys s given (Call request) x under → ahead (world setup h) given ≤ ahead (world setup h) s
     keys x (Some u) eu ep d b =
         let c = decided_few s.role s.memory (all_objects s.caches) (world setup h).store.rows kind (shown ep) x (Some u) s.work d in
         let z = ap under_writes eu in
@@ -127,7 +131,8 @@ turned_few setup s given request h kind turn exact = by s.memory.stale s.under (
         same (record s { work = x; pass = record { behind = 0; event = false }; given = Some (givens.Read b.kind) }) b.state (omega (arith, c))
     keys x None eu ep d (inr b) = none_some (sym (ap call_in b.idle))
 
-    by : (stale : Bool) (u : Option Under) (start : Option Request) (l p : Option Kind) → s.under ≡ u → passing s ≡ p → TurnBy s given (Call request) stale u start l p → ahead (world setup h) given ≤ ahead (world setup h) s
+    by : (stale : Bool) (u : Option Under) (start : Option Request) (l p : Option Kind) → s.under ≡ u → passing s ≡ p
+        → TurnBy s given (Call request) stale u start l p → ahead (world setup h) given ≤ ahead (world setup h) s
     by true u start l p eu ep t = none_some (sym (ap call_in t.idle))
     by false (Some u) start l p eu ep t = same (record s { given = Some givens.Task }) t.state (omega arith)
     by false None (Some r) l p eu ep t = same (record s { given = Some givens.Start }) t.state (omega arith)
@@ -189,7 +194,8 @@ module _ (old new : World) (reply : Reply) (wrote : Wrote old new reply) (order 
   pub own_none : key_writes new.store.rows (key_of wrote.event.object) ≡ 0
   own_none = by wrote.rows
     where
-      by : ((reply ≡ replies.Done wrote.event.object) × (new.store.rows ≡ put_row wrote.event.object old.store.rows)) ⊎ ((reply ≡ replies.Left wrote.event.object) × (new.store.rows ≡ without_row (key_of wrote.event.object) old.store.rows))
+      by : ((reply ≡ replies.Done wrote.event.object) × (new.store.rows ≡ put_row wrote.event.object old.store.rows))
+          ⊎ ((reply ≡ replies.Left wrote.event.object) × (new.store.rows ≡ without_row (key_of wrote.event.object) old.store.rows))
           → key_writes new.store.rows (key_of wrote.event.object) ≡ 0
       by (inl put) = ap (λ rows. writes_if (row_at (key_of wrote.event.object) rows)) put.1 ∙ (ap writes_if (row_at-put_row wrote.event.object old.store.rows) ∙ none wrote.event.object put.0)
       by (inr gone) = ap (λ rows. writes_if (row_at (key_of wrote.event.object) rows)) gone.1 ∙ ap writes_if (row_at-without_row (key_of wrote.event.object) old.store.rows order)
@@ -197,7 +203,8 @@ module _ (old new : World) (reply : Reply) (wrote : Wrote old new reply) (order 
   pub other_same : (key : Key) → key ≢ key_of wrote.event.object → key_writes new.store.rows key ≡ key_writes old.store.rows key
   other_same key other = ap writes_if (by wrote.rows)
     where
-      by : ((reply ≡ replies.Done wrote.event.object) × (new.store.rows ≡ put_row wrote.event.object old.store.rows)) ⊎ ((reply ≡ replies.Left wrote.event.object) × (new.store.rows ≡ without_row (key_of wrote.event.object) old.store.rows))
+      by : ((reply ≡ replies.Done wrote.event.object) × (new.store.rows ≡ put_row wrote.event.object old.store.rows))
+          ⊎ ((reply ≡ replies.Left wrote.event.object) × (new.store.rows ≡ without_row (key_of wrote.event.object) old.store.rows))
           → row_at key new.store.rows ≡ row_at key old.store.rows
       by (inl put) = ap (row_at key) put.1 ∙ row_at-put_row_other key wrote.event.object old.store.rows (λ s. other (sym s))
       by (inr gone) = ap (row_at key) gone.1 ∙ row_at-without_row_other (key_of wrote.event.object) key old.store.rows (λ s. other (sym s))
@@ -209,7 +216,8 @@ module _ (old new : World) (reply : Reply) (wrote : Wrote old new reply) (order 
       by (inl same) = let z = ap (key_writes new.store.rows) same ∙ own_none in omega (arith, z)
       by (inr other) = let z = other_same key other in omega (arith, z)
 
-  pub log_none : (base : ℕ) → ((x : Event) → IsIn x old.log → base < x.version → key_writes old.store.rows (key_of x.object) ≤ 0) → (x : Event) → IsIn x new.log → base < x.version → key_writes new.store.rows (key_of x.object) ≤ 0
+  pub log_none : (base : ℕ) → ((x : Event) → IsIn x old.log → base < x.version → key_writes old.store.rows (key_of x.object) ≤ 0) → (x : Event)
+      → IsIn x new.log → base < x.version → key_writes new.store.rows (key_of x.object) ≤ 0
   log_none base before x i lt = by (subst (IsIn x) wrote.log i)
     where
       by : IsIn x (wrote.event ∷ old.log) → key_writes new.store.rows (key_of x.object) ≤ 0

@@ -33,7 +33,8 @@ abbrev pub if_agent : SeatKind → ℕ → ℕ
 if_agent seats.Agent n = n
 if_agent kind n = 0
 
-abbrev pub agents_writes : (setup : Setup) (lets : Lets) (past : List Entry) (left : ℕ) (ds : List Drainer) (h : List Entry) (b : ℕ) (after : List Drainer) (whole : Bool) → IsRound lets past left ds h b after whole → ℕ
+abbrev pub agents_writes : (setup : Setup) (lets : Lets) (past : List Entry) (left : ℕ) (ds : List Drainer) (h : List Entry) (b : ℕ)
+    (after : List Drainer) (whole : Bool) → IsRound lets past left ds h b after whole → ℕ
 agents_writes setup lets past left ds h b after whole (Ends entries rest) = 0
 agents_writes setup lets past left ds h b after whole (Turns {ds = others} {after = changed} {whole = ended} d ran middle rest idle same runs more) =
     if_agent d.actor.role.kind (writes_since setup h middle) + agents_writes setup lets past left others middle rest changed ended more

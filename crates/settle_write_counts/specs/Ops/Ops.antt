@@ -1,11 +1,11 @@
 -- How many writes the provisioner and reclaimer does in a slot, by the objects with which the slot begins.
 -- A choice of this project.
 use Rattle.std.specs.Prelude.{ℕ, ◌≡◌, ◌≤◌, ◌+◌, ◌*◌, Bool, false, not, ◌||◌, List, Option, Some, None}
-use Rattle.kube_types.specs.declared.objects.Object.{Object}
-use Rattle.kube_types.specs.declared.objects.Object.TheVariants.{Volume, Claim}
-use Rattle.kube_types.specs.declared.uid.Uid.{Uid}
-use Rattle.kube_types.specs.Bindings.{is_deleting, is_ended}
-use Rattle.kube_types.specs.Keys.{row_at}
+use Rattle.kube_objects.specs.declared.objects.Object.{Object}
+use Rattle.kube_objects.specs.declared.objects.Object.TheVariants.{Volume, Claim}
+use Rattle.kube_parts.specs.declared.uid.Uid.{Uid}
+use Rattle.kube_objects.specs.Bindings.{is_deleting, is_ended}
+use Rattle.kube_objects.specs.Keys.{row_at}
 use Rattle.call_types.specs.declared.entry.Entry.{Entry}
 use Rattle.call_types.specs.declared.request.SeatKind.TheVariants as seats
 use Rattle.call_types.specs.declared.setup.Setup.{Setup}
@@ -43,7 +43,8 @@ settle_write_counts setup w = total (ops_left w.store.rows) w.store.rows + nodes
 -- the provisioner and reclaimer, run with nothing under way: each of its writes lowers that number, and no call of it raises it
 abbrev pub OpsWritesFall : Type 0
 OpsWritesFall =
-    (setup : Setup) (lets : Lets) (seat : ℕ) (old after : ActorState) (h past : List Entry) (b left : ℕ) (idle : Bool) → old.role.kind ≡ seats.Ops → IsRunOf setup past → (old.memory.stale ≡ false → old.under ≡ None)
+    (setup : Setup) (lets : Lets) (seat : ℕ) (old after : ActorState) (h past : List Entry) (b left : ℕ) (idle : Bool) → old.role.kind ≡ seats.Ops
+    → IsRunOf setup past → (old.memory.stale ≡ false → old.under ≡ None)
     → Runs lets seat after past left idle (woken old) h b → writes_since setup h past + settle_write_counts setup (world setup past) ≤ settle_write_counts setup (world setup h)
 
 -- it is no more than these, in any world
@@ -54,6 +55,7 @@ OpsWritesAreBounded = (setup : Setup) (w : World) → settle_write_counts setup 
 -- that is ahead
 abbrev pub OpsSlotsWriteLittle : Type 0
 OpsSlotsWriteLittle =
-    (setup : Setup) (lets : Lets) (seat : ℕ) (old after : ActorState) (h past : List Entry) (b left : ℕ) (idle : Bool) → old.role.kind ≡ seats.Ops → IsRunOf setup past → (old.memory.stale ≡ false → old.under ≡ None)
+    (setup : Setup) (lets : Lets) (seat : ℕ) (old after : ActorState) (h past : List Entry) (b left : ℕ) (idle : Bool) → old.role.kind ≡ seats.Ops
+    → IsRunOf setup past → (old.memory.stale ≡ false → old.under ≡ None)
     → AnnotationsAreInOrder (world setup h) → Runs lets seat after past left idle (woken old) h b
     → writes_since setup h past ≤ 2 * claims_in (world setup h).store.rows + volumes_in (world setup h).store.rows + faults_left setup (world setup h).devices

@@ -16,5 +16,6 @@ use Rattle.settle_write_counts.specs.Scheduler.Pods.{pods_writes}
 -- epoch is stale makes no call
 abbrev pub PassedSchedulersWriteLittle : Type 0
 PassedSchedulersWriteLittle =
-    (setup : Setup) (lets : Lets) (seat : ℕ) (old after : ActorState) (h past : List Entry) (b left : ℕ) (idle : Bool) → old.role.kind ≡ seats.Scheduler → IsRunOf setup past → HoldsMountsAlone lets → (old.memory.stale ≡ false → old.under ≡ None)
+    (setup : Setup) (lets : Lets) (seat : ℕ) (old after : ActorState) (h past : List Entry) (b left : ℕ) (idle : Bool)
+    → old.role.kind ≡ seats.Scheduler → IsRunOf setup past → HoldsMountsAlone lets → (old.memory.stale ≡ false → old.under ≡ None)
     → Runs lets seat after past left idle (woken old) h b → (world setup past).store.version ≤ (world setup h).store.version + pods_writes (world setup h)

@@ -4,12 +4,12 @@
 use Rattle.std.specs.Prelude.{ℕ, ◌≡◌, ◌≢◌, ◌≤◌, ◌+◌, ◌*◌, Bool, true, false, List, [], ◌∷◌, Some, None, slice_get}
 use Rattle.std.specs.Ordering.{is_eq}
 use Rattle.plain_data.specs.Pairs.{ArePairs, Pair, pair_key, text_cmp}
-use Rattle.kube_types.specs.declared.key.Key.{Key}
-use Rattle.kube_types.specs.declared.objects.Claim.{Claim as ClaimData}
-use Rattle.kube_types.specs.declared.objects.Object.{Object}
-use Rattle.kube_types.specs.declared.objects.Object.TheVariants.{Claim}
-use Rattle.kube_types.specs.Bindings.{selected_node}
-use Rattle.kube_types.specs.Keys.{AreRows, row_at}
+use Rattle.kube_objects.specs.declared.key.Key.{Key}
+use Rattle.kube_objects.specs.declared.objects.Claim.{Claim as ClaimData}
+use Rattle.kube_objects.specs.declared.objects.Object.{Object}
+use Rattle.kube_objects.specs.declared.objects.Object.TheVariants.{Claim}
+use Rattle.kube_objects.specs.Bindings.{selected_node}
+use Rattle.kube_objects.specs.Keys.{AreRows, row_at}
 use Rattle.call_types.specs.declared.entry.Entry.{Entry}
 use Rattle.call_types.specs.declared.request.SeatKind.TheVariants as seats
 use Rattle.call_types.specs.declared.setup.Setup.{Setup}
@@ -59,14 +59,16 @@ to_write setup w = work_left setup w + nodes_in w
 -- its epoch is stale makes no call
 abbrev pub OthersWriteLittle : Type 0
 OthersWriteLittle =
-    (setup : Setup) (lets : Lets) (seat : ℕ) (old after : ActorState) (h past : List Entry) (b left : ℕ) (idle : Bool) → IsBuiltKind old.role.kind → old.role.kind ≢ seats.Scheduler → old.role.kind ≢ seats.Ops → IsRunOf setup past
+    (setup : Setup) (lets : Lets) (seat : ℕ) (old after : ActorState) (h past : List Entry) (b left : ℕ) (idle : Bool) → IsBuiltKind old.role.kind
+    → old.role.kind ≢ seats.Scheduler → old.role.kind ≢ seats.Ops → IsRunOf setup past
     → (old.memory.stale ≡ false → old.under ≡ None) → DecisionsPay setup seat old.role → Runs lets seat after past left idle (woken old) h b
     → writes_since setup h past + work_left setup (world setup past) ≤ work_left setup (world setup h)
 
 -- nor does it select a node
 abbrev pub OthersSelectNone : Type 0
 OthersSelectNone =
-    (setup : Setup) (lets : Lets) (seat : ℕ) (old after : ActorState) (h past : List Entry) (b left : ℕ) (idle : Bool) → IsBuiltKind old.role.kind → old.role.kind ≢ seats.Scheduler → old.role.kind ≢ seats.Ops → IsRunOf setup past
+    (setup : Setup) (lets : Lets) (seat : ℕ) (old after : ActorState) (h past : List Entry) (b left : ℕ) (idle : Bool) → IsBuiltKind old.role.kind
+    → old.role.kind ≢ seats.Scheduler → old.role.kind ≢ seats.Ops → IsRunOf setup past
     → Runs lets seat after past left idle (woken old) h b → nodes_in (world setup past) ≤ nodes_in (world setup h)
 
 -- the provisioner and reclaimer: a node that it takes back is one less, and a phase Failed is written for a planned fault that came
@@ -79,7 +81,8 @@ OpsWriteLittle =
 -- a scheduler selects no more nodes than it writes
 abbrev pub SchedulersSelectFew : Type 0
 SchedulersSelectFew =
-    (setup : Setup) (lets : Lets) (seat : ℕ) (old after : ActorState) (h past : List Entry) (b left : ℕ) (idle : Bool) → old.role.kind ≡ seats.Scheduler → IsRunOf setup past → Runs lets seat after past left idle (woken old) h b
+    (setup : Setup) (lets : Lets) (seat : ℕ) (old after : ActorState) (h past : List Entry) (b left : ℕ) (idle : Bool)
+    → old.role.kind ≡ seats.Scheduler → IsRunOf setup past → Runs lets seat after past left idle (woken old) h b
     → nodes_in (world setup past) ≤ nodes_in (world setup h) + writes_since setup h past
 
 -- a round of all actors of a drain, each of which pays and begins with nothing under way: what the scheduler may write counts twice, since ops

@@ -1,9 +1,9 @@
 -- How many writes and calls a round makes, by what its world has and has still to do.
 -- A choice of this project.
 use Rattle.std.specs.Prelude.{ℕ, ◌≡◌, ◌≤◌, ◌+◌, ◌*◌, ◌/◌, Bool, List, Some, length, slice_get}
-use Rattle.kube_types.specs.declared.objects.Object.{Object}
-use Rattle.kube_types.specs.declared.objects.Object.TheVariants.{Pod}
-use Rattle.kube_types.specs.Keys.{AreRows}
+use Rattle.kube_objects.specs.declared.objects.Object.{Object}
+use Rattle.kube_objects.specs.declared.objects.Object.TheVariants.{Pod}
+use Rattle.kube_objects.specs.Keys.{AreRows}
 use Rattle.call_types.specs.declared.entry.Entry.{Entry}
 use Rattle.call_types.specs.declared.setup.Setup.{Setup}
 use Rattle.binder_model.specs.Promises.{IsRunOf}
@@ -27,7 +27,8 @@ ArePaying setup ds = (place : ℕ) (d : Drainer) → slice_get ds place ≡ Some
 -- a round adds no more objects than there are claims: each new one is the volume of a claim that stood when it began
 abbrev pub RoundsAddLittle : Type 0
 RoundsAddLittle =
-    (setup : Setup) (lets : Lets) (ds after : List Drainer) (h past : List Entry) (b left : ℕ) (whole : Bool) → AreRoles (roles_of ds) → AreAtRest ds → IsRunOf setup past → IsRound lets past left ds h b after whole
+    (setup : Setup) (lets : Lets) (ds after : List Drainer) (h past : List Entry) (b left : ℕ) (whole : Bool) → AreRoles (roles_of ds) → AreAtRest ds
+    → IsRunOf setup past → IsRound lets past left ds h b after whole
     → size_of_world (world setup past) ≤ size_of_world (world setup h) + claims_in (world setup h).store.rows
 
 -- the objects and the names of claims, with the volumes that may be made
@@ -45,7 +46,8 @@ pods_size w = total pod_size w.store.rows
 -- it adds no pod
 abbrev pub RoundsAddNoPod : Type 0
 RoundsAddNoPod =
-    (setup : Setup) (lets : Lets) (ds after : List Drainer) (h past : List Entry) (b left : ℕ) (whole : Bool) → AreRoles (roles_of ds) → AreAtRest ds → IsRunOf setup past → IsRound lets past left ds h b after whole
+    (setup : Setup) (lets : Lets) (ds after : List Drainer) (h past : List Entry) (b left : ℕ) (whole : Bool) → AreRoles (roles_of ds) → AreAtRest ds
+    → IsRunOf setup past → IsRound lets past left ds h b after whole
     → pods_size (world setup past) ≤ pods_size (world setup h)
 
 -- ---- writes
@@ -61,7 +63,8 @@ SizesBoundWrites = (setup : Setup) (w : World) → AreRows w.store.rows → Anno
 -- the writes of a round of actors that pay are no more
 abbrev pub WritesAreFew : Type 0
 WritesAreFew =
-    (setup : Setup) (lets : Lets) (ds after : List Drainer) (h past : List Entry) (b left : ℕ) (whole : Bool) → AreRoles (roles_of ds) → ArePaying setup ds → IsRunOf setup past → IsRound lets past left ds h b after whole
+    (setup : Setup) (lets : Lets) (ds after : List Drainer) (h past : List Entry) (b left : ℕ) (whole : Bool) → AreRoles (roles_of ds)
+    → ArePaying setup ds → IsRunOf setup past → IsRound lets past left ds h b after whole
     → pods_writes (world setup h) ≤ 512 → writes_since setup h past ≤ most_writes setup (world setup h)
 
 -- ---- calls
@@ -75,19 +78,23 @@ idle_calls actors size writes = actors * (3 * size + 62) + 5 * ((3 * size + 3 * 
 -- each write costs 23 calls at most, whichever actor makes it
 abbrev pub CallsAreFew : Type 0
 CallsAreFew =
-    (setup : Setup) (lets : Lets) (ds after : List Drainer) (h past : List Entry) (b left : ℕ) (whole : Bool) → AreRoles (roles_of ds) → AreAtRest ds → IsRunOf setup past → PassesReads lets → IsRound lets past left ds h b after whole
+    (setup : Setup) (lets : Lets) (ds after : List Drainer) (h past : List Entry) (b left : ℕ) (whole : Bool) → AreRoles (roles_of ds) → AreAtRest ds
+    → IsRunOf setup past → PassesReads lets → IsRound lets past left ds h b after whole
     → b ≤ left + (23 * writes_since setup h past + idle_calls (length ds) (most_size (world setup h)) (writes_since setup h past))
 
 -- so by the size of the world, by what there is to do and by the nodes
 abbrev pub CallsAreBounded : Type 0
 CallsAreBounded =
-    (setup : Setup) (lets : Lets) (ds after : List Drainer) (h past : List Entry) (b left : ℕ) (whole : Bool) → AreRoles (roles_of ds) → ArePaying setup ds → IsRunOf setup past → PassesReads lets → IsRound lets past left ds h b after whole
+    (setup : Setup) (lets : Lets) (ds after : List Drainer) (h past : List Entry) (b left : ℕ) (whole : Bool) → AreRoles (roles_of ds)
+    → ArePaying setup ds → IsRunOf setup past → PassesReads lets → IsRound lets past left ds h b after whole
     → pods_writes (world setup h) ≤ 512 → b ≤ left + (23 * most_writes setup (world setup h) + idle_calls (length ds) (most_size (world setup h)) (most_writes setup (world setup h)))
 
 -- and what was to be written pays once: with 23 calls for each thing by which a round lowers it, a round costs anew only 46 for each of what
 -- the scheduler may write, and what its actors call for beside their writes
 abbrev pub CallsArePaid : Type 0
 CallsArePaid =
-    (setup : Setup) (lets : Lets) (ds after : List Drainer) (h past : List Entry) (b left : ℕ) (whole : Bool) → AreRoles (roles_of ds) → ArePaying setup ds → IsRunOf setup past → PassesReads lets → IsRound lets past left ds h b after whole
+    (setup : Setup) (lets : Lets) (ds after : List Drainer) (h past : List Entry) (b left : ℕ) (whole : Bool) → AreRoles (roles_of ds)
+    → ArePaying setup ds → IsRunOf setup past → PassesReads lets → IsRound lets past left ds h b after whole
     → pods_writes (world setup h) ≤ 512
-    → b + 23 * to_write setup (world setup past) ≤ left + (23 * to_write setup (world setup h) + (46 * pods_writes (world setup h) + idle_calls (length ds) (most_size (world setup h)) (writes_since setup h past)))
+    → b + 23 * to_write setup (world setup past) ≤ left +
+    (23 * to_write setup (world setup h) + (46 * pods_writes (world setup h) + idle_calls (length ds) (most_size (world setup h)) (writes_since setup h past)))

@@ -1,9 +1,9 @@
 -- How many writes a scheduler does in a slot: for each pod without a node once.
 -- A choice of this project.
 use Rattle.std.specs.Prelude.{ℕ, ◌≡◌, ◌≤◌, ◌+◌, Bool, false, List, None, length, if◌then◌else◌}
-use Rattle.kube_types.specs.declared.objects.Object.{Object}
-use Rattle.kube_types.specs.declared.objects.Object.TheVariants.{Pod}
-use Rattle.kube_types.specs.Bindings.{is_scheduled}
+use Rattle.kube_objects.specs.declared.objects.Object.{Object}
+use Rattle.kube_objects.specs.declared.objects.Object.TheVariants.{Pod}
+use Rattle.kube_objects.specs.Bindings.{is_scheduled}
 use Rattle.call_types.specs.declared.entry.Entry.{Entry}
 use Rattle.call_types.specs.declared.request.SeatKind.TheVariants as seats
 use Rattle.call_types.specs.declared.setup.Setup.{Setup}
@@ -25,5 +25,6 @@ pods_writes w = total pod_writes w.store.rows
 -- the version rises by one at each write. A scheduler that was told that its epoch is stale makes no call
 abbrev pub SchedulersWriteLittle : Type 0
 SchedulersWriteLittle =
-    (setup : Setup) (lets : Lets) (seat : ℕ) (old after : ActorState) (h past : List Entry) (b left : ℕ) (idle : Bool) → old.role.kind ≡ seats.Scheduler → IsRunOf setup past → (old.memory.stale ≡ false → old.under ≡ None) → pods_writes (world setup h) ≤ 512
+    (setup : Setup) (lets : Lets) (seat : ℕ) (old after : ActorState) (h past : List Entry) (b left : ℕ) (idle : Bool)
+    → old.role.kind ≡ seats.Scheduler → IsRunOf setup past → (old.memory.stale ≡ false → old.under ≡ None) → pods_writes (world setup h) ≤ 512
     → Runs lets seat after past left idle (woken old) h b → (world setup past).store.version ≤ (world setup h).store.version + pods_writes (world setup h)

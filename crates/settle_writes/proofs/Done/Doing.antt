@@ -7,23 +7,41 @@ use Rattle.std.proofs.lemmas.Cmp.{nat_list_cmp_total}
 use Rattle.std.proofs.lemmas.Slice.Eq.{bytes_eq-Decides}
 use Rattle.plain_data.specs.Pairs.{Pair, pair_key, put_pair, without_key}
 use Rattle.plain_data.proofs.RowLookups.{find-put}
-use Rattle.kube_types.specs.declared.key.Key.{Key}
-use Rattle.kube_types.specs.declared.names.Due.TheVariants as dues
-use Rattle.kube_types.specs.declared.parts.Kind.{Kind}
-use Rattle.kube_types.specs.declared.parts.Kind.TheVariants as kinds
-use Rattle.kube_types.specs.declared.parts.VolumePhase.{VolumePhase}
-use Rattle.kube_types.specs.declared.parts.VolumePhase.TheVariants as volumes
-use Rattle.kube_types.specs.declared.objects.Class.{Class as ClassData}
-use Rattle.kube_types.specs.declared.objects.Claim.{Claim as ClaimData}
-use Rattle.kube_types.specs.declared.objects.Pod.{Pod as PodData}
-use Rattle.kube_types.specs.declared.objects.Ref.{Ref}
-use Rattle.kube_types.specs.declared.objects.Volume.{Volume as VolumeData}
-use Rattle.kube_types.specs.declared.objects.Object.{Object}
-use Rattle.kube_types.specs.declared.objects.Object.TheVariants.{Class, Node, Volume, Claim, Pod}
-use Rattle.kube_types.specs.declared.uid.Uid.{Uid}
-use Rattle.kube_types.specs.Bindings.{bind_completed, bound_by_controller, carries, has_key, has_name, is_available, is_bound, is_deleting, is_empty, is_ended, is_for, is_protected_volume, names_claim, pvc_protection, refers_carrying, uid_carries, yes}
-use Rattle.kube_types.specs.Keys.{key_of, kind_index, kind_of, meta_of, row_at}
-use Rattle.kube_types.proofs.KeyOrder.{row_at_key}
+use Rattle.kube_objects.specs.declared.key.Key.{Key}
+use Rattle.kube_parts.specs.declared.names.Due.TheVariants as dues
+use Rattle.kube_parts.specs.declared.parts.Kind.{Kind}
+use Rattle.kube_parts.specs.declared.parts.Kind.TheVariants as kinds
+use Rattle.kube_parts.specs.declared.parts.VolumePhase.{VolumePhase}
+use Rattle.kube_parts.specs.declared.parts.VolumePhase.TheVariants as volumes
+use Rattle.kube_objects.specs.declared.objects.Class.{Class as ClassData}
+use Rattle.kube_objects.specs.declared.objects.Claim.{Claim as ClaimData}
+use Rattle.kube_objects.specs.declared.objects.Pod.{Pod as PodData}
+use Rattle.kube_objects.specs.declared.objects.Ref.{Ref}
+use Rattle.kube_objects.specs.declared.objects.Volume.{Volume as VolumeData}
+use Rattle.kube_objects.specs.declared.objects.Object.{Object}
+use Rattle.kube_objects.specs.declared.objects.Object.TheVariants.{Class, Node, Volume, Claim, Pod}
+use Rattle.kube_parts.specs.declared.uid.Uid.{Uid}
+use Rattle.kube_objects.specs.Bindings.{
+  bind_completed,
+  bound_by_controller,
+  carries,
+  has_key,
+  has_name,
+  is_available,
+  is_bound,
+  is_deleting,
+  is_empty,
+  is_ended,
+  is_for,
+  is_protected_volume,
+  names_claim,
+  pvc_protection,
+  refers_carrying,
+  uid_carries,
+  yes,
+}
+use Rattle.kube_objects.specs.Keys.{key_of, kind_index, kind_of, meta_of, row_at}
+use Rattle.kube_objects.proofs.KeyOrder.{row_at_key}
 use Rattle.call_types.specs.declared.entry.Entry.{Entry}
 use Rattle.call_types.specs.declared.reply.Refusal.{Refusal}
 use Rattle.call_types.specs.declared.request.Request.{Request}
@@ -34,7 +52,23 @@ use Rattle.call_types.specs.declared.setup.Setup.{Setup}
 use Rattle.binder_model.specs.Answers.{Outcome, Removes, Says, Stores, finish, is_other_version, is_user, outcome, pod_with, refuse, refuse_stale, reply_of}
 use Rattle.binder_model.specs.At.{IsWrittenAt}
 use Rattle.binder_model.specs.BinderLicence.{IsFreeFor, IsTaken, MayAssignClass, MayTake}
-use Rattle.binder_model.specs.BindWrites.{annotated_meta, annotated_meta_if, claim_write, completed_with, is_completed_with, next_write, shows_bound, taken_for, unbound_volume, without_uid, write_bound, write_claim_status, write_completion, write_reference, write_unbound}
+use Rattle.binder_model.specs.BindWrites.{
+  annotated_meta,
+  annotated_meta_if,
+  claim_write,
+  completed_with,
+  is_completed_with,
+  next_write,
+  shows_bound,
+  taken_for,
+  unbound_volume,
+  without_uid,
+  write_bound,
+  write_claim_status,
+  write_completion,
+  write_reference,
+  write_unbound,
+}
 use Rattle.binder_model.specs.Devices.{device_answer}
 use Rattle.binder_model.specs.Due.{claim_guard_due}
 use Rattle.binder_model.specs.Imports.{ImportsPass}
@@ -137,9 +171,11 @@ same_version : (told now : ℕ) → is_other_version (Some told) now ≡ false �
 same_version told now v = let t : (told == now) ≡ true = not-false (told == now) v in grind (arith, nat_tests)
 
 -- what stands at the version of an object that stood is that object
-pub stands_it : (setup : Setup) (h : List Entry) (x old : Object) (key : Key) → Stood setup h x → key_of x ≡ key → row_at key (world setup h).store.rows ≡ Some old → is_other_version (Some (meta_of x).version) (meta_of old).version ≡ false → old ≡ x
+pub stands_it : (setup : Setup) (h : List Entry) (x old : Object) (key : Key) → Stood setup h x → key_of x ≡ key
+    → row_at key (world setup h).store.rows ≡ Some old → is_other_version (Some (meta_of x).version) (meta_of old).version ≡ false → old ≡ x
 stands_it setup h x old key was keyed there version =
-    one_version_one_object setup h old x (row_was setup h key old there) was (same_version (meta_of x).version (meta_of old).version version) (inl (row_at_key key old (world setup h).store.rows there ∙ sym keyed))
+    one_version_one_object setup h old x (row_was setup h key old there) was (same_version (meta_of x).version (meta_of old).version version)
+    (inl (row_at_key key old (world setup h).store.rows there ∙ sym keyed))
 
 -- what stood passes the tests of a create
 stood_valid : (setup : Setup) → ImportsPass setup.imports → (past : List Entry) (o : Object) → Stood setup past o → IsValid o
@@ -148,7 +184,8 @@ stood_valid setup imports (e ∷ past) o (inl before) = stood_valid setup import
 stood_valid setup imports (e ∷ past) o (inr there) = rows_are_valid setup (e ∷ past) imports (key_of o) o there
 
 -- a pod is bound to a node that has a name
-pub assigned_filled : (setup : Setup) (seat : ℕ) (h : List Entry) → ImportsPass setup.imports → IsHistory setup h → (key : Key) (uid : Uid) (node : List ℕ) → MayAssign (own seat h) key uid node → is_empty node ≡ false
+pub assigned_filled : (setup : Setup) (seat : ℕ) (h : List Entry) → ImportsPass setup.imports → IsHistory setup h
+    → (key : Key) (uid : Uid) (node : List ℕ) → MayAssign (own seat h) key uid node → is_empty node ≡ false
 assigned_filled setup seat h imports history key uid node may =
     let was : Stood setup h (Node may.on) = told_is_true setup h seat (Node may.on) history (newest_told (own seat h) (node_key node) (Node may.on) may.node_newest) in
     let named = node_named may.on (stood_valid setup imports h (Node may.on) was) in
@@ -194,10 +231,13 @@ finish_never s stale node None = tt
 finish_never s (Some current) node (Some p) = tt
 finish_never s None node (Some p) = refuse_never _ _ _ (refuse_never _ _ _ tt)
 
-finish_lasts : (setup : Setup) (w : World) (kind : SeatKind) (key : Key) (uid : Uid) (node : List ℕ) (epoch : ℕ) (o : Object) → written_by (effect setup w kind (requests.FinishPod key uid node epoch)) ≡ Some o → Lasts setup w kind (requests.FinishPod key uid node epoch)
+finish_lasts : (setup : Setup) (w : World) (kind : SeatKind) (key : Key) (uid : Uid) (node : List ℕ) (epoch : ℕ) (o : Object)
+    → written_by (effect setup w kind (requests.FinishPod key uid node epoch)) ≡ Some o → Lasts setup w kind (requests.FinishPod key uid node epoch)
 unfolding effect on_devices device_answer outcome
 finish_lasts setup w kind key uid node epoch o e =
-    leaves_last w o (outcome w.store kind (requests.FinishPod key uid node epoch) w.moment (stale_epoch w.devices (requests.FinishPod key uid node epoch))) (refuse_never _ _ _ (finish_never w.store (stale_epoch w.devices (requests.FinishPod key uid node epoch)) node (pod_with uid (row_at key w.store.rows)))) e
+    leaves_last w o (outcome w.store kind (requests.FinishPod key uid node epoch) w.moment
+    (stale_epoch w.devices (requests.FinishPod key uid node epoch)))
+    (refuse_never _ _ _ (finish_never w.store (stale_epoch w.devices (requests.FinishPod key uid node epoch)) node (pod_with uid (row_at key w.store.rows)))) e
 
 -- ---- contents
 
@@ -245,7 +285,9 @@ unbound_key : (v : VolumeData) → key_of (Volume v) ≡ key_of (Volume (unbound
 unfolding unbound_volume
 unbound_key v = by (has_key bound_by_controller v.meta.annotations)
   where
-    by : (b : Bool) → key_of (Volume v) ≡ key_of (Volume (if b then record v { claim_ref = None; meta = record v.meta { annotations = without_key bound_by_controller v.meta.annotations } } else record v { claim_ref = without_uid v.claim_ref }))
+    by : (b : Bool) → key_of (Volume v) ≡ key_of
+        (Volume (if b then record v { claim_ref = None; meta = record v.meta { annotations = without_key bound_by_controller v.meta.annotations } }
+        else record v { claim_ref = without_uid v.claim_ref }))
     by true = refl
     by false = refl
 
@@ -273,7 +315,8 @@ module _ (setup : Setup) (seat : ℕ) (h : List Entry) (imports : ImportsPass se
   claim_stood : (c : ClaimData) → ToldThisClaim c (own seat h) → Stood setup h (Claim c)
   claim_stood c told = told_is_true setup h seat (Claim c) history (told_map (is_claim c) (own seat h) told)
 
-  stored_it : (x old : Object) (key : Key) → Stood setup h x → key_of x ≡ key → row_at key (world setup h).store.rows ≡ Some old → is_other_version (Some (meta_of x).version) (meta_of old).version ≡ false → IsStored (world setup h) x
+  stored_it : (x old : Object) (key : Key) → Stood setup h x → key_of x ≡ key → row_at key (world setup h).store.rows ≡ Some old
+      → is_other_version (Some (meta_of x).version) (meta_of old).version ≡ false → IsStored (world setup h) x
   stored_it x old key was keyed there version =
       let at : row_at key (world setup h).store.rows ≡ Some x = there ∙ ap Some (stands_it setup h x old key was keyed there version) in
       record { there = ap (λ k. row_at k (world setup h).store.rows) keyed ∙ at; valid = rows_are_valid setup h imports key x at }
@@ -286,7 +329,8 @@ module _ (setup : Setup) (seat : ℕ) (h : List Entry) (imports : ImportsPass se
     over : (old : Object) → row_at (key_of o) (world setup h).store.rows ≡ Some old → content_of old ≢ content_of o → Lasts setup (world setup h) kind request
     over old there differs = changed (subst (λ row. IsChanged row o) (sym there) differs)
 
-  phase_at : (v : VolumeData) (phase : VolumePhase) (request : Request) → ToldThis v (own seat h) → is_empty v.meta.namespace ≡ true → v.phase ≢ phase → write_phase v phase ≡ request → Writes (world setup h) kind request o → Lasts setup (world setup h) kind request
+  phase_at : (v : VolumeData) (phase : VolumePhase) (request : Request) → ToldThis v (own seat h) → is_empty v.meta.namespace ≡ true
+      → v.phase ≢ phase → write_phase v phase ≡ request → Writes (world setup h) kind request o → Lasts setup (world setup h) kind request
   phase_at v phase request told none differs is writes = subst (λ r. Writes (world setup h) kind r o → Lasts setup (world setup h) kind r) is go writes
     where
       keyed : key_of (Volume v) ≡ volume_key v.meta.name
@@ -295,22 +339,27 @@ module _ (setup : Setup) (seat : ℕ) (h : List Entry) (imports : ImportsPass se
       go : Writes (world setup h) kind (write_phase v phase) o → Lasts setup (world setup h) kind (write_phase v phase)
       go i = phase_lasts setup (world setup h) kind v phase controller (stored_it (Volume v) i.old (volume_key v.meta.name) (volume_stood v told) keyed i.there i.version) differs
 
-  reference_at : (v : VolumeData) (c : ClaimData) (uid : Uid) (request : Request) → Stood setup h (Volume v) → Stood setup h (Claim c) → c.meta.uid ≡ Some uid → carries v c ≡ false → write_reference v c ≡ request → Writes (world setup h) kind request o
+  reference_at : (v : VolumeData) (c : ClaimData) (uid : Uid) (request : Request) → Stood setup h (Volume v) → Stood setup h (Claim c)
+      → c.meta.uid ≡ Some uid → carries v c ≡ false → write_reference v c ≡ request → Writes (world setup h) kind request o
       → Lasts setup (world setup h) kind request
   reference_at v c uid request was claim has free is writes = subst (λ r. Writes (world setup h) kind r o → Lasts setup (world setup h) kind r) is go writes
     where
       go : Writes (world setup h) kind (write_reference v c) o → Lasts setup (world setup h) kind (write_reference v c)
-      go i = reference_lasts setup (world setup h) kind v c uid controller (stored_it (Volume v) i.old (key_of (Volume (taken_for v c))) was (taken_key v c) i.there i.version) (stood_valid setup imports h (Claim c) claim) has free
+      go i = reference_lasts setup (world setup h) kind v c uid controller
+          (stored_it (Volume v) i.old (key_of (Volume (taken_for v c))) was (taken_key v c) i.there i.version) (stood_valid setup imports h (Claim c) claim) has free
 
   abbrev names_it : ClaimData → VolumeData → Object → Bool
   names_it c v x = is_completed_with (claim_in c x) v
 
-  completion_at : (v : VolumeData) (c : ClaimData) (request : Request) → ToldThisClaim c (own seat h) → is_completed_with c v ≡ false → write_completion v c ≡ request → Writes (world setup h) kind request o → written_by (effect setup (world setup h) kind request) ≡ Some o
+  completion_at : (v : VolumeData) (c : ClaimData) (request : Request) → ToldThisClaim c (own seat h) → is_completed_with c v ≡ false
+      → write_completion v c ≡ request → Writes (world setup h) kind request o → written_by (effect setup (world setup h) kind request) ≡ Some o
       → Lasts setup (world setup h) kind request
   unfolding completed_with updated_object with_meta with_status_of
-  completion_at v c request told other is writes written = subst (λ r. Writes (world setup h) kind r o → written_by (effect setup (world setup h) kind r) ≡ Some o → Lasts setup (world setup h) kind r) is go writes written
+  completion_at v c request told other is writes written =
+      subst (λ r. Writes (world setup h) kind r o → written_by (effect setup (world setup h) kind r) ≡ Some o → Lasts setup (world setup h) kind r) is go writes written
     where
-      go : Writes (world setup h) kind (write_completion v c) o → written_by (effect setup (world setup h) kind (write_completion v c)) ≡ Some o → Lasts setup (world setup h) kind (write_completion v c)
+      go : Writes (world setup h) kind (write_completion v c) o → written_by (effect setup (world setup h) kind (write_completion v c)) ≡ Some o
+          → Lasts setup (world setup h) kind (write_completion v c)
       go i done = by (is_empty c.volume_name) i done
         where
           shown : (ps : List Pair) → is_completed_with (record c { volume_name = v.meta.name; meta = record c.meta { annotations = put_pair bind_completed yes ps } }) v ≡ true
@@ -318,30 +367,40 @@ module _ (setup : Setup) (seat : ℕ) (h : List Entry) (imports : ImportsPass se
               let e : bytes_eq v.meta.name v.meta.name ≡ true = (bytes_eq-Decides v.meta.name v.meta.name).1 refl in
               rw (key_there bind_completed yes ps, e) refl
 
-          with_name : (ps : List Pair) → (x : Object) → x ≡ Claim c → o ≡ updated_object x (Claim (record c { volume_name = v.meta.name; meta = record c.meta { annotations = put_pair bind_completed yes ps } })) ((world setup h).store.version + 1)
+          with_name : (ps : List Pair) → (x : Object) → x ≡ Claim c
+              → o ≡ updated_object x (Claim (record c { volume_name = v.meta.name; meta = record c.meta { annotations = put_pair bind_completed yes ps } })) ((world setup h).store.version + 1)
               → row_at (key_of (Claim c)) (world setup h).store.rows ≡ Some x → (r : Request) → written_by (effect setup (world setup h) kind r) ≡ Some o → Lasts setup (world setup h) kind r
           with_name ps x same made there r wrote =
-              let is_o = made ∙ ap (λ y. updated_object y (Claim (record c { volume_name = v.meta.name; meta = record c.meta { annotations = put_pair bind_completed yes ps } })) ((world setup h).store.version + 1)) same in
+              let is_o = made ∙ ap (λ y. updated_object y
+              (Claim (record c { volume_name = v.meta.name; meta = record c.meta { annotations = put_pair bind_completed yes ps } })) ((world setup h).store.version + 1)) same in
               over r wrote (Claim c) (ap (λ y. row_at (key_of y) (world setup h).store.rows) is_o ∙ (there ∙ ap Some same))
               (λ e. true≢false (sym (ap (names_it c v) (e ∙ ap content_of is_o) ∙ shown ps) ∙ other))
 
-          by : (b : Bool) → IsUpdate (world setup h).store kind (Claim (record c { volume_name = v.meta.name; meta = annotated_meta bind_completed (annotated_meta_if b bound_by_controller c.meta) })) (Some c.meta.version) o
-              → written_by (effect setup (world setup h) kind (requests.Update (Claim (record c { volume_name = v.meta.name; meta = annotated_meta bind_completed (annotated_meta_if b bound_by_controller c.meta) })) (Some c.meta.version))) ≡ Some o
-              → Lasts setup (world setup h) kind (requests.Update (Claim (record c { volume_name = v.meta.name; meta = annotated_meta bind_completed (annotated_meta_if b bound_by_controller c.meta) })) (Some c.meta.version))
-          by true u wrote = with_name (put_pair bound_by_controller yes c.meta.annotations) u.old (stands_it setup h (Claim c) u.old (key_of (Claim c)) (claim_stood c told) refl u.there u.version) u.is u.there _ wrote
+          by : (b : Bool) → IsUpdate (world setup h).store kind
+              (Claim (record c { volume_name = v.meta.name; meta = annotated_meta bind_completed (annotated_meta_if b bound_by_controller c.meta) })) (Some c.meta.version) o
+              → written_by (effect setup (world setup h) kind
+              (requests.Update (Claim (record c
+              { volume_name = v.meta.name; meta = annotated_meta bind_completed (annotated_meta_if b bound_by_controller c.meta) })) (Some c.meta.version))) ≡ Some o
+              → Lasts setup (world setup h) kind (requests.Update
+              (Claim (record c { volume_name = v.meta.name; meta = annotated_meta bind_completed (annotated_meta_if b bound_by_controller c.meta) })) (Some c.meta.version))
+          by true u wrote = with_name (put_pair bound_by_controller yes c.meta.annotations) u.old
+              (stands_it setup h (Claim c) u.old (key_of (Claim c)) (claim_stood c told) refl u.there u.version) u.is u.there _ wrote
           by false u wrote = with_name c.meta.annotations u.old (stands_it setup h (Claim c) u.old (key_of (Claim c)) (claim_stood c told) refl u.there u.version) u.is u.there _ wrote
 
-  status_at : (v : VolumeData) (c : ClaimData) (request : Request) → ToldThisClaim c (own seat h) → shows_bound c v ≡ false → write_claim_status v c ≡ request → Writes (world setup h) kind request o → Lasts setup (world setup h) kind request
+  status_at : (v : VolumeData) (c : ClaimData) (request : Request) → ToldThisClaim c (own seat h) → shows_bound c v ≡ false
+      → write_claim_status v c ≡ request → Writes (world setup h) kind request o → Lasts setup (world setup h) kind request
   status_at v c request told shows is writes = subst (λ r. Writes (world setup h) kind r o → Lasts setup (world setup h) kind r) is go writes
     where
       go : Writes (world setup h) kind (write_claim_status v c) o → Lasts setup (world setup h) kind (write_claim_status v c)
       go i = status_is_lasting setup (world setup h) kind v c controller (stored_it (Claim c) i.old (claim_key c.meta.namespace c.meta.name) (claim_stood c told) refl i.there i.version) shows
 
   -- the four writes
-  binds_at : (v : VolumeData) (c : ClaimData) (request : Request) → ToldThis v (own seat h) → ToldThisClaim c (own seat h) → is_some c.meta.uid ≡ true → is_empty v.meta.namespace ≡ true → next_write v c ≡ Some request → Writes (world setup h) kind request o
+  binds_at : (v : VolumeData) (c : ClaimData) (request : Request) → ToldThis v (own seat h) → ToldThisClaim c (own seat h)
+      → is_some c.meta.uid ≡ true → is_empty v.meta.namespace ≡ true → next_write v c ≡ Some request → Writes (world setup h) kind request o
       → written_by (effect setup (world setup h) kind request) ≡ Some o → Lasts setup (world setup h) kind request
   unfolding next_write claim_write
-  binds_at v c request volume claim known none call writes written = by (carries v c) (is_ended v.phase) (is_bound v.phase) (is_protected_volume v) (is_completed_with c v) (shows_bound c v) refl refl refl refl call
+  binds_at v c request volume claim known none call writes written =
+      by (carries v c) (is_ended v.phase) (is_bound v.phase) (is_protected_volume v) (is_completed_with c v) (shows_bound c v) refl refl refl refl call
     where
       refers : (uid : Option Uid) → c.meta.uid ≡ uid → is_some uid ≡ true → carries v c ≡ false → write_reference v c ≡ request → Lasts setup (world setup h) kind request
       refers None has some free is = absurd (true≢false (sym some))
@@ -362,7 +421,8 @@ module _ (setup : Setup) (seat : ℕ) (h : List Entry) (imports : ImportsPass se
   no_get : (key : Key) (request : Request) → requests.Get key ≡ request → Writes (world setup h) kind request o → Lasts setup (world setup h) kind request
   no_get key request is writes = absurd (subst (λ r. Writes (world setup h) kind r o) (sym is) writes)
 
-  machine_lasts : (m : Machine) (request : Request) → MachineKeeps m (own seat h) → IsNewMachine m → call_of m ≡ Some request → Writes (world setup h) kind request o → written_by (effect setup (world setup h) kind request) ≡ Some o → Lasts setup (world setup h) kind request
+  machine_lasts : (m : Machine) (request : Request) → MachineKeeps m (own seat h) → IsNewMachine m → call_of m ≡ Some request
+      → Writes (world setup h) kind request o → written_by (effect setup (world setup h) kind request) ≡ Some o → Lasts setup (world setup h) kind request
   unfolding call_of
   machine_lasts (Frees v) request keeps new call writes written = by (is_empty v.meta.namespace) refl call
     where
@@ -382,8 +442,10 @@ module _ (setup : Setup) (seat : ℕ) (h : List Entry) (imports : ImportsPass se
   machine_lasts (Unbinds v) request keeps new call writes written = subst (λ r. Writes (world setup h) kind r o → Lasts setup (world setup h) kind r) (one (write_unbound v) request call) go writes
     where
       go : Writes (world setup h) kind (write_unbound v) o → Lasts setup (world setup h) kind (write_unbound v)
-      go i = unbind_lasts setup (world setup h) kind v keeps.1.uid controller (stored_it (Volume v) i.old (key_of (Volume (unbound_volume v))) (volume_stood v keeps.0) (unbound_key v) i.there i.version) keeps.1.refers
-  machine_lasts (Binds v c) request keeps new call writes written = by (is_some c.meta.uid) (is_empty v.meta.namespace) (is_none v.claim_ref || is_for v c) (is_empty c.volume_name || bytes_eq c.volume_name v.meta.name) refl refl call
+      go i = unbind_lasts setup (world setup h) kind v keeps.1.uid controller
+          (stored_it (Volume v) i.old (key_of (Volume (unbound_volume v))) (volume_stood v keeps.0) (unbound_key v) i.there i.version) keeps.1.refers
+  machine_lasts (Binds v c) request keeps new call writes written =
+      by (is_some c.meta.uid) (is_empty v.meta.namespace) (is_none v.claim_ref || is_for v c) (is_empty c.volume_name || bytes_eq c.volume_name v.meta.name) refl refl call
     where
       by : (a b d e : Bool) → is_some c.meta.uid ≡ a → is_empty v.meta.namespace ≡ b → (if a && b && d && e then next_write v c else None) ≡ Some request → Lasts setup (world setup h) kind request
       by false b d e ea eb r = none_some r
@@ -403,7 +465,8 @@ module _ (setup : Setup) (seat : ℕ) (h : List Entry) (imports : ImportsPass se
   machine_lasts (Loses c) request keeps new call writes written = subst (λ r. Writes (world setup h) kind r o → Lasts setup (world setup h) kind r) (one (write_lost c) request call) go writes
     where
       go : Writes (world setup h) kind (write_lost c) o → Lasts setup (world setup h) kind (write_lost c)
-      go i = lost_lasts setup (world setup h) kind c c.got_modes c.got controller (stored_it (Claim c) i.old (claim_key c.meta.namespace c.meta.name) (claim_stood c keeps.0) refl i.there i.version) new
+      go i = lost_lasts setup (world setup h) kind c c.got_modes c.got controller
+          (stored_it (Claim c) i.old (claim_key c.meta.namespace c.meta.name) (claim_stood c keeps.0) refl i.there i.version) new
   machine_lasts (ReadsClaim v) request keeps new call writes written = by (is_empty v.meta.namespace) (is_some v.meta.uid) v.claim_ref call
     where
       by : (a b : Bool) (r : Option Ref) → (if a && b then read_of r else None) ≡ Some request → Lasts setup (world setup h) kind request
@@ -418,10 +481,12 @@ module _ (setup : Setup) (seat : ℕ) (h : List Entry) (imports : ImportsPass se
       by false e = none_some e
 
   -- protection
-  claim_guard_at : (step : ClaimGuardStep) (c : ClaimData) (request : Request) → ClaimStepKeeps step c (own seat h) → IsNewClaimGuard step c → claim_guard_call_at step c ≡ Some request → Writes (world setup h) kind request o → written_by (effect setup (world setup h) kind request) ≡ Some o
+  claim_guard_at : (step : ClaimGuardStep) (c : ClaimData) (request : Request) → ClaimStepKeeps step c (own seat h) → IsNewClaimGuard step c
+      → claim_guard_call_at step c ≡ Some request → Writes (world setup h) kind request o → written_by (effect setup (world setup h) kind request) ≡ Some o
       → Lasts setup (world setup h) kind request
   unfolding updated_object with_meta with_status_of
-  claim_guard_at claim_steps.Adds c request keeps new call writes written = subst (λ r. Writes (world setup h) kind r o → Lasts setup (world setup h) kind r) (one (claim_write_over c (guarded_claim c)) request call) go writes
+  claim_guard_at claim_steps.Adds c request keeps new call writes written =
+      subst (λ r. Writes (world setup h) kind r o → Lasts setup (world setup h) kind r) (one (claim_write_over c (guarded_claim c)) request call) go writes
     where
       due : claim_guard_due (world setup h).store.rows c ≡ Some dues.Guard
       due = rw (keeps.staying, keeps.lacks) refl
@@ -429,9 +494,11 @@ module _ (setup : Setup) (seat : ℕ) (h : List Entry) (imports : ImportsPass se
       go : Writes (world setup h) kind (claim_write_over c (guarded_claim c)) o → Lasts setup (world setup h) kind (claim_write_over c (guarded_claim c))
       go i = claim_guard_lasts setup (world setup h) kind c controller (stored_it (Claim c) i.old (key_of (Claim c)) (claim_stood c keeps.told) refl i.there i.version) due
   claim_guard_at claim_steps.Drops c request keeps new call writes written =
-      subst (λ r. Writes (world setup h) kind r o → written_by (effect setup (world setup h) kind r) ≡ Some o → Lasts setup (world setup h) kind r) (one (claim_write_over c (unguarded_claim c)) request call) go writes written
+      subst (λ r. Writes (world setup h) kind r o → written_by (effect setup (world setup h) kind r) ≡ Some o → Lasts setup (world setup h) kind r)
+      (one (claim_write_over c (unguarded_claim c)) request call) go writes written
     where
-      go : Writes (world setup h) kind (claim_write_over c (unguarded_claim c)) o → written_by (effect setup (world setup h) kind (claim_write_over c (unguarded_claim c))) ≡ Some o → Lasts setup (world setup h) kind (claim_write_over c (unguarded_claim c))
+      go : Writes (world setup h) kind (claim_write_over c (unguarded_claim c)) o
+          → written_by (effect setup (world setup h) kind (claim_write_over c (unguarded_claim c))) ≡ Some o → Lasts setup (world setup h) kind (claim_write_over c (unguarded_claim c))
       go i wrote =
           let same = stands_it setup h (Claim c) i.old (key_of (Claim c)) (claim_stood c keeps.told) refl i.there i.version in
           let is_o = i.is ∙ ap (λ y. updated_object y (Claim (unguarded_claim c)) ((world setup h).store.version + 1)) same in
@@ -445,41 +512,55 @@ module _ (setup : Setup) (seat : ℕ) (h : List Entry) (imports : ImportsPass se
   claim_guard_at claim_steps.Done c request keeps new call writes written = none_some call
   claim_guard_at claim_steps.Parked c request keeps new call writes written = none_some call
 
-  volume_guard_at : (step : VolumeGuardStep) (v : VolumeData) (request : Request) → VolumeStepKeeps step v (own seat h) → IsNewVolumeGuard step v → volume_guard_call_at step v ≡ Some request → Writes (world setup h) kind request o → Lasts setup (world setup h) kind request
-  volume_guard_at volume_steps.Adds v request keeps new call writes = subst (λ r. Writes (world setup h) kind r o → Lasts setup (world setup h) kind r) (one (volume_write_over v (guarded_volume v)) request call) go writes
+  volume_guard_at : (step : VolumeGuardStep) (v : VolumeData) (request : Request) → VolumeStepKeeps step v (own seat h) → IsNewVolumeGuard step v
+      → volume_guard_call_at step v ≡ Some request → Writes (world setup h) kind request o → Lasts setup (world setup h) kind request
+  volume_guard_at volume_steps.Adds v request keeps new call writes =
+      subst (λ r. Writes (world setup h) kind r o → Lasts setup (world setup h) kind r) (one (volume_write_over v (guarded_volume v)) request call) go writes
     where
       go : Writes (world setup h) kind (volume_write_over v (guarded_volume v)) o → Lasts setup (world setup h) kind (volume_write_over v (guarded_volume v))
-      go i = volume_guard_lasts setup (world setup h) kind v controller (stored_it (Volume v) i.old (key_of (Volume v)) (volume_stood v keeps.told) refl i.there i.version) (rw (keeps.staying, keeps.lacks) refl)
-  volume_guard_at volume_steps.Drops v request keeps new call writes = subst (λ r. Writes (world setup h) kind r o → Lasts setup (world setup h) kind r) (one (volume_write_over v (unguarded_volume v)) request call) go writes
+      go i = volume_guard_lasts setup (world setup h) kind v controller
+          (stored_it (Volume v) i.old (key_of (Volume v)) (volume_stood v keeps.told) refl i.there i.version) (rw (keeps.staying, keeps.lacks) refl)
+  volume_guard_at volume_steps.Drops v request keeps new call writes =
+      subst (λ r. Writes (world setup h) kind r o → Lasts setup (world setup h) kind r) (one (volume_write_over v (unguarded_volume v)) request call) go writes
     where
       go : Writes (world setup h) kind (volume_write_over v (unguarded_volume v)) o → Lasts setup (world setup h) kind (volume_write_over v (unguarded_volume v))
-      go i = volume_unguard_lasts setup (world setup h) kind v controller (stored_it (Volume v) i.old (key_of (Volume v)) (volume_stood v keeps.told) refl i.there i.version) (rw (keeps.deleting, new, keeps.loose) refl)
+      go i = volume_unguard_lasts setup (world setup h) kind v controller
+          (stored_it (Volume v) i.old (key_of (Volume v)) (volume_stood v keeps.told) refl i.there i.version) (rw (keeps.deleting, new, keeps.loose) refl)
   volume_guard_at volume_steps.Done v request keeps new call writes = none_some call
   volume_guard_at volume_steps.Parked v request keeps new call writes = none_some call
 
   -- ops
-  provision_at : (step : ProvisionStep) (c : ClaimData) (uid : Uid) (x : ClassData) (request : Request) → kind ≡ seats.Ops → provision_call_at step c uid x ≡ Some request → is_apart kind request ≡ false → Writes (world setup h) kind request o
+  provision_at : (step : ProvisionStep) (c : ClaimData) (uid : Uid) (x : ClassData) (request : Request) → kind ≡ seats.Ops
+      → provision_call_at step c uid x ≡ Some request → is_apart kind request ≡ false → Writes (world setup h) kind request o
       → written_by (effect setup (world setup h) kind request) ≡ Some o → Lasts setup (world setup h) kind request
   unfolding created_object admitted_object without_status with_meta
-  provision_at (provision_steps.Provisions labels) c uid x request of call plain writes written = absurd (subst (λ r. Writes (world setup h) kind r o) (sym (one (ask_call c uid x labels) request call)) writes)
+  provision_at (provision_steps.Provisions labels) c uid x request of call plain writes written =
+      absurd (subst (λ r. Writes (world setup h) kind r o) (sym (one (ask_call c uid x labels) request call)) writes)
   provision_at (provision_steps.Creates id topology) c uid x request of call plain writes written =
-      subst (λ r. Writes (world setup h) kind r o → written_by (effect setup (world setup h) kind r) ≡ Some o → Lasts setup (world setup h) kind r) (one (create_call c uid x id topology) request call) go writes written
+      subst (λ r. Writes (world setup h) kind r o → written_by (effect setup (world setup h) kind r) ≡ Some o → Lasts setup (world setup h) kind r)
+      (one (create_call c uid x id topology) request call) go writes written
     where
-      go : Writes (world setup h) kind (create_call c uid x id topology) o → written_by (effect setup (world setup h) kind (create_call c uid x id topology)) ≡ Some o → Lasts setup (world setup h) kind (create_call c uid x id topology)
+      go : Writes (world setup h) kind (create_call c uid x id topology) o
+          → written_by (effect setup (world setup h) kind (create_call c uid x id topology)) ≡ Some o → Lasts setup (world setup h) kind (create_call c uid x id topology)
       go i wrote = changed (create_call c uid x id topology) wrote (subst (λ row. IsChanged row o) (sym (ap (λ y. row_at (key_of y) (world setup h).store.rows) i.is ∙ i.free)) tt)
-  provision_at provision_steps.ClearsNode c uid x request of call plain writes written = absurd (true≢false (sym (ap (λ k. is_apart k (clear_call c)) of) ∙ (ap (is_apart kind) (one (clear_call c) request call) ∙ plain)))
+  provision_at provision_steps.ClearsNode c uid x request of call plain writes written =
+      absurd (true≢false (sym (ap (λ k. is_apart k (clear_call c)) of) ∙ (ap (is_apart kind) (one (clear_call c) request call) ∙ plain)))
   provision_at provision_steps.Done c uid x request of call plain writes written = none_some call
   provision_at provision_steps.Parked c uid x request of call plain writes written = none_some call
 
-  erase_at : (step : EraseStep) (v : VolumeData) (request : Request) → kind ≡ seats.Ops → erase_call_at step v ≡ Some request → is_apart kind request ≡ false → Writes (world setup h) kind request o → written_by (effect setup (world setup h) kind request) ≡ Some o
+  erase_at : (step : EraseStep) (v : VolumeData) (request : Request) → kind ≡ seats.Ops → erase_call_at step v ≡ Some request
+      → is_apart kind request ≡ false → Writes (world setup h) kind request o → written_by (effect setup (world setup h) kind request) ≡ Some o
       → Lasts setup (world setup h) kind request
   erase_at erase_steps.ReadsVolume v request of call plain writes written = no_get (key_of_volume v) request (one _ request call) writes
   erase_at (erase_steps.Erases uid) v request of call plain writes written = absurd (subst (λ r. Writes (world setup h) kind r o) (sym (one _ request call)) writes)
-  erase_at erase_steps.WritesFailed v request of call plain writes written = absurd (true≢false (sym (ap (λ k. is_apart k (fail_call v)) of) ∙ (ap (is_apart kind) (one (fail_call v) request call) ∙ plain)))
+  erase_at erase_steps.WritesFailed v request of call plain writes written =
+      absurd (true≢false (sym (ap (λ k. is_apart k (fail_call v)) of) ∙ (ap (is_apart kind) (one (fail_call v) request call) ∙ plain)))
   erase_at (erase_steps.Deletes uid) v request of call plain writes written =
-      subst (λ r. Writes (world setup h) kind r o → written_by (effect setup (world setup h) kind r) ≡ Some o → Lasts setup (world setup h) kind r) (one (requests.Delete (key_of_volume v) (Some uid)) request call) go writes written
+      subst (λ r. Writes (world setup h) kind r o → written_by (effect setup (world setup h) kind r) ≡ Some o → Lasts setup (world setup h) kind r)
+      (one (requests.Delete (key_of_volume v) (Some uid)) request call) go writes written
     where
-      go : Writes (world setup h) kind (requests.Delete (key_of_volume v) (Some uid)) o → written_by (effect setup (world setup h) kind (requests.Delete (key_of_volume v) (Some uid))) ≡ Some o → Lasts setup (world setup h) kind (requests.Delete (key_of_volume v) (Some uid))
+      go : Writes (world setup h) kind (requests.Delete (key_of_volume v) (Some uid)) o
+          → written_by (effect setup (world setup h) kind (requests.Delete (key_of_volume v) (Some uid))) ≡ Some o → Lasts setup (world setup h) kind (requests.Delete (key_of_volume v) (Some uid))
       go i wrote = by i.first
         where
           own_key : key_of i.old ≡ key_of_volume v
@@ -495,7 +576,8 @@ module _ (setup : Setup) (seat : ℕ) (h : List Entry) (imports : ImportsPass se
   erase_at erase_steps.Parked v request of call plain writes written = none_some call
 
   -- the scheduler
-  scheduled_at : (request : Request) → kind ≡ seats.Scheduler → RowAllows seats.Scheduler (own seat h) request → is_apart kind request ≡ false → Writes (world setup h) kind request o → written_by (effect setup (world setup h) kind request) ≡ Some o
+  scheduled_at : (request : Request) → kind ≡ seats.Scheduler → RowAllows seats.Scheduler (own seat h) request → is_apart kind request ≡ false
+      → Writes (world setup h) kind request o → written_by (effect setup (world setup h) kind request) ≡ Some o
       → Lasts setup (world setup h) kind request
   unfolding at_version with_meta
   scheduled_at (requests.Update (Volume new) given) of may plain writes written = by t.0 t.1 t.2
@@ -503,16 +585,19 @@ module _ (setup : Setup) (seat : ℕ) (h : List Entry) (imports : ImportsPass se
       t : (x : Object) × ToldObject (λ y. y ≡ x) (own seat h) × IsVolumeWith (λ v. IsWrittenAt given new.meta.namespace new.meta.name v.meta × MayTake (own seat h) v new) x
       t = told_one (IsVolumeWith (λ v. IsWrittenAt given new.meta.namespace new.meta.name v.meta × MayTake (own seat h) v new)) (own seat h) may
 
-      taken : (v : VolumeData) → ToldObject (λ y. y ≡ Volume v) (own seat h) → IsWrittenAt given new.meta.namespace new.meta.name v.meta → MayTake (own seat h) v new → Lasts setup (world setup h) kind (requests.Update (Volume new) given)
+      taken : (v : VolumeData) → ToldObject (λ y. y ≡ Volume v) (own seat h) → IsWrittenAt given new.meta.namespace new.meta.name v.meta
+          → MayTake (own seat h) v new → Lasts setup (world setup h) kind (requests.Update (Volume new) given)
       taken v told at take = of_claim c.0 c.1 c.2
         where
           c : (x : Object) × ToldObject (λ y. y ≡ x) (own seat h) × IsClaimWith (IsTaken v new) x
           c = told_one (IsClaimWith (IsTaken v new)) (own seat h) take.told
 
-          with_uid : (d : ClaimData) (uid : Option Uid) → d.meta.uid ≡ uid → is_some uid ≡ true → Stood setup h (Claim d) → IsTaken v new d → Lasts setup (world setup h) kind (requests.Update (Volume new) given)
+          with_uid : (d : ClaimData) (uid : Option Uid) → d.meta.uid ≡ uid → is_some uid ≡ true → Stood setup h (Claim d) → IsTaken v new d
+              → Lasts setup (world setup h) kind (requests.Update (Volume new) given)
           with_uid d None has some was is = absurd (true≢false (sym some))
           with_uid d (Some uid) has some was is =
-              reference_at v d uid (requests.Update (Volume new) given) (told_is_true setup h seat (Volume v) history told) was has (free_carries v.claim_ref d is.free) (λ i. requests.Update (Volume ((sym is.change) i)) ((sym at.version) i)) writes
+              reference_at v d uid (requests.Update (Volume new) given) (told_is_true setup h seat (Volume v) history told) was has
+              (free_carries v.claim_ref d is.free) (λ i. requests.Update (Volume ((sym is.change) i)) ((sym at.version) i)) writes
 
           of_claim : (x : Object) → ToldObject (λ y. y ≡ x) (own seat h) → IsClaimWith (IsTaken v new) x → Lasts setup (world setup h) kind (requests.Update (Volume new) given)
           of_claim (Claim d) told_it is = with_uid d d.meta.uid refl is.known (told_is_true setup h seat (Claim d) history told_it) is
@@ -521,7 +606,8 @@ module _ (setup : Setup) (seat : ℕ) (h : List Entry) (imports : ImportsPass se
           of_claim (Volume x) told_it is = absurd is
           of_claim (Pod x) told_it is = absurd is
 
-      by : (x : Object) → ToldObject (λ y. y ≡ x) (own seat h) → IsVolumeWith (λ v. IsWrittenAt given new.meta.namespace new.meta.name v.meta × MayTake (own seat h) v new) x → Lasts setup (world setup h) kind (requests.Update (Volume new) given)
+      by : (x : Object) → ToldObject (λ y. y ≡ x) (own seat h)
+          → IsVolumeWith (λ v. IsWrittenAt given new.meta.namespace new.meta.name v.meta × MayTake (own seat h) v new) x → Lasts setup (world setup h) kind (requests.Update (Volume new) given)
       by (Volume v) told is = taken v told is.0 is.1
       by (Class x) told is = absurd is
       by (Node x) told is = absurd is
@@ -534,7 +620,8 @@ module _ (setup : Setup) (seat : ℕ) (h : List Entry) (imports : ImportsPass se
   scheduled_at (requests.BindPod key uid node) of may plain writes written =
       over (requests.BindPod key uid node) written (Pod writes.pod)
       (ap (λ k. row_at k (world setup h).store.rows) (ap key_of writes.is ∙ row_at_key key (Pod writes.pod) (world setup h).store.rows writes.there) ∙ writes.there)
-      (λ e. true≢false (sym (no_node (is_empty writes.pod.node) writes.unscheduled) ∙ (ap (λ x. is_empty (node_in x)) (e ∙ ap content_of writes.is) ∙ assigned_filled setup seat h imports history key uid node may)))
+      (λ e. true≢false (sym (no_node (is_empty writes.pod.node) writes.unscheduled)
+      ∙ (ap (λ x. is_empty (node_in x)) (e ∙ ap content_of writes.is) ∙ assigned_filled setup seat h imports history key uid node may)))
     where
       no_node : (b : Bool) → not b ≡ false → b ≡ true
       no_node true e = refl
@@ -551,7 +638,8 @@ module _ (setup : Setup) (seat : ℕ) (h : List Entry) (imports : ImportsPass se
   scheduled_at _ of may plain writes written = absurd writes
 
   -- a node agent
-  agent_at : (request : Request) → RowAllows seats.Agent (own seat h) request → Writes (world setup h) kind request o → written_by (effect setup (world setup h) kind request) ≡ Some o → Lasts setup (world setup h) kind request
+  agent_at : (request : Request) → RowAllows seats.Agent (own seat h) request → Writes (world setup h) kind request o
+      → written_by (effect setup (world setup h) kind request) ≡ Some o → Lasts setup (world setup h) kind request
   agent_at (requests.FinishPod key uid node epoch) may writes written = finish_lasts setup (world setup h) kind key uid node epoch o written
   agent_at (requests.Create x) may writes written = absurd may
   agent_at (requests.Update x given) may writes written = absurd may
@@ -562,7 +650,8 @@ module _ (setup : Setup) (seat : ℕ) (h : List Entry) (imports : ImportsPass se
   agent_at _ may writes written = absurd writes
 
   -- each machine
-  task_lasts : (t : Task) (request : Request) → task_kind t ≡ kind → TaskKeeps t (own seat h) → IsNewTask t → task_call t ≡ Some request → RowAllows (task_kind t) (own seat h) request → is_apart kind request ≡ false → Writes (world setup h) kind request o
+  task_lasts : (t : Task) (request : Request) → task_kind t ≡ kind → TaskKeeps t (own seat h) → IsNewTask t → task_call t ≡ Some request
+      → RowAllows (task_kind t) (own seat h) request → is_apart kind request ≡ false → Writes (world setup h) kind request o
       → written_by (effect setup (world setup h) kind request) ≡ Some o → Lasts setup (world setup h) kind request
   unfolding claim_guard_call volume_guard_call provision_call erase_call
   task_lasts (tasks.Binder m) request of keeps new call may plain writes written = machine_lasts m request keeps new call writes written
@@ -608,7 +697,8 @@ pub other_writes_last : OtherWritesLast
 other_writes_last setup seat x request h o imports history stands ask plain written = by x.given refl
   where
     writes : Writes (world setup h) x.role.kind request o
-    writes = write_asked setup (world setup h) x.role.kind request o (effect setup (world setup h) x.role.kind request) (effect_form setup (world setup h) x.role.kind request (rows_stand_in_order setup h)) written
+    writes = write_asked setup (world setup h) x.role.kind request o (effect setup (world setup h) x.role.kind request)
+        (effect_form setup (world setup h) x.role.kind request (rows_stand_in_order setup h)) written
 
     under : (u : Option Under) → AnyIsUnderWay x.role u (own seat h) → option_map call_under u ≡ Some request → Lasts setup (world setup h) x.role.kind request
     under None way c = none_some c
@@ -624,4 +714,5 @@ other_writes_last setup seat x request h o imports history stands ask plain writ
     by (Some givens.Task) e = under x.under stands.settle_round_calls (ap (given_call x) (sym e) ∙ ask)
     by (Some givens.Start) e = absurd (start_writes (world setup h) x.role.kind x.role.kind x.role.node x.memory request o (ap (given_call x) (sym e) ∙ ask) writes)
     by (Some (givens.Read k)) e =
-        absurd (read_writes (world setup h) x.role.kind k (ask_of (cache_of k x.caches)) o (subst (λ r. Writes (world setup h) x.role.kind r o) (sym (one (read_of_kind x.caches k) request (ap (given_call x) (sym e) ∙ ask))) writes))
+        absurd (read_writes (world setup h) x.role.kind k (ask_of (cache_of k x.caches)) o
+        (subst (λ r. Writes (world setup h) x.role.kind r o) (sym (one (read_of_kind x.caches k) request (ap (given_call x) (sym e) ∙ ask))) writes))

@@ -2,17 +2,17 @@
 use Rattle.std.proofs.Common.{◌≡◌, ℕ, List, Bool, true, false, Option, Some, None, refl, sym, ap, subst, if◌then◌else◌}
 use Rattle.std.specs.Prelude.{◌||◌, bytes_eq, not, option_map, ⊤}
 use Rattle.std.specs.List.{list_any}
-use Rattle.kube_types.specs.declared.key.Key.{Key}
+use Rattle.kube_objects.specs.declared.key.Key.{Key}
 use Rattle.kube_types.specs.declared.lookup.Live.TheVariants.{NotAsked}
-use Rattle.kube_types.specs.declared.names.Due.{Due}
-use Rattle.kube_types.specs.declared.names.Due.TheVariants as dues
-use Rattle.kube_types.specs.declared.objects.Claim.{Claim as ClaimData}
-use Rattle.kube_types.specs.declared.objects.Volume.{Volume as VolumeData}
-use Rattle.kube_types.specs.declared.objects.Object.{Object}
-use Rattle.kube_types.specs.declared.objects.Object.TheVariants.{Class, Node, Volume, Claim, Pod}
-use Rattle.kube_types.specs.declared.objects.Ref.{Ref}
-use Rattle.kube_types.specs.Bindings.{is_available, is_bound, is_completed, is_deleting, is_empty, is_ended, is_lost, is_protected_claim, is_protected_volume, ref_uid, uses}
-use Rattle.kube_types.specs.Keys.{row_at}
+use Rattle.kube_parts.specs.declared.names.Due.{Due}
+use Rattle.kube_parts.specs.declared.names.Due.TheVariants as dues
+use Rattle.kube_objects.specs.declared.objects.Claim.{Claim as ClaimData}
+use Rattle.kube_objects.specs.declared.objects.Volume.{Volume as VolumeData}
+use Rattle.kube_objects.specs.declared.objects.Object.{Object}
+use Rattle.kube_objects.specs.declared.objects.Object.TheVariants.{Class, Node, Volume, Claim, Pod}
+use Rattle.kube_objects.specs.declared.objects.Ref.{Ref}
+use Rattle.kube_objects.specs.Bindings.{is_available, is_bound, is_completed, is_deleting, is_empty, is_ended, is_lost, is_protected_claim, is_protected_volume, ref_uid, uses}
+use Rattle.kube_objects.specs.Keys.{row_at}
 use Rattle.call_types.specs.declared.entry.Entry.{Entry}
 use Rattle.call_types.specs.declared.reply.MountRow.{MountRow}
 use Rattle.call_types.specs.declared.reply.Refusal.TheVariants as refusals
@@ -248,7 +248,8 @@ claim_guard_new rows (Some (Claim c)) t first = by (claim_guard_due rows c) refl
     by : (a : Option Due) → claim_guard_due rows c ≡ a → firsts.Begins t ≡ claim_guard_first (claim_guard_for c a) → IsNewTask t
     by None is e = no_task t e
     by (Some dues.Guard) is e = same_task t (tasks.ClaimProtect (record { claim = c; step = claim_steps.Adds })) e tt
-    by (Some dues.Unguard) is e = same_task t (tasks.ClaimProtect (record { claim = c; step = claim_steps.ListsPods })) e (unguard_has (is_deleting c.meta) (is_protected_claim c) (list_any (uses c) rows) is).1
+    by (Some dues.Unguard) is e = same_task t (tasks.ClaimProtect (record { claim = c; step = claim_steps.ListsPods })) e (unguard_has
+        (is_deleting c.meta) (is_protected_claim c) (list_any (uses c) rows) is).1
     by (Some _) is e = no_task t e
 
 volume_guard_new : (row : Option Object) (t : Task) → firsts.Begins t ≡ volume_guard_first (volume_guard_begins row) → IsNewTask t
@@ -262,7 +263,8 @@ volume_guard_new (Some (Volume v)) t first = by (volume_guard_due v) refl first
     by : (a : Option Due) → volume_guard_due v ≡ a → firsts.Begins t ≡ volume_guard_first (volume_guard_for v a) → IsNewTask t
     by None is e = no_task t e
     by (Some dues.Guard) is e = same_task t (tasks.VolumeProtect (record { volume = v; step = volume_steps.Adds })) e tt
-    by (Some dues.Unguard) is e = same_task t (tasks.VolumeProtect (record { volume = v; step = volume_steps.Drops })) e (unguard_has (is_deleting v.meta) (is_protected_volume v) (is_bound v.phase) is).1
+    by (Some dues.Unguard) is e = same_task t (tasks.VolumeProtect (record { volume = v; step = volume_steps.Drops })) e (unguard_has
+        (is_deleting v.meta) (is_protected_volume v) (is_bound v.phase) is).1
     by (Some _) is e = no_task t e
 
 ops_new : (x : Option ProvisionOp) (y : Option EraseOp) (t : Task) → firsts.Begins t ≡ ops_first x y → IsNewTask t

@@ -9,16 +9,31 @@ use Rattle.std.proofs.lemmas.Slice.Eq.{bytes_eq-Decides}
 use Rattle.plain_data.specs.Rows.{find}
 use Rattle.plain_data.specs.Pairs.{Pair, pair_key, put_pair, text_cmp, value_at, without_key}
 use Rattle.plain_data.proofs.RowLookups.{find-put}
-use Rattle.kube_types.specs.declared.parts.ClaimPhase.{ClaimPhase}
-use Rattle.kube_types.specs.declared.parts.ClaimPhase.TheVariants as claims
-use Rattle.kube_types.specs.declared.parts.Modes.{Modes}
-use Rattle.kube_types.specs.declared.objects.Amount.{Amount}
-use Rattle.kube_types.specs.declared.objects.Meta.{Meta}
-use Rattle.kube_types.specs.declared.objects.Claim.{Claim as ClaimData}
-use Rattle.kube_types.specs.declared.objects.Object.{Object}
-use Rattle.kube_types.specs.declared.objects.Object.TheVariants.{Claim}
-use Rattle.kube_types.specs.Bindings.{beta_class, bind_completed, bound_by_controller, has_key, has_name, is_completed, is_deleting, is_empty, is_lost, is_protected_claim, pvc_protection, selected_node, yes, uses}
-use Rattle.kube_types.specs.Keys.{key_of, meta_of, row_at}
+use Rattle.kube_parts.specs.declared.parts.ClaimPhase.{ClaimPhase}
+use Rattle.kube_parts.specs.declared.parts.ClaimPhase.TheVariants as claims
+use Rattle.kube_parts.specs.declared.parts.Modes.{Modes}
+use Rattle.kube_objects.specs.declared.objects.Amount.{Amount}
+use Rattle.kube_objects.specs.declared.objects.Meta.{Meta}
+use Rattle.kube_objects.specs.declared.objects.Claim.{Claim as ClaimData}
+use Rattle.kube_objects.specs.declared.objects.Object.{Object}
+use Rattle.kube_objects.specs.declared.objects.Object.TheVariants.{Claim}
+use Rattle.kube_objects.specs.Bindings.{
+  beta_class,
+  bind_completed,
+  bound_by_controller,
+  has_key,
+  has_name,
+  is_completed,
+  is_deleting,
+  is_empty,
+  is_lost,
+  is_protected_claim,
+  pvc_protection,
+  selected_node,
+  yes,
+  uses,
+}
+use Rattle.kube_objects.specs.Keys.{key_of, meta_of, row_at}
 use Rattle.call_types.specs.declared.request.NewStatus.TheVariants as statuses
 use Rattle.call_types.specs.declared.request.Request.TheVariants.{UpdateStatus}
 use Rattle.call_types.specs.declared.request.SeatKind.{SeatKind}
@@ -73,7 +88,8 @@ module _ (setup : Setup) (w : World) (kind : SeatKind) (controller : is_user kin
       → Lasts setup w kind (UpdateStatus (claim_key c.meta.namespace c.meta.name) (statuses.Claim phase modes amount) (Some c.meta.version))
   unfolding with_status at_version with_meta
   status_is phase modes amount differs =
-      status_lasts setup w kind controller (Claim c) (claim_key c.meta.namespace c.meta.name) (statuses.Claim phase modes amount) (Claim (record c { phase = phase; got_modes = modes; got = amount })) s.there refl refl differs
+      status_lasts setup w kind controller (Claim c) (claim_key c.meta.namespace c.meta.name) (statuses.Claim phase modes amount)
+      (Claim (record c { phase = phase; got_modes = modes; got = amount })) s.there refl refl differs
 
 -- status
 
@@ -109,9 +125,13 @@ completion_lasts setup w kind v c controller s open_ names = by (is_empty c.volu
     allowed name (inr same) = let e : bytes_eq name v.meta.name ≡ true = (bytes_eq-Decides name v.meta.name).1 same in rw e (and_right (not (is_empty name)) false refl)
 
     by : (b : Bool) → Lasts setup w kind (update_claim c (record c { volume_name = v.meta.name; meta = annotated_meta bind_completed (annotated_meta_if b bound_by_controller c.meta) }))
-    by true = updates setup w kind controller c s (annotated_meta bind_completed (annotated_meta bound_by_controller c.meta)) v.meta.name c.class refl refl (class_kept c (annotated_meta bind_completed (annotated_meta bound_by_controller c.meta)) v.meta.name) (allowed c.volume_name names) (claim_facts c s.valid).once
-        (and_right (is_deleting c.meta) _ (adds_none c.meta.finalizers)) (λ e. true≢false (sym (ap (completes c) e ∙ key_there bind_completed yes (annotated_meta bound_by_controller c.meta).annotations) ∙ open_))
-    by false = updates setup w kind controller c s (annotated_meta bind_completed c.meta) v.meta.name c.class refl refl (class_kept c (annotated_meta bind_completed c.meta) v.meta.name) (allowed c.volume_name names) (claim_facts c s.valid).once
+    by true = updates setup w kind controller c s
+        (annotated_meta bind_completed (annotated_meta bound_by_controller c.meta)) v.meta.name c.class refl refl
+        (class_kept c (annotated_meta bind_completed (annotated_meta bound_by_controller c.meta)) v.meta.name) (allowed c.volume_name names) (claim_facts c s.valid).once
+        (and_right (is_deleting c.meta) _ (adds_none c.meta.finalizers))
+        (λ e. true≢false (sym (ap (completes c) e ∙ key_there bind_completed yes (annotated_meta bound_by_controller c.meta).annotations) ∙ open_))
+    by false = updates setup w kind controller c s (annotated_meta bind_completed c.meta) v.meta.name c.class refl refl
+        (class_kept c (annotated_meta bind_completed c.meta) v.meta.name) (allowed c.volume_name names) (claim_facts c s.valid).once
         (and_right (is_deleting c.meta) _ (adds_none c.meta.finalizers)) (λ e. true≢false (sym (ap (completes c) e ∙ key_there bind_completed yes c.meta.annotations) ∙ open_))
 
 -- the class
@@ -144,7 +164,8 @@ value_put k v ps = ap (option_map (λ (p : Pair). p.1)) (find-put nat_list_cmp_t
 pub node_lasts : NodeLasts
 unfolding updated_object with_meta with_status_of
 node_lasts setup w kind c node controller s differs =
-    annotates setup w kind controller c s (record c.meta { annotations = put_pair selected_node node c.meta.annotations }) refl refl refl (λ e. differs (ap (node_in c) e ∙ value_put selected_node node c.meta.annotations))
+    annotates setup w kind controller c s (record c.meta { annotations = put_pair selected_node node c.meta.annotations }) refl refl refl
+    (λ e. differs (ap (node_in c) e ∙ value_put selected_node node c.meta.annotations))
 
 -- protection
 
@@ -152,7 +173,8 @@ pub claim_guard_lasts : ClaimGuardLasts
 unfolding updated_object with_meta with_status_of
 claim_guard_lasts setup w kind c controller s due =
     let l = guard_lacks (is_deleting c.meta) (is_protected_claim c) (list_any (uses c) w.store.rows) due in
-    updates setup w kind controller c s (guarded_meta pvc_protection c.meta) c.volume_name c.class refl refl (class_kept c (guarded_meta pvc_protection c.meta) c.volume_name) (named_alike c.volume_name)
+    updates setup w kind controller c s (guarded_meta pvc_protection c.meta) c.volume_name c.class refl refl
+    (class_kept c (guarded_meta pvc_protection c.meta) c.volume_name) (named_alike c.volume_name)
     (twice_last pvc_protection c.meta.finalizers l.1 ∙ (claim_facts c s.valid).once) (ap (λ b. b && adds_finalizer c.meta.finalizers (c.meta.finalizers ++ pvc_protection ∷ [])) l.0)
     (λ e. true≢false (sym (ap (λ (o : Object). has_name pvc_protection (meta_of o).finalizers) e ∙ last_there pvc_protection c.meta.finalizers) ∙ l.1))
 
@@ -160,7 +182,8 @@ pub claim_unguard_lasts : ClaimUnguardLasts
 unfolding updated_object with_meta with_status_of
 claim_unguard_lasts setup w kind c controller s due =
     let l = unguard_has (is_deleting c.meta) (is_protected_claim c) (list_any (uses c) w.store.rows) due in
-    updates setup w kind controller c s (unguarded_meta pvc_protection c.meta) c.volume_name c.class refl refl (class_kept c (unguarded_meta pvc_protection c.meta) c.volume_name) (named_alike c.volume_name)
+    updates setup w kind controller c s (unguarded_meta pvc_protection c.meta) c.volume_name c.class refl refl
+    (class_kept c (unguarded_meta pvc_protection c.meta) c.volume_name) (named_alike c.volume_name)
     (drops_once pvc_protection c.meta.finalizers (claim_facts c s.valid).once) (and_right (is_deleting c.meta) _ (drops_add_none pvc_protection c.meta.finalizers))
     (λ e. true≢false (sym l.1 ∙ ap (λ (o : Object). has_name pvc_protection (meta_of o).finalizers) e ∙ dropped pvc_protection c.meta.finalizers))
 

@@ -8,14 +8,14 @@ use Rattle.std.proofs.lemmas.Bool.Decides.{nat_tests}
 use Rattle.std.proofs.lemmas.List.Folds.{list_all-append}
 use Rattle.uuid.specs.Text.{by_index, digit_place, hex_digit, hyphen, is_hyphen_place, lower, nibble}
 use Rattle.uuid.proofs.TextLemmas.{by_index_length, nibble_small}
-use Rattle.kube_types.specs.declared.uid.Uid.{Uid}
-use Rattle.kube_types.specs.declared.objects.Class.{Class as ClassData}
-use Rattle.kube_types.specs.declared.objects.Claim.{Claim as ClaimData}
-use Rattle.kube_types.specs.declared.objects.DataId.{DataId}
-use Rattle.kube_types.specs.declared.objects.Object.{Object}
-use Rattle.kube_types.specs.declared.objects.Object.TheVariants.{Class, Node, Volume, Claim, Pod}
-use Rattle.kube_types.specs.Keys.{key_of, row_at}
-use Rattle.kube_types.specs.Uids.{uid_text}
+use Rattle.kube_parts.specs.declared.uid.Uid.{Uid}
+use Rattle.kube_objects.specs.declared.objects.Class.{Class as ClassData}
+use Rattle.kube_objects.specs.declared.objects.Claim.{Claim as ClaimData}
+use Rattle.kube_objects.specs.declared.objects.DataId.{DataId}
+use Rattle.kube_objects.specs.declared.objects.Object.{Object}
+use Rattle.kube_objects.specs.declared.objects.Object.TheVariants.{Class, Node, Volume, Claim, Pod}
+use Rattle.kube_objects.specs.Keys.{key_of, row_at}
+use Rattle.kube_parts.specs.Uids.{uid_text}
 use Rattle.call_types.specs.declared.reply.Reply.TheVariants.{Done}
 use Rattle.call_types.specs.declared.request.Request.TheVariants as requests
 use Rattle.call_types.specs.declared.request.SeatKind.{SeatKind}
@@ -107,13 +107,16 @@ byte_fits bytes k = by (is_hyphen_place k)
 all_by_index : (p : ℕ → Bool) (n : ℕ) (f : ℕ → ℕ) → ((k : ℕ) → p (f k) ≡ true) → list_all p (by_index n f) ≡ true
 unfolding by_index
 all_by_index p zero f each = refl
-all_by_index p (suc n) f each = list_all-append p (by_index n f) (f n ∷ []) ∙ and_from (list_all p (by_index n f)) (list_all p (f n ∷ [])) (all_by_index p n f each) (and_from (p (f n)) true (each n) refl)
+all_by_index p (suc n) f each = list_all-append p (by_index n f) (f n ∷ [])
+    ∙ and_from (list_all p (by_index n f)) (list_all p (f n ∷ [])) (all_by_index p n f each) (and_from (p (f n)) true (each n) refl)
 
 named_so : (bytes : List ℕ) → is_subdomain (112 ∷ (118 ∷ 99 ∷ 45 ∷ by_index 35 (text_byte bytes)) ++ text_byte bytes 35 ∷ []) ≡ true
 named_so bytes =
     let middle : list_all is_name_byte (118 ∷ 99 ∷ 45 ∷ by_index 35 (text_byte bytes)) ≡ true = all_by_index is_name_byte 35 (text_byte bytes) (byte_fits bytes) in
-    let size : length (by_index 35 (text_byte bytes) ++ text_byte bytes 35 ∷ []) ≡ 36 = omega (arith, length-append (by_index 35 (text_byte bytes)) (text_byte bytes 35 ∷ []), by_index_length 35 (text_byte bytes)) in
-    subdomain_so 112 (118 ∷ 99 ∷ 45 ∷ by_index 35 (text_byte bytes)) (text_byte bytes 35) refl middle (digit_fits (nibble bytes 31) (nibble_small bytes 31)) (ap (λ n. nat_le (suc (suc (suc (suc n)))) 253) size)
+    let size : length (by_index 35 (text_byte bytes) ++ text_byte bytes 35 ∷ []) ≡ 36 =
+    omega (arith, length-append (by_index 35 (text_byte bytes)) (text_byte bytes 35 ∷ []), by_index_length 35 (text_byte bytes)) in
+    subdomain_so 112 (118 ∷ 99 ∷ 45 ∷ by_index 35 (text_byte bytes)) (text_byte bytes 35) refl middle
+    (digit_fits (nibble bytes 31) (nibble_small bytes 31)) (ap (λ n. nat_le (suc (suc (suc (suc n)))) 253) size)
 
 -- so the name of a claim's data is one that the store takes
 pub data_names_fit : (uid : Uid) → is_subdomain (data_name uid) ≡ true
@@ -122,11 +125,13 @@ data_names_fit uid = named_so (to_be_bytes w128 uid.0)
 
 -- the volume for a claim
 
-provisioned_fits : (c : ClaimData) (uid : Uid) (x : ClassData) (id : DataId) (topology : Option (List ℕ × List ℕ)) → IsValid (Claim c) → create_fault false (Volume (provisioned_volume c uid x id topology)) ≡ None
+provisioned_fits : (c : ClaimData) (uid : Uid) (x : ClassData) (id : DataId) (topology : Option (List ℕ × List ℕ)) → IsValid (Claim c)
+    → create_fault false (Volume (provisioned_volume c uid x id topology)) ≡ None
 unfolding create_fault kind_fault volume_fault faulty provisioned_volume
 provisioned_fits c uid x id topology valid = let f = claim_facts c valid in rw (data_names_fit uid, f.sized, f.moded, refers_well c valid) refl
 
 pub provisioned_lasts : (setup : Setup) (w : World) (kind : SeatKind) (c : ClaimData) (uid : Uid) (x : ClassData) (id : DataId) (topology : Option (List ℕ × List ℕ))
     → is_user kind ≡ false → IsValid (Claim c) → row_at (volume_key (data_name uid)) w.store.rows ≡ None → Lasts setup w kind (requests.Create (Volume (provisioned_volume c uid x id topology)))
 unfolding provisioned_volume lacks_node
-provisioned_lasts setup w kind c uid x id topology controller valid free = create_lasts setup w kind controller (Volume (provisioned_volume c uid x id topology)) free (provisioned_fits c uid x id topology valid)
+provisioned_lasts setup w kind c uid x id topology controller valid free =
+    create_lasts setup w kind controller (Volume (provisioned_volume c uid x id topology)) free (provisioned_fits c uid x id topology valid)

@@ -4,15 +4,30 @@ use Rattle.std.specs.Prelude.{◌==◌, ◌&&◌, ◌||◌, not, cond, bytes_eq}
 use Rattle.std.specs.Bool.{beq}
 use Rattle.std.proofs.lemmas.Bool.{or_parts, or_right}
 use Rattle.std.proofs.lemmas.Slice.Eq.{bytes_eq-Decides}
-use Rattle.kube_types.specs.declared.names.Field.{Field}
-use Rattle.kube_types.specs.declared.objects.Meta.{Meta}
-use Rattle.kube_types.specs.declared.objects.Ref.{Ref}
-use Rattle.kube_types.specs.declared.objects.Claim.{Claim as ClaimData}
-use Rattle.kube_types.specs.declared.objects.Volume.{Volume as VolumeData}
-use Rattle.kube_types.specs.declared.objects.Object.TheVariants.{Volume, Claim}
-use Rattle.kube_types.specs.Bindings.{has_name, is_deleting, is_empty}
+use Rattle.kube_parts.specs.declared.names.Field.{Field}
+use Rattle.kube_objects.specs.declared.objects.Meta.{Meta}
+use Rattle.kube_objects.specs.declared.objects.Ref.{Ref}
+use Rattle.kube_objects.specs.declared.objects.Claim.{Claim as ClaimData}
+use Rattle.kube_objects.specs.declared.objects.Volume.{Volume as VolumeData}
+use Rattle.kube_objects.specs.declared.objects.Object.TheVariants.{Volume, Claim}
+use Rattle.kube_objects.specs.Bindings.{has_name, is_deleting, is_empty}
 use Rattle.binder_model.specs.Edits.{without_name}
-use Rattle.binder_model.specs.Fields.{adds_finalizer, changed_field, claim_fault, create_fault, faulty, has_no_mode, has_twice, is_nameless, is_namespace, is_subdomain, keeps_class, kind_fault, update_fault, volume_fault}
+use Rattle.binder_model.specs.Fields.{
+  adds_finalizer,
+  changed_field,
+  claim_fault,
+  create_fault,
+  faulty,
+  has_no_mode,
+  has_twice,
+  is_nameless,
+  is_namespace,
+  is_subdomain,
+  keeps_class,
+  kind_fault,
+  update_fault,
+  volume_fault,
+}
 use Rattle.binder_model.specs.Same.{same_amount, same_modes, same_option, same_selector, same_source, same_terms}
 use Rattle.field_rules.proofs.Equalities.{same_amount-Decides, same_modes-Decides, same_option-Decides, same_selector-Decides, same_source-Decides, same_terms-Decides}
 use Rattle.settle_writes.specs.Writes.Valid.{IsValid}
@@ -109,7 +124,8 @@ left_named : (f name : List ℕ) (xs : List (List ℕ)) → has_name f (without_
 left_named f name [] h = h
 left_named f name (x ∷ xs) h = by (not (bytes_eq x name)) h (left_named f name xs)
   where
-    by : (b : Bool) → has_name f (cond b (x ∷ without_name name xs) (without_name name xs)) ≡ true → (has_name f (without_name name xs) ≡ true → has_name f xs ≡ true) → (bytes_eq x f || has_name f xs) ≡ true
+    by : (b : Bool) → has_name f (cond b (x ∷ without_name name xs) (without_name name xs)) ≡ true
+        → (has_name f (without_name name xs) ≡ true → has_name f xs ≡ true) → (bytes_eq x f || has_name f xs) ≡ true
     by true h rest = front (bytes_eq x f) h
       where
         front : (b : Bool) → (b || has_name f (without_name name xs)) ≡ true → (b || has_name f xs) ≡ true

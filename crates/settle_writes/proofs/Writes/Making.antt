@@ -2,15 +2,30 @@
 use Rattle.std.proofs.Common.{◌≡◌, ◌≢◌, ℕ, ◌+◌, List, Bool, true, false, true≢false, Option, Some, None, inl, refl, sym, ap, subst, arith}
 use Rattle.std.specs.Prelude.{◌==◌, not}
 use Rattle.std.proofs.lemmas.Bool.Decides.{nat_tests}
-use Rattle.kube_types.specs.declared.key.Key.{Key}
-use Rattle.kube_types.specs.declared.objects.Object.{Object}
-use Rattle.kube_types.specs.Keys.{key_of, meta_of, row_at}
+use Rattle.kube_objects.specs.declared.key.Key.{Key}
+use Rattle.kube_objects.specs.declared.objects.Object.{Object}
+use Rattle.kube_objects.specs.Keys.{key_of, meta_of, row_at}
 use Rattle.call_types.specs.declared.request.NewStatus.{NewStatus}
 use Rattle.call_types.specs.declared.request.Request.TheVariants.{Update, UpdateStatus}
 use Rattle.call_types.specs.declared.request.SeatKind.{SeatKind}
 use Rattle.call_types.specs.declared.request.SeatKind.TheVariants as seats
 use Rattle.call_types.specs.declared.setup.Setup.{Setup}
-use Rattle.binder_model.specs.Answers.{guard_on, is_other_version, is_user, outcome, refuse, refuse_field, refuse_rule, reply_of, update, update_status, with_status, write_of, write_outcome, written_if_fits}
+use Rattle.binder_model.specs.Answers.{
+  guard_on,
+  is_other_version,
+  is_user,
+  outcome,
+  refuse,
+  refuse_field,
+  refuse_rule,
+  reply_of,
+  update,
+  update_status,
+  with_status,
+  write_of,
+  write_outcome,
+  written_if_fits,
+}
 use Rattle.binder_model.specs.Devices.{device_answer}
 use Rattle.binder_model.specs.Fields.{update_fault}
 use Rattle.binder_model.specs.Store.{State, at_version, leaves, updated_object}
@@ -61,7 +76,8 @@ module _ (setup : Setup) (w : World) (kind : SeatKind) (controller : is_user kin
   pub update_lasts : (new : Object) → row_at (key_of new) w.store.rows ≡ Some old → update_fault old new ≡ None → key_of (updated new) ≡ key_of new → content_of old ≢ content_of (updated new)
       → Lasts setup w kind (Update new (Some (meta_of old).version))
   update_lasts new there fits key differs =
-      inl (subst (IsLastingWrite w.store.rows) (sym (update_said new there fits)) (written_lasts w.store.rows old (updated new) (subst (λ k. row_at k w.store.rows ≡ Some old) (sym key) there) differs))
+      inl (subst (IsLastingWrite w.store.rows) (sym (update_said new there fits))
+      (written_lasts w.store.rows old (updated new) (subst (λ k. row_at k w.store.rows ≡ Some old) (sym key) there) differs))
 
   abbrev pub at_next : Object → Object
   at_next new = at_version new (w.store.version + 1)
@@ -71,7 +87,9 @@ module _ (setup : Setup) (w : World) (kind : SeatKind) (controller : is_user kin
   unfolding effect on_devices device_answer outcome reply_to
   status_said key status new there fits = rw there (ap reply_of (status_updates w.store kind status old new controller fits))
 
-  pub status_lasts : (key : Key) (status : NewStatus) (new : Object) → row_at key w.store.rows ≡ Some old → with_status status old ≡ Some new → key_of (at_next new) ≡ key → content_of old ≢ content_of (at_next new)
+  pub status_lasts : (key : Key) (status : NewStatus) (new : Object) → row_at key w.store.rows ≡ Some old → with_status status old ≡ Some new
+      → key_of (at_next new) ≡ key → content_of old ≢ content_of (at_next new)
       → Lasts setup w kind (UpdateStatus key status (Some (meta_of old).version))
   status_lasts key status new there fits same differs =
-      inl (subst (IsLastingWrite w.store.rows) (sym (status_said key status new there fits)) (written_lasts w.store.rows old (at_next new) (subst (λ k. row_at k w.store.rows ≡ Some old) (sym same) there) differs))
+      inl (subst (IsLastingWrite w.store.rows) (sym (status_said key status new there fits))
+      (written_lasts w.store.rows old (at_next new) (subst (λ k. row_at k w.store.rows ≡ Some old) (sym same) there) differs))

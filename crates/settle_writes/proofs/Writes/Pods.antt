@@ -2,15 +2,15 @@
 use Rattle.std.proofs.Common.{◌≡◌, ◌≢◌, ◌∙◌, ℕ, ◌+◌, List, [], ◌∷◌, Bool, true, false, true≢false, Option, Some, None, inl, refl, sym, ap, subst, arith}
 use Rattle.std.specs.Prelude.{◌==◌, ◌||◌, not}
 use Rattle.std.proofs.lemmas.Bool.Decides.{nat_tests}
-use Rattle.kube_types.specs.declared.uid.Uid.{Uid}
-use Rattle.kube_types.specs.declared.names.Field.{Field}
-use Rattle.kube_types.specs.declared.names.Field.TheVariants as fields
-use Rattle.kube_types.specs.declared.objects.Node.{Node as NodeData}
-use Rattle.kube_types.specs.declared.objects.Pod.{Pod as PodData}
-use Rattle.kube_types.specs.declared.objects.Object.{Object}
-use Rattle.kube_types.specs.declared.objects.Object.TheVariants.{Node, Pod}
-use Rattle.kube_types.specs.Bindings.{has_name, is_empty, is_scheduled, is_uid}
-use Rattle.kube_types.specs.Keys.{key_of, row_at}
+use Rattle.kube_parts.specs.declared.uid.Uid.{Uid}
+use Rattle.kube_parts.specs.declared.names.Field.{Field}
+use Rattle.kube_parts.specs.declared.names.Field.TheVariants as fields
+use Rattle.kube_objects.specs.declared.objects.Node.{Node as NodeData}
+use Rattle.kube_objects.specs.declared.objects.Pod.{Pod as PodData}
+use Rattle.kube_objects.specs.declared.objects.Object.{Object}
+use Rattle.kube_objects.specs.declared.objects.Object.TheVariants.{Node, Pod}
+use Rattle.kube_objects.specs.Bindings.{has_name, is_empty, is_scheduled, is_uid}
+use Rattle.kube_objects.specs.Keys.{key_of, row_at}
 use Rattle.call_types.specs.declared.reply.Reply.TheVariants.{Done}
 use Rattle.call_types.specs.declared.request.Request.TheVariants.{BindPod}
 use Rattle.call_types.specs.declared.request.SeatKind.{SeatKind}
@@ -44,7 +44,8 @@ unfolding create_fault kind_fault pod_fault faulty
 claims_once p e = by (is_subdomain p.meta.name) (is_namespace p.meta.namespace) (has_name [] p.claims) (has_twice p.claims) e
   where
     by : (a b c d : Bool)
-        → faulty (not a) fields.Name (faulty (not b) fields.Namespace (faulty false fields.NodeName (faulty (c || d) fields.Claims (faulty (not (has_no_names p.meta.finalizers)) fields.Finalizers None)))) ≡ None → d ≡ false
+        → faulty (not a) fields.Name (faulty (not b) fields.Namespace
+        (faulty false fields.NodeName (faulty (c || d) fields.Claims (faulty (not (has_no_names p.meta.finalizers)) fields.Finalizers None)))) ≡ None → d ≡ false
     by false b c d e = absurd (true≢false (ap is_fault e))
     by true false c d e = absurd (true≢false (ap is_fault e))
     by true true true d e = absurd (true≢false (ap is_fault e))
@@ -55,7 +56,8 @@ abbrev node_in : Object → List ℕ
 node_in (Pod x) = x.node
 node_in o = []
 
-module _ (setup : Setup) (w : World) (kind : SeatKind) (controller : is_user kind ≡ false) (p : PodData) (uid : Uid) (s : IsStored w (Pod p)) (known : p.meta.uid ≡ Some uid) (unscheduled : is_scheduled p ≡ false)
+module _ (setup : Setup) (w : World) (kind : SeatKind) (controller : is_user kind ≡ false) (p : PodData) (uid : Uid) (s : IsStored w (Pod p))
+    (known : p.meta.uid ≡ Some uid) (unscheduled : is_scheduled p ≡ false)
     (n : NodeData) (there : row_at (node_key n.meta.name) w.store.rows ≡ Some (Node n)) (valid : IsValid (Node n)) where
   -- the pod on its node
   abbrev bound : Object

@@ -3,22 +3,45 @@ use Rattle.std.proofs.Common.{◌≡◌, ◌∙◌, ℕ, List, [], ◌∷◌, �
 use Rattle.std.proofs.lemmas.Bool.{or_parts}
 use Rattle.std.proofs.lemmas.Slice.Eq.{bytes_eq-Decides}
 use Rattle.std.specs.Prelude.{◌||◌, bytes_eq, ⊤}
-use Rattle.kube_types.specs.declared.uid.Uid.{Uid}
-use Rattle.kube_types.specs.declared.names.Field.{Field}
-use Rattle.kube_types.specs.declared.objects.Pod.{Pod as PodData}
-use Rattle.kube_types.specs.declared.objects.Object.{Object}
-use Rattle.kube_types.specs.declared.objects.Object.TheVariants.{Class, Node, Volume, Claim, Pod}
-use Rattle.kube_types.specs.Bindings.{has_name, is_uid, pv_protection, pvc_protection}
-use Rattle.kube_types.specs.Keys.{AreRows, key_of, meta_of, put_row, row_at, without_row}
-use Rattle.kube_types.proofs.KeyOrder.{row_at-put_row, row_at-put_row_other, row_at-without_row, row_at-without_row_other}
-use Rattle.kube_types.proofs.SameKeys.{key_tells}
+use Rattle.kube_parts.specs.declared.uid.Uid.{Uid}
+use Rattle.kube_parts.specs.declared.names.Field.{Field}
+use Rattle.kube_objects.specs.declared.objects.Pod.{Pod as PodData}
+use Rattle.kube_objects.specs.declared.objects.Object.{Object}
+use Rattle.kube_objects.specs.declared.objects.Object.TheVariants.{Class, Node, Volume, Claim, Pod}
+use Rattle.kube_objects.specs.Bindings.{has_name, is_uid, pv_protection, pvc_protection}
+use Rattle.kube_objects.specs.Keys.{AreRows, key_of, meta_of, put_row, row_at, without_row}
+use Rattle.kube_objects.proofs.KeyOrder.{row_at-put_row, row_at-put_row_other, row_at-without_row, row_at-without_row_other}
+use Rattle.kube_objects.proofs.SameKeys.{key_tells}
 use Rattle.call_types.specs.declared.edit.Edit.{Edit}
 use Rattle.call_types.specs.declared.request.NewStatus.{NewStatus}
 use Rattle.call_types.specs.declared.request.NewStatus.TheVariants as statuses
 use Rattle.call_types.specs.declared.request.Request.{Request}
 use Rattle.call_types.specs.declared.request.Request.TheVariants as requests
 use Rattle.call_types.specs.declared.request.SeatKind.{SeatKind}
-use Rattle.binder_model.specs.Answers.{Outcome, Says, Stores, Removes, after, bind, create, delete, delete_of, edit, edit_to, finish, get, list, outcome, pod_if, pod_with, update, update_status, with_status, write_outcome, written_if_fits}
+use Rattle.binder_model.specs.Answers.{
+  Outcome,
+  Says,
+  Stores,
+  Removes,
+  after,
+  bind,
+  create,
+  delete,
+  delete_of,
+  edit,
+  edit_to,
+  finish,
+  get,
+  list,
+  outcome,
+  pod_if,
+  pod_with,
+  update,
+  update_status,
+  with_status,
+  write_outcome,
+  written_if_fits,
+}
 use Rattle.binder_model.specs.Edits.{edited_object}
 use Rattle.binder_model.specs.Fields.{changed_field, claim_fault, class_fault, create_fault, faulty, has_twice, kind_fault, pod_fault, update_fault, volume_fault}
 use Rattle.binder_model.specs.Imports.{ImportsPass, PassAfter, imported_object}
@@ -69,7 +92,8 @@ twice_with f fs = by (has_name f fs) refl
 
 -- what the tests do not look at
 
-stamped : (o : Object) (uid : Option Uid) (version : ℕ) (created : List ℕ) (deleted : Option (List ℕ)) → create_fault false (with_meta o (record (meta_of o) { uid = uid; version = version; created = created; deleted = deleted })) ≡ create_fault false o
+stamped : (o : Object) (uid : Option Uid) (version : ℕ) (created : List ℕ) (deleted : Option (List ℕ))
+    → create_fault false (with_meta o (record (meta_of o) { uid = uid; version = version; created = created; deleted = deleted })) ≡ create_fault false o
 unfolding create_fault kind_fault volume_fault claim_fault class_fault pod_fault with_meta
 stamped (Class x) uid version created deleted = refl
 stamped (Node x) uid version created deleted = refl

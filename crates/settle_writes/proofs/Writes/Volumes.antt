@@ -4,18 +4,18 @@ use Rattle.std.proofs.lemmas.Bool.Decides.{nat_tests}
 use Rattle.std.specs.Prelude.{◌&&◌, ◌||◌, bytes_eq, is_none}
 use Rattle.std.proofs.lemmas.Slice.Eq.{bytes_eq-Decides}
 use Rattle.std.proofs.lemmas.Bool.{and_right}
-use Rattle.kube_types.specs.declared.uid.Uid.{Uid}
-use Rattle.kube_types.specs.declared.names.Due.{Due}
-use Rattle.kube_types.specs.declared.names.Due.TheVariants as dues
-use Rattle.kube_types.specs.declared.parts.VolumePhase.{VolumePhase}
-use Rattle.kube_types.specs.declared.objects.Meta.{Meta}
-use Rattle.kube_types.specs.declared.objects.Ref.{Ref}
-use Rattle.kube_types.specs.declared.objects.Claim.{Claim as ClaimData}
-use Rattle.kube_types.specs.declared.objects.Volume.{Volume as VolumeData}
-use Rattle.kube_types.specs.declared.objects.Object.{Object}
-use Rattle.kube_types.specs.declared.objects.Object.TheVariants.{Volume}
-use Rattle.kube_types.specs.Bindings.{bound_by_controller, carries, has_key, has_name, is_bound, is_deleting, is_protected_volume, is_uid, pv_protection, ref_uid, refers_carrying}
-use Rattle.kube_types.specs.Keys.{key_of, meta_of, row_at}
+use Rattle.kube_parts.specs.declared.uid.Uid.{Uid}
+use Rattle.kube_parts.specs.declared.names.Due.{Due}
+use Rattle.kube_parts.specs.declared.names.Due.TheVariants as dues
+use Rattle.kube_parts.specs.declared.parts.VolumePhase.{VolumePhase}
+use Rattle.kube_objects.specs.declared.objects.Meta.{Meta}
+use Rattle.kube_objects.specs.declared.objects.Ref.{Ref}
+use Rattle.kube_objects.specs.declared.objects.Claim.{Claim as ClaimData}
+use Rattle.kube_objects.specs.declared.objects.Volume.{Volume as VolumeData}
+use Rattle.kube_objects.specs.declared.objects.Object.{Object}
+use Rattle.kube_objects.specs.declared.objects.Object.TheVariants.{Volume}
+use Rattle.kube_objects.specs.Bindings.{bound_by_controller, carries, has_key, has_name, is_bound, is_deleting, is_protected_volume, is_uid, pv_protection, ref_uid, refers_carrying}
+use Rattle.kube_objects.specs.Keys.{key_of, meta_of, row_at}
 use Rattle.call_types.specs.declared.request.NewStatus.TheVariants as statuses
 use Rattle.call_types.specs.declared.request.SeatKind.{SeatKind}
 use Rattle.call_types.specs.declared.setup.Setup.{Setup}
@@ -51,12 +51,14 @@ module _ (setup : Setup) (w : World) (kind : SeatKind) (controller : is_user kin
   unfolding updated_object with_meta with_status_of
   updates m r named placed refers once adds differs =
       let key : key_of (Volume (record v { meta = m; claim_ref = r })) ≡ key_of (Volume v) = rw (named, placed) refl in
-      update_lasts setup w kind controller (Volume v) (Volume (record v { meta = m; claim_ref = r })) (ap (λ k. row_at k w.store.rows) key ∙ s.there) (volume_fits v m r s.valid named placed refers once adds) refl differs
+      update_lasts setup w kind controller (Volume v) (Volume (record v { meta = m; claim_ref = r })) (ap (λ k. row_at k w.store.rows) key ∙ s.there)
+      (volume_fits v m r s.valid named placed refers once adds) refl differs
 
   phase_is : (phase : VolumePhase) → v.phase ≢ phase → Lasts setup w kind (write_phase v phase)
   unfolding with_status at_version with_meta
   phase_is phase differs =
-      status_lasts setup w kind controller (Volume v) (volume_key v.meta.name) (statuses.Volume phase) (Volume (record v { phase = phase })) (ap (λ k. row_at k w.store.rows) (sym own_key) ∙ s.there) refl own_key
+      status_lasts setup w kind controller (Volume v) (volume_key v.meta.name) (statuses.Volume phase) (Volume (record v { phase = phase }))
+      (ap (λ k. row_at k w.store.rows) (sym own_key) ∙ s.there) refl own_key
       (λ e. differs (ap (λ o. (volume_in v o).phase) e))
 
 pub phase_lasts : PhaseLasts
@@ -102,7 +104,8 @@ pub volume_guard_lasts : VolumeGuardLasts
 unfolding updated_object with_meta with_status_of
 volume_guard_lasts setup w kind v controller s due =
     let l = guard_lacks (is_deleting v.meta) (is_protected_volume v) (is_bound v.phase) due in
-    updates setup w kind controller v s (guarded_meta pv_protection v.meta) v.claim_ref refl refl (volume_facts v s.valid).refers (twice_last pv_protection v.meta.finalizers l.1 ∙ (volume_facts v s.valid).once)
+    updates setup w kind controller v s (guarded_meta pv_protection v.meta) v.claim_ref refl refl (volume_facts v s.valid).refers
+    (twice_last pv_protection v.meta.finalizers l.1 ∙ (volume_facts v s.valid).once)
     (ap (λ b. b && adds_finalizer v.meta.finalizers (v.meta.finalizers ++ pv_protection ∷ [])) l.0)
     (λ e. true≢false (sym (ap (λ (o : Object). has_name pv_protection (meta_of o).finalizers) e ∙ last_there pv_protection v.meta.finalizers) ∙ l.1))
 
@@ -110,7 +113,8 @@ pub volume_unguard_lasts : VolumeUnguardLasts
 unfolding updated_object with_meta with_status_of
 volume_unguard_lasts setup w kind v controller s due =
     let l = unguard_has (is_deleting v.meta) (is_protected_volume v) (is_bound v.phase) due in
-    updates setup w kind controller v s (unguarded_meta pv_protection v.meta) v.claim_ref refl refl (volume_facts v s.valid).refers (drops_once pv_protection v.meta.finalizers (volume_facts v s.valid).once)
+    updates setup w kind controller v s (unguarded_meta pv_protection v.meta) v.claim_ref refl refl (volume_facts v s.valid).refers
+    (drops_once pv_protection v.meta.finalizers (volume_facts v s.valid).once)
     (and_right (is_deleting v.meta) _ (drops_add_none pv_protection v.meta.finalizers))
     (λ e. true≢false (sym l.1 ∙ ap (λ (o : Object). has_name pv_protection (meta_of o).finalizers) e ∙ dropped pv_protection v.meta.finalizers))
 
@@ -141,7 +145,8 @@ module _ (setup : Setup) (w : World) (kind : SeatKind) (controller : is_user kin
   unfolding unbound_volume updated_object with_meta with_status_of
   unbind_is true e = rw e (updates setup w kind controller v s (record v.meta { annotations = without_key bound_by_controller v.meta.annotations }) None refl refl refl (volume_facts v s.valid).once
       (and_right (is_deleting v.meta) _ (adds_none v.meta.finalizers)) (λ same. gone None (ap ref_in same) refl))
-  unbind_is false e = rw e (updates setup w kind controller v s v.meta (without_uid v.claim_ref) refl refl (without_is_nameless v.claim_ref ∙ (volume_facts v s.valid).refers) (volume_facts v s.valid).once
+  unbind_is false e = rw e (updates setup w kind controller v s v.meta (without_uid v.claim_ref) refl refl
+      (without_is_nameless v.claim_ref ∙ (volume_facts v s.valid).refers) (volume_facts v s.valid).once
       (and_right (is_deleting v.meta) _ (adds_none v.meta.finalizers)) (λ same. gone (ref_uid (without_uid v.claim_ref)) (ap ref_in same) (without_has_none v.claim_ref)))
 
 pub unbind_lasts : UnbindLasts

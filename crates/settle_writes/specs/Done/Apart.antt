@@ -1,8 +1,8 @@
 -- Which writes of an actor last when they are done, and which are counted apart: the node of a claim, and phase Failed.
 -- A choice of this project.
 use Rattle.std.specs.Prelude.{ℕ, ◌≡◌, Bool, true, false, List, Some}
-use Rattle.kube_types.specs.declared.objects.Object.{Object}
-use Rattle.kube_types.specs.declared.objects.Object.TheVariants.{Claim}
+use Rattle.kube_objects.specs.declared.objects.Object.{Object}
+use Rattle.kube_objects.specs.declared.objects.Object.TheVariants.{Claim}
 use Rattle.call_types.specs.declared.entry.Entry.{Entry}
 use Rattle.call_types.specs.declared.request.Request.{Request}
 use Rattle.call_types.specs.declared.request.Request.TheVariants.{Update, UpdateStatus}
@@ -28,5 +28,6 @@ is_apart kind request = false
 -- whatever an actor that stands for its entries asks: where it writes, and is none of these, it lasts
 abbrev pub OtherWritesLast : Type 0
 OtherWritesLast =
-    (setup : Setup) (seat : ℕ) (x : ActorState) (request : Request) (h : List Entry) (o : Object) → ImportsPass setup.imports → IsHistory setup h → StandsFor x (own seat h) → asked x ≡ Some request → is_apart x.role.kind request ≡ false
+    (setup : Setup) (seat : ℕ) (x : ActorState) (request : Request) (h : List Entry) (o : Object) → ImportsPass setup.imports → IsHistory setup h
+    → StandsFor x (own seat h) → asked x ≡ Some request → is_apart x.role.kind request ≡ false
     → written_by (effect setup (world setup h) x.role.kind request) ≡ Some o → Lasts setup (world setup h) x.role.kind request

@@ -2,18 +2,18 @@
 -- A choice of this project.
 use Rattle.std.specs.Prelude.{ℕ, ◌≡◌, ◌≢◌, ◌⊎◌, true, false, List, Option, Some}
 use Rattle.plain_data.specs.Pairs.{put_pair, value_at, without_key}
-use Rattle.kube_types.specs.declared.names.Due.TheVariants as dues
-use Rattle.kube_types.specs.declared.parts.ClaimPhase.TheVariants as claims
-use Rattle.kube_types.specs.declared.parts.VolumePhase.{VolumePhase}
-use Rattle.kube_types.specs.declared.parts.Modes.{Modes}
-use Rattle.kube_types.specs.declared.objects.Amount.{Amount}
-use Rattle.kube_types.specs.declared.objects.Claim.{Claim as ClaimData}
-use Rattle.kube_types.specs.declared.objects.Volume.{Volume as VolumeData}
-use Rattle.kube_types.specs.declared.objects.Object.{Object}
-use Rattle.kube_types.specs.declared.objects.Object.TheVariants.{Volume, Claim}
-use Rattle.kube_types.specs.declared.uid.Uid.{Uid}
-use Rattle.kube_types.specs.Bindings.{carries, has_key, is_completed, is_deleting, is_empty, is_lost, lacks_class, pv_protection, pvc_protection, ref_uid, selected_node}
-use Rattle.kube_types.specs.Keys.{key_of, row_at}
+use Rattle.kube_parts.specs.declared.names.Due.TheVariants as dues
+use Rattle.kube_parts.specs.declared.parts.ClaimPhase.TheVariants as claims
+use Rattle.kube_parts.specs.declared.parts.VolumePhase.{VolumePhase}
+use Rattle.kube_parts.specs.declared.parts.Modes.{Modes}
+use Rattle.kube_objects.specs.declared.objects.Amount.{Amount}
+use Rattle.kube_objects.specs.declared.objects.Claim.{Claim as ClaimData}
+use Rattle.kube_objects.specs.declared.objects.Volume.{Volume as VolumeData}
+use Rattle.kube_objects.specs.declared.objects.Object.{Object}
+use Rattle.kube_objects.specs.declared.objects.Object.TheVariants.{Volume, Claim}
+use Rattle.kube_parts.specs.declared.uid.Uid.{Uid}
+use Rattle.kube_objects.specs.Bindings.{carries, has_key, is_completed, is_deleting, is_empty, is_lost, lacks_class, pv_protection, pvc_protection, ref_uid, selected_node}
+use Rattle.kube_objects.specs.Keys.{key_of, row_at}
 use Rattle.call_types.specs.declared.request.NewStatus.TheVariants as statuses
 use Rattle.call_types.specs.declared.request.Request.{Request}
 use Rattle.call_types.specs.declared.request.Request.TheVariants.{Delete, Update, UpdateStatus}
@@ -49,31 +49,37 @@ write_lost c modes amount = UpdateStatus (claim_key c.meta.namespace c.meta.name
 
 -- a volume's own phase: Available, Bound, Released, Failed
 abbrev pub PhaseLasts : Type 0
-PhaseLasts = (setup : Setup) (w : World) (kind : SeatKind) (v : VolumeData) (phase : VolumePhase) → is_user kind ≡ false → IsStored w (Volume v) → v.phase ≢ phase → Lasts setup w kind (write_phase v phase)
+PhaseLasts = (setup : Setup) (w : World) (kind : SeatKind) (v : VolumeData) (phase : VolumePhase) → is_user kind ≡ false → IsStored w (Volume v)
+    → v.phase ≢ phase → Lasts setup w kind (write_phase v phase)
 
 -- unbinding takes the UID at least
 abbrev pub UnbindLasts : Type 0
-UnbindLasts = (setup : Setup) (w : World) (kind : SeatKind) (v : VolumeData) (uid : Uid) → is_user kind ≡ false → IsStored w (Volume v) → ref_uid v.claim_ref ≡ Some uid → Lasts setup w kind (write_unbound v)
+UnbindLasts = (setup : Setup) (w : World) (kind : SeatKind) (v : VolumeData) (uid : Uid) → is_user kind ≡ false → IsStored w (Volume v)
+    → ref_uid v.claim_ref ≡ Some uid → Lasts setup w kind (write_unbound v)
 
 -- the first write of a binding, for a volume that does not carry the claim
 abbrev pub ReferenceLasts : Type 0
 ReferenceLasts =
-    (setup : Setup) (w : World) (kind : SeatKind) (v : VolumeData) (c : ClaimData) (uid : Uid) → is_user kind ≡ false → IsStored w (Volume v) → IsValid (Claim c) → c.meta.uid ≡ Some uid → carries v c ≡ false
+    (setup : Setup) (w : World) (kind : SeatKind) (v : VolumeData) (c : ClaimData) (uid : Uid) → is_user kind ≡ false → IsStored w (Volume v)
+    → IsValid (Claim c) → c.meta.uid ≡ Some uid → carries v c ≡ false
     → Lasts setup w kind (write_reference v c)
 
 -- the third, for a claim that is not completed and names no other volume
 abbrev pub CompletionLasts : Type 0
 CompletionLasts =
-    (setup : Setup) (w : World) (kind : SeatKind) (v : VolumeData) (c : ClaimData) → is_user kind ≡ false → IsStored w (Claim c) → is_completed c ≡ false → (is_empty c.volume_name ≡ true) ⊎ (c.volume_name ≡ v.meta.name)
+    (setup : Setup) (w : World) (kind : SeatKind) (v : VolumeData) (c : ClaimData) → is_user kind ≡ false → IsStored w (Claim c)
+    → is_completed c ≡ false → (is_empty c.volume_name ≡ true) ⊎ (c.volume_name ≡ v.meta.name)
     → Lasts setup w kind (write_completion v c)
 
 -- the fourth
 abbrev pub StatusLasts : Type 0
-StatusLasts = (setup : Setup) (w : World) (kind : SeatKind) (v : VolumeData) (c : ClaimData) → is_user kind ≡ false → IsStored w (Claim c) → shows_bound c v ≡ false → Lasts setup w kind (write_claim_status v c)
+StatusLasts = (setup : Setup) (w : World) (kind : SeatKind) (v : VolumeData) (c : ClaimData) → is_user kind ≡ false → IsStored w (Claim c)
+    → shows_bound c v ≡ false → Lasts setup w kind (write_claim_status v c)
 
 -- phase Lost, over another phase
 abbrev pub LostLasts : Type 0
-LostLasts = (setup : Setup) (w : World) (kind : SeatKind) (c : ClaimData) (modes : Modes) (amount : Option Amount) → is_user kind ≡ false → IsStored w (Claim c) → is_lost c.phase ≡ false → Lasts setup w kind (write_lost c modes amount)
+LostLasts = (setup : Setup) (w : World) (kind : SeatKind) (c : ClaimData) (modes : Modes) (amount : Option Amount) → is_user kind ≡ false
+    → IsStored w (Claim c) → is_lost c.phase ≡ false → Lasts setup w kind (write_lost c modes amount)
 
 -- a class for a claim that lacks one and is not completed
 abbrev pub ClassLasts : Type 0
@@ -95,17 +101,22 @@ ClearLasts =
 
 -- protection
 abbrev pub VolumeGuardLasts : Type 0
-VolumeGuardLasts = (setup : Setup) (w : World) (kind : SeatKind) (v : VolumeData) → is_user kind ≡ false → IsStored w (Volume v) → volume_guard_due v ≡ Some dues.Guard → Lasts setup w kind (update_volume v (record v { meta = guarded_meta pv_protection v.meta }))
+VolumeGuardLasts = (setup : Setup) (w : World) (kind : SeatKind) (v : VolumeData) → is_user kind ≡ false → IsStored w (Volume v)
+    → volume_guard_due v ≡ Some dues.Guard → Lasts setup w kind (update_volume v (record v { meta = guarded_meta pv_protection v.meta }))
 
 abbrev pub VolumeUnguardLasts : Type 0
-VolumeUnguardLasts = (setup : Setup) (w : World) (kind : SeatKind) (v : VolumeData) → is_user kind ≡ false → IsStored w (Volume v) → volume_guard_due v ≡ Some dues.Unguard → Lasts setup w kind (update_volume v (record v { meta = unguarded_meta pv_protection v.meta }))
+VolumeUnguardLasts = (setup : Setup) (w : World) (kind : SeatKind) (v : VolumeData) → is_user kind ≡ false → IsStored w (Volume v)
+    → volume_guard_due v ≡ Some dues.Unguard → Lasts setup w kind (update_volume v (record v { meta = unguarded_meta pv_protection v.meta }))
 
 abbrev pub ClaimGuardLasts : Type 0
-ClaimGuardLasts = (setup : Setup) (w : World) (kind : SeatKind) (c : ClaimData) → is_user kind ≡ false → IsStored w (Claim c) → claim_guard_due w.store.rows c ≡ Some dues.Guard → Lasts setup w kind (update_claim c (record c { meta = guarded_meta pvc_protection c.meta }))
+ClaimGuardLasts = (setup : Setup) (w : World) (kind : SeatKind) (c : ClaimData) → is_user kind ≡ false → IsStored w (Claim c)
+    → claim_guard_due w.store.rows c ≡ Some dues.Guard → Lasts setup w kind (update_claim c (record c { meta = guarded_meta pvc_protection c.meta }))
 
 abbrev pub ClaimUnguardLasts : Type 0
-ClaimUnguardLasts = (setup : Setup) (w : World) (kind : SeatKind) (c : ClaimData) → is_user kind ≡ false → IsStored w (Claim c) → claim_guard_due w.store.rows c ≡ Some dues.Unguard → Lasts setup w kind (update_claim c (record c { meta = unguarded_meta pvc_protection c.meta }))
+ClaimUnguardLasts = (setup : Setup) (w : World) (kind : SeatKind) (c : ClaimData) → is_user kind ≡ false → IsStored w (Claim c)
+    → claim_guard_due w.store.rows c ≡ Some dues.Unguard → Lasts setup w kind (update_claim c (record c { meta = unguarded_meta pvc_protection c.meta }))
 
 -- the deletion of a volume that stays
 abbrev pub DeleteLasts : Type 0
-DeleteLasts = (setup : Setup) (w : World) (kind : SeatKind) (v : VolumeData) (given : Option Uid) → is_user kind ≡ false → IsStored w (Volume v) → is_deleting v.meta ≡ false → is_other_uid given v.meta.uid ≡ false → Lasts setup w kind (Delete (volume_key v.meta.name) given)
+DeleteLasts = (setup : Setup) (w : World) (kind : SeatKind) (v : VolumeData) (given : Option Uid) → is_user kind ≡ false → IsStored w (Volume v)
+    → is_deleting v.meta ≡ false → is_other_uid given v.meta.uid ≡ false → Lasts setup w kind (Delete (volume_key v.meta.name) given)

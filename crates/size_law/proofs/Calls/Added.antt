@@ -9,7 +9,8 @@ use Rattle.worker_core.specs.Stands.{StandsFor}
 use Rattle.worker_core.specs.States.{ActorState, asked}
 use Rattle.size_law.specs.Calls.Calls.{AreByActors, IsByActor}
 
-pub by_actor : (given : ActorState) (h past : List Entry) (e : Entry) → past ≡ e ∷ h → IsBuiltKind given.role.kind → e.kind ≡ given.role.kind → StandsFor given (own e.seat h) → asked given ≡ Some e.request → AreByActors h → AreByActors past
+pub by_actor : (given : ActorState) (h past : List Entry) (e : Entry) → past ≡ e ∷ h → IsBuiltKind given.role.kind → e.kind ≡ given.role.kind
+    → StandsFor given (own e.seat h) → asked given ≡ Some e.request → AreByActors h → AreByActors past
 by_actor given h past e is built kind stands asks before = subst AreByActors (sym is) (before, by e.kind (sym kind) (subst IsBuiltKind (sym kind) built))
   where
     by : (k : SeatKind) → given.role.kind ≡ k → IsBuiltKind k → IsByActor k (own e.seat h) e.request

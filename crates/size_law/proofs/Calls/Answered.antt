@@ -5,17 +5,17 @@ use Rattle.std.proofs.lemmas.Bool.{and_parts, not-false}
 use Rattle.std.proofs.lemmas.Bool.Decides.{Decides-eqb, nat_tests}
 use Rattle.std.proofs.lemmas.Option.{same_Some}
 use Rattle.std.proofs.lemmas.Slice.Eq.{bytes_eq-Decides}
-use Rattle.kube_types.specs.declared.uid.Uid.{Uid}
-use Rattle.kube_types.specs.declared.key.Key.{Key}
-use Rattle.kube_types.specs.declared.parts.Kind.TheVariants as kinds
-use Rattle.kube_types.specs.declared.parts.VolumePhase.TheVariants as volumes
-use Rattle.kube_types.specs.declared.objects.Volume.{Volume as VolumeData}
-use Rattle.kube_types.specs.declared.objects.Claim.{Claim as ClaimData}
-use Rattle.kube_types.specs.declared.objects.Object.{Object}
-use Rattle.kube_types.specs.declared.objects.Object.TheVariants.{Class, Node, Volume, Claim, Pod}
-use Rattle.kube_types.specs.Keys.{meta_of, key_of, kind_index, row_at}
-use Rattle.kube_types.specs.Bindings.{bound_by_controller, carries, is_bound, is_empty, is_ended, is_protected_volume, names_claim, refers_carrying, uid_carries}
-use Rattle.kube_types.proofs.KeyOrder.{row_at_key}
+use Rattle.kube_parts.specs.declared.uid.Uid.{Uid}
+use Rattle.kube_objects.specs.declared.key.Key.{Key}
+use Rattle.kube_parts.specs.declared.parts.Kind.TheVariants as kinds
+use Rattle.kube_parts.specs.declared.parts.VolumePhase.TheVariants as volumes
+use Rattle.kube_objects.specs.declared.objects.Volume.{Volume as VolumeData}
+use Rattle.kube_objects.specs.declared.objects.Claim.{Claim as ClaimData}
+use Rattle.kube_objects.specs.declared.objects.Object.{Object}
+use Rattle.kube_objects.specs.declared.objects.Object.TheVariants.{Class, Node, Volume, Claim, Pod}
+use Rattle.kube_objects.specs.Keys.{meta_of, key_of, kind_index, row_at}
+use Rattle.kube_objects.specs.Bindings.{bound_by_controller, carries, is_bound, is_empty, is_ended, is_protected_volume, names_claim, refers_carrying, uid_carries}
+use Rattle.kube_objects.proofs.KeyOrder.{row_at_key}
 use Rattle.call_types.specs.declared.entry.Entry.{Entry}
 use Rattle.call_types.specs.declared.setup.Setup.{Setup}
 use Rattle.call_types.specs.declared.request.NewStatus.TheVariants as statuses
@@ -26,7 +26,19 @@ use Rattle.call_types.specs.declared.reply.Refusal.TheVariants as refusals
 use Rattle.call_types.specs.declared.reply.Reply.{Reply}
 use Rattle.call_types.specs.declared.reply.Reply.TheVariants as replies
 use Rattle.binder_model.specs.Answers.{is_other_version, with_status}
-use Rattle.binder_model.specs.BindWrites.{claim_write, completed_with, is_completed_with, next_write, ref_to, shows_bound, taken_for, write_bound, write_claim_status, write_completion, write_reference}
+use Rattle.binder_model.specs.BindWrites.{
+  claim_write,
+  completed_with,
+  is_completed_with,
+  next_write,
+  ref_to,
+  shows_bound,
+  taken_for,
+  write_bound,
+  write_claim_status,
+  write_completion,
+  write_reference,
+}
 use Rattle.binder_model.specs.ObjectKeys.{claim_key, volume_key}
 use Rattle.binder_model.specs.Store.{at_version, updated_object, with_meta, with_status_of}
 use Rattle.binder_model.specs.Told.{IsClaimWith, IsVolumeWith, ToldObject, own}
@@ -143,7 +155,8 @@ unfolding next_write
 which_write v c r = by (carries v c) (is_bound v.phase) (is_ended v.phase) (is_protected_volume v) refl
   where
     by : (carry bound ended guarded : Bool) → carries v c ≡ carry
-        → (if not carry then (if ended then None else Some (write_reference v c)) else if not bound then (if ended || not guarded then None else Some (write_bound v)) else claim_write v c) ≡ Some r → BindingWrite v c r
+        → (if not carry then (if ended then None else Some (write_reference v c)) else if not bound then
+        (if ended || not guarded then None else Some (write_bound v)) else claim_write v c) ≡ Some r → BindingWrite v c r
     by false bound true guarded c1 e = none_some e
     by false bound false guarded c1 e = written v c _ r e Refers
     by true false true guarded c1 e = none_some e
@@ -213,20 +226,24 @@ module _ (e : Entry) (before : List Entry) (a : IsAnswered e before) (v : Volume
   volume_carries : (r : Request) → e.request ≡ r → BindingWrite v c r → is_some c.meta.uid ≡ true → is_empty v.meta.namespace ≡ true → (w : VolumeData)
       → e.reply ≡ replies.Done (Volume w) → carries w c ≡ true
   volume_carries _ asked Refers known placed w done =
-      let f : Writes (world a.setup a.rest) e.kind (write_reference v c) (Volume w) = subst (λ q. Writes (world a.setup a.rest) e.kind q (Volume w)) asked (done_writes e before a (Volume w) done (ap deletes asked)) in
+      let f : Writes (world a.setup a.rest) e.kind (write_reference v c) (Volume w) =
+      subst (λ q. Writes (world a.setup a.rest) e.kind q (Volume w)) asked (done_writes e before a (Volume w) done (ap deletes asked)) in
       ap (λ x. refers_carrying x c) (updated_reference f.old (taken_for v c) w _ f.is ∙ taken_reference v c) ∙ reference_carries c known
   volume_carries _ asked (Bounds carry) known placed w done =
-      let f : Writes (world a.setup a.rest) e.kind (write_bound v) (Volume w) = subst (λ q. Writes (world a.setup a.rest) e.kind q (Volume w)) asked (done_writes e before a (Volume w) done (ap deletes asked)) in
+      let f : Writes (world a.setup a.rest) e.kind (write_bound v) (Volume w) =
+      subst (λ q. Writes (world a.setup a.rest) e.kind q (Volume w)) asked (done_writes e before a (Volume w) done (ap deletes asked)) in
       let keyed : key_of (Volume v) ≡ volume_key v.meta.name = λ i. record { kind = kinds.PersistentVolume; namespace = empty_is v.meta.namespace placed i; name = v.meta.name } in
       let it : f.old ≡ Volume v = stands_it a.setup a.rest (Volume v) f.old (volume_key v.meta.name) (volume_stood e before a v volume) keyed f.there f.version in
       ap (λ x. refers_carrying x c) (phased_reference v w f.new _ (subst (λ x. with_status (statuses.Volume volumes.Bound) x ≡ Some f.new) it f.fits) f.is) ∙ carry
   volume_carries _ asked (Completes carry) known placed w done =
-      let f : Writes (world a.setup a.rest) e.kind (write_completion v c) (Volume w) = subst (λ q. Writes (world a.setup a.rest) e.kind q (Volume w)) asked (done_writes e before a (Volume w) done (ap deletes asked)) in
+      let f : Writes (world a.setup a.rest) e.kind (write_completion v c) (Volume w) =
+      subst (λ q. Writes (world a.setup a.rest) e.kind q (Volume w)) asked (done_writes e before a (Volume w) done (ap deletes asked)) in
       let next = updated_next (world a.setup a.rest).store e.kind (Claim (completed_with c v)) (Some c.meta.version) (Volume w) f in
       let it : f.old ≡ Claim c = stands_it a.setup a.rest (Claim c) f.old (key_of (Claim (completed_with c v))) (claim_stood e before a c claim) (completed_key c v) f.there f.version in
       other_kind (Volume w) (Claim c) (next.key ∙ ap key_of it) (λ k. omega (arith, k))
   volume_carries _ asked (Shows carry) known placed w done =
-      let f : Writes (world a.setup a.rest) e.kind (write_claim_status v c) (Volume w) = subst (λ q. Writes (world a.setup a.rest) e.kind q (Volume w)) asked (done_writes e before a (Volume w) done (ap deletes asked)) in
+      let f : Writes (world a.setup a.rest) e.kind (write_claim_status v c) (Volume w) =
+      subst (λ q. Writes (world a.setup a.rest) e.kind q (Volume w)) asked (done_writes e before a (Volume w) done (ap deletes asked)) in
       let next = status_next (world a.setup a.rest).store e.kind (claim_key c.meta.namespace c.meta.name) (statuses.Claim _ v.modes (Some v.amount)) (Some c.meta.version) (Volume w) f in
       let it : f.old ≡ Claim c = stands_it a.setup a.rest (Claim c) f.old (claim_key c.meta.namespace c.meta.name) (claim_stood e before a c claim) refl f.there f.version in
       other_kind (Volume w) (Claim c) (next.key ∙ ap key_of it) (λ k. omega (arith, k))
@@ -235,22 +252,26 @@ module _ (e : Entry) (before : List Entry) (a : IsAnswered e before) (v : Volume
   claim_carried : (r : Request) → e.request ≡ r → BindingWrite v c r → is_empty v.meta.namespace ≡ true → (d : ClaimData)
       → e.reply ≡ replies.Done (Claim d) → carries v d ≡ true
   claim_carried _ asked Refers placed d done =
-      let f : Writes (world a.setup a.rest) e.kind (write_reference v c) (Claim d) = subst (λ q. Writes (world a.setup a.rest) e.kind q (Claim d)) asked (done_writes e before a (Claim d) done (ap deletes asked)) in
+      let f : Writes (world a.setup a.rest) e.kind (write_reference v c) (Claim d) =
+      subst (λ q. Writes (world a.setup a.rest) e.kind q (Claim d)) asked (done_writes e before a (Claim d) done (ap deletes asked)) in
       let k = ap (λ o. kind_index (key_of o).kind) f.is ∙ updated_kind f.old (taken_for v c) _ in
       absurd (omega (arith, k))
   claim_carried _ asked (Bounds carry) placed d done =
-      let f : Writes (world a.setup a.rest) e.kind (write_bound v) (Claim d) = subst (λ q. Writes (world a.setup a.rest) e.kind q (Claim d)) asked (done_writes e before a (Claim d) done (ap deletes asked)) in
+      let f : Writes (world a.setup a.rest) e.kind (write_bound v) (Claim d) =
+      subst (λ q. Writes (world a.setup a.rest) e.kind q (Claim d)) asked (done_writes e before a (Claim d) done (ap deletes asked)) in
       let next = status_next (world a.setup a.rest).store e.kind (volume_key v.meta.name) (statuses.Volume volumes.Bound) (Some v.meta.version) (Claim d) f in
       let keyed : key_of (Volume v) ≡ volume_key v.meta.name = λ i. record { kind = kinds.PersistentVolume; namespace = empty_is v.meta.namespace placed i; name = v.meta.name } in
       let it : f.old ≡ Volume v = stands_it a.setup a.rest (Volume v) f.old (volume_key v.meta.name) (volume_stood e before a v volume) keyed f.there f.version in
       other_kind (Claim d) (Volume v) (next.key ∙ ap key_of it) (λ k. omega (arith, k))
   claim_carried _ asked (Completes carry) placed d done =
-      let f : Writes (world a.setup a.rest) e.kind (write_completion v c) (Claim d) = subst (λ q. Writes (world a.setup a.rest) e.kind q (Claim d)) asked (done_writes e before a (Claim d) done (ap deletes asked)) in
+      let f : Writes (world a.setup a.rest) e.kind (write_completion v c) (Claim d) =
+      subst (λ q. Writes (world a.setup a.rest) e.kind q (Claim d)) asked (done_writes e before a (Claim d) done (ap deletes asked)) in
       let next = updated_next (world a.setup a.rest).store e.kind (Claim (completed_with c v)) (Some c.meta.version) (Claim d) f in
       let it : f.old ≡ Claim c = stands_it a.setup a.rest (Claim c) f.old (key_of (Claim (completed_with c v))) (claim_stood e before a c claim) (completed_key c v) f.there f.version in
       carries_on v c d (next.key ∙ ap key_of it) (next.keeps.uid ∙ ap (λ o. (meta_of o).uid) it) ∙ carry
   claim_carried _ asked (Shows carry) placed d done =
-      let f : Writes (world a.setup a.rest) e.kind (write_claim_status v c) (Claim d) = subst (λ q. Writes (world a.setup a.rest) e.kind q (Claim d)) asked (done_writes e before a (Claim d) done (ap deletes asked)) in
+      let f : Writes (world a.setup a.rest) e.kind (write_claim_status v c) (Claim d) =
+      subst (λ q. Writes (world a.setup a.rest) e.kind q (Claim d)) asked (done_writes e before a (Claim d) done (ap deletes asked)) in
       let next = status_next (world a.setup a.rest).store e.kind (claim_key c.meta.namespace c.meta.name) (statuses.Claim _ v.modes (Some v.amount)) (Some c.meta.version) (Claim d) f in
       let it : f.old ≡ Claim c = stands_it a.setup a.rest (Claim c) f.old (claim_key c.meta.namespace c.meta.name) (claim_stood e before a c claim) refl f.there f.version in
       carries_on v c d (next.key ∙ ap key_of it) (next.keeps.uid ∙ ap (λ o. (meta_of o).uid) it) ∙ carry

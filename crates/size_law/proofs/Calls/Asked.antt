@@ -2,17 +2,30 @@
 use Rattle.std.proofs.Common.{◌≡◌, List, Bool, true, false, true≢false, Option, Some, None, inl, inr, refl, sym, ◌∙◌, subst, if◌then◌else◌}
 use Rattle.std.specs.Prelude.{◌&&◌, ◌||◌, not, is_none, is_some}
 use Rattle.plain_data.specs.Pairs.{without_key}
-use Rattle.kube_types.specs.declared.uid.Uid.{Uid}
-use Rattle.kube_types.specs.declared.parts.VolumePhase.{VolumePhase}
-use Rattle.kube_types.specs.declared.parts.VolumePhase.TheVariants as volumes
-use Rattle.kube_types.specs.declared.objects.Ref.{Ref}
-use Rattle.kube_types.specs.declared.objects.Volume.{Volume as VolumeData}
-use Rattle.kube_types.specs.declared.objects.Claim.{Claim as ClaimData}
-use Rattle.kube_types.specs.Bindings.{bound_by_controller, carries, has_key, is_bound, is_empty, is_ended, is_protected_volume, ref_uid}
+use Rattle.kube_parts.specs.declared.uid.Uid.{Uid}
+use Rattle.kube_parts.specs.declared.parts.VolumePhase.{VolumePhase}
+use Rattle.kube_parts.specs.declared.parts.VolumePhase.TheVariants as volumes
+use Rattle.kube_objects.specs.declared.objects.Ref.{Ref}
+use Rattle.kube_objects.specs.declared.objects.Volume.{Volume as VolumeData}
+use Rattle.kube_objects.specs.declared.objects.Claim.{Claim as ClaimData}
+use Rattle.kube_objects.specs.Bindings.{bound_by_controller, carries, has_key, is_bound, is_empty, is_ended, is_protected_volume, ref_uid}
 use Rattle.call_types.specs.declared.entry.Entry.{Entry}
 use Rattle.call_types.specs.declared.request.Request.{Request}
 use Rattle.binder_model.specs.At.{IsWrittenAt}
-use Rattle.binder_model.specs.BindWrites.{claim_write, is_completed_with, next_write, shows_bound, taken_for, unbound_volume, without_uid, write_bound, write_claim_status, write_completion, write_reference, write_unbound}
+use Rattle.binder_model.specs.BindWrites.{
+  claim_write,
+  is_completed_with,
+  next_write,
+  shows_bound,
+  taken_for,
+  unbound_volume,
+  without_uid,
+  write_bound,
+  write_claim_status,
+  write_completion,
+  write_reference,
+  write_unbound,
+}
 use Rattle.binder_model.specs.Told.{ToldClaim}
 use Rattle.model_laws.proofs.Evidence.{told_claim, told_volume}
 use Rattle.model_laws.proofs.Identity.{placed_same}
@@ -62,7 +75,8 @@ binding_gives v c mine r volume claim suits = by (carries v c) (is_bound v.phase
     suited other = elim suits [ inl s ↦ s | inr carry ↦ absurd (true≢false (sym carry ∙ other)) ]
 
     by : (carry bound ended guarded : Bool) → carries v c ≡ carry
-        → (if not carry then (if ended then None else Some (write_reference v c)) else if not bound then (if ended || not guarded then None else Some (write_bound v)) else claim_write v c) ≡ Some r → GivesSo mine r
+        → (if not carry then (if ended then None else Some (write_reference v c)) else if not bound then
+        (if ended || not guarded then None else Some (write_bound v)) else claim_write v c) ≡ Some r → GivesSo mine r
     by false bound true guarded c1 e = none_some e
     by false bound false guarded c1 e = answered mine _ r e (reference_gives v c mine volume claim (suited c1))
     by true false true guarded c1 e = none_some e
@@ -80,7 +94,8 @@ unbound_free : (v : VolumeData) → ref_uid (unbound_volume v).claim_ref ≡ Non
 unfolding unbound_volume
 unbound_free v = by (has_key bound_by_controller v.meta.annotations)
   where
-    by : (b : Bool) → ref_uid (if b then record v { claim_ref = None; meta = record v.meta { annotations = without_key bound_by_controller v.meta.annotations } } else record v { claim_ref = without_uid v.claim_ref }).claim_ref ≡ None
+    by : (b : Bool) → ref_uid (if b then record v
+        { claim_ref = None; meta = record v.meta { annotations = without_key bound_by_controller v.meta.annotations } } else record v { claim_ref = without_uid v.claim_ref }).claim_ref ≡ None
     by true = refl
     by false = no_uid v.claim_ref
 

@@ -4,23 +4,37 @@ use Rattle.std.specs.Prelude.{◌&&◌, ◌||◌, not, bytes_eq, is_none, is_som
 use Rattle.std.specs.Bool.{beq}
 use Rattle.std.proofs.lemmas.Bool.{and_parts, or_cases}
 use Rattle.std.proofs.lemmas.Bool.Decides.{nat_tests}
-use Rattle.kube_types.specs.declared.uid.Uid.{Uid}
-use Rattle.kube_types.specs.declared.key.Key.{Key}
+use Rattle.kube_parts.specs.declared.uid.Uid.{Uid}
+use Rattle.kube_objects.specs.declared.key.Key.{Key}
 use Rattle.kube_types.specs.declared.lookup.Live.TheVariants.{NotAsked}
-use Rattle.kube_types.specs.declared.parts.Kind.TheVariants as kinds
-use Rattle.kube_types.specs.declared.objects.Ref.{Ref}
-use Rattle.kube_types.specs.declared.objects.Volume.{Volume as VolumeData}
-use Rattle.kube_types.specs.declared.objects.Claim.{Claim as ClaimData}
-use Rattle.kube_types.specs.declared.objects.Object.{Object}
-use Rattle.kube_types.specs.declared.objects.Object.TheVariants.{Class, Node, Volume, Claim, Pod}
-use Rattle.kube_types.specs.Keys.{row_at, rows_of}
-use Rattle.kube_types.specs.Bindings.{carries, class_of_claim, class_of_volume, is_completed, is_deleting, is_empty, is_for, is_lost, is_protected_volume, names_claim, refers_carrying, refers_for, uid_fits}
-use Rattle.kube_types.proofs.KeyOrder.{row_at_key}
+use Rattle.kube_parts.specs.declared.parts.Kind.TheVariants as kinds
+use Rattle.kube_objects.specs.declared.objects.Ref.{Ref}
+use Rattle.kube_objects.specs.declared.objects.Volume.{Volume as VolumeData}
+use Rattle.kube_objects.specs.declared.objects.Claim.{Claim as ClaimData}
+use Rattle.kube_objects.specs.declared.objects.Object.{Object}
+use Rattle.kube_objects.specs.declared.objects.Object.TheVariants.{Class, Node, Volume, Claim, Pod}
+use Rattle.kube_objects.specs.Keys.{row_at, rows_of}
+use Rattle.kube_objects.specs.Bindings.{
+  carries,
+  class_of_claim,
+  class_of_volume,
+  is_completed,
+  is_deleting,
+  is_empty,
+  is_for,
+  is_lost,
+  is_protected_volume,
+  names_claim,
+  refers_carrying,
+  refers_for,
+  uid_fits,
+}
+use Rattle.kube_objects.proofs.KeyOrder.{row_at_key}
 use Rattle.binder_model.specs.BinderDue.{has_other_uid}
 use Rattle.binder_model.specs.BindWrites.{next_write}
 use Rattle.binder_model.specs.Matching.{covers, fits, eligible, has_match, is_selected, is_admitted_on, may_serve}
 use Rattle.binder_model.specs.ObjectKeys.{volume_key}
-use Rattle.kube_types.specs.VolumeIndex.{as_volume}
+use Rattle.volume_index.specs.VolumeIndex.{as_volume}
 use Rattle.volume_sync.specs.VolumeDecision.{volume_decision}
 use Rattle.volume_sync.specs.declared.action.VolumeAction.{VolumeAction}
 use Rattle.volume_sync.specs.declared.action.VolumeAction.TheVariants as actions
@@ -136,7 +150,8 @@ module _ (rows : List Object) (c : ClaimData) (v : VolumeData) (place : ℕ) (th
   binding_suits choice e = by (is_completed c) (is_deleting c.meta) (is_empty c.volume_name) (has_match rows c) refl choice e
     where
       by : (done deleting none match : Bool) → is_completed c ≡ done → IsVolumeFor none rows c (Some place)
-          → (if done then (if none then unless_lost c steps.Lost else completed_step c NotAsked (named_volume rows c)) else if deleting then steps.Nothing else if none then (if match then steps.Bind else if may_assign rows c then steps.AssignClass else steps.Nothing) else named_step c (named_volume rows c)) ≡ steps.Bind
+          → (if done then (if none then unless_lost c steps.Lost else completed_step c NotAsked (named_volume rows c)) else if deleting then
+          steps.Nothing else if none then (if match then steps.Bind else if may_assign rows c then steps.AssignClass else steps.Nothing) else named_step c (named_volume rows c)) ≡ steps.Bind
           → SuitsOrHas v c
       by true deleting true match d choice e = absurd (lost_binds_none (is_lost c.phase) e)
       by true deleting false match d choice e =

@@ -1,8 +1,8 @@
 -- What a binder asks, computed.
 use Rattle.std.proofs.Common.{refl, true≢false, arith}
 use Rattle.std.specs.Prelude.{ℕ, ◌≡◌, []}
-use Rattle.kube_types.specs.declared.parts.Kind.{Kind}
-use Rattle.kube_types.specs.declared.parts.Kind.TheVariants as kinds
+use Rattle.kube_parts.specs.declared.parts.Kind.{Kind}
+use Rattle.kube_parts.specs.declared.parts.Kind.TheVariants as kinds
 use Rattle.call_types.specs.declared.request.SeatKind.{SeatKind}
 use Rattle.call_types.specs.declared.request.SeatKind.TheVariants as seats
 use Rattle.binder_model.specs.BindWrites.{next_write, taken_for, write_reference}
@@ -82,4 +82,13 @@ asked_examples = record {
 
 pub decision_examples : DecisionExamples
 unfolding claim_decision next_write
-decision_examples = record { fitting = refl; too_small = refl; too_small_and_named = refl; too_small_and_reserved = refl; pair = refl; pair_is_too_small = refl; restored = refl; restored_is_too_small = refl }
+decision_examples = record {
+  fitting = refl;
+  too_small = refl;
+  too_small_and_named = refl;
+  too_small_and_reserved = refl;
+  pair = refl;
+  pair_is_too_small = refl;
+  restored = refl;
+  restored_is_too_small = refl;
+}

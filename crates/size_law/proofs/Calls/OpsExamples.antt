@@ -1,10 +1,10 @@
 -- What ops makes, computed.
 use Rattle.std.proofs.Common.{◌≡◌, ℕ, [], true≢false, inl, inr, refl, sym, ap, arith}
 use Rattle.std.specs.Prelude.{bytes_eq, codes}
-use Rattle.kube_types.specs.declared.parts.Modes.{Modes}
-use Rattle.kube_types.specs.declared.objects.Amount.{Amount}
-use Rattle.kube_types.specs.declared.objects.Object.{Object}
-use Rattle.kube_types.specs.declared.objects.Object.TheVariants.{Claim}
+use Rattle.kube_parts.specs.declared.parts.Modes.{Modes}
+use Rattle.kube_objects.specs.declared.objects.Amount.{Amount}
+use Rattle.kube_objects.specs.declared.objects.Object.{Object}
+use Rattle.kube_objects.specs.declared.objects.Object.TheVariants.{Claim}
 use Rattle.binder_model.specs.BindWrites.{taken_for}
 use Rattle.binder_model.specs.ObjectKeys.{claim_key}
 use Rattle.binder_model.specs.Provisioning.{provisioned_volume}

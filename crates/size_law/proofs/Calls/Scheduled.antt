@@ -3,13 +3,13 @@
 use Rattle.std.proofs.Common.{◌≡◌, ◌∙◌, ℕ, zero, suc, Bool, true, false, List, [], ◌∷◌, Option, Some, None, inl, inr, refl, sym, subst, if◌then◌else◌}
 use Rattle.std.specs.Prelude.{slice_get}
 use Rattle.std.specs.List.{AllByRecursion}
-use Rattle.kube_types.specs.declared.uid.Uid.{Uid}
-use Rattle.kube_types.specs.declared.objects.Volume.{Volume as VolumeData}
-use Rattle.kube_types.specs.declared.objects.Pod.{Pod as PodData}
-use Rattle.kube_types.specs.declared.objects.Object.{Object}
-use Rattle.kube_types.specs.declared.objects.Object.TheVariants.{Class, Node, Volume, Claim, Pod}
-use Rattle.kube_types.specs.Bindings.{is_scheduled, ref_uid}
-use Rattle.kube_types.specs.Keys.{AreRows, key_of}
+use Rattle.kube_parts.specs.declared.uid.Uid.{Uid}
+use Rattle.kube_objects.specs.declared.objects.Volume.{Volume as VolumeData}
+use Rattle.kube_objects.specs.declared.objects.Pod.{Pod as PodData}
+use Rattle.kube_objects.specs.declared.objects.Object.{Object}
+use Rattle.kube_objects.specs.declared.objects.Object.TheVariants.{Class, Node, Volume, Claim, Pod}
+use Rattle.kube_objects.specs.Bindings.{is_scheduled, ref_uid}
+use Rattle.kube_objects.specs.Keys.{AreRows, key_of}
 use Rattle.call_types.specs.declared.entry.Entry.{Entry}
 use Rattle.call_types.specs.declared.request.Request.{Request}
 use Rattle.call_types.specs.declared.request.Request.TheVariants as requests
@@ -103,7 +103,8 @@ module _ (mine : List Entry) (e : Entry) where
       by : (uid : Option Uid) → GivesTo uid mine new given → GivesTo uid (e ∷ mine) new given
       by None g = tt
       by (Some uid) g =
-          inr (told_map (volume_map {P = λ o. IsWrittenAt given new.meta.namespace new.meta.name o.meta × ToldClaim (IsGiven o new) mine} {Q = λ o. IsWrittenAt given new.meta.namespace new.meta.name o.meta × ToldClaim (IsGiven o new) (e ∷ mine)} (λ o h. (h.0, inr h.1))) mine g)
+          inr (told_map (volume_map {P = λ o. IsWrittenAt given new.meta.namespace new.meta.name o.meta × ToldClaim (IsGiven o new) mine}
+          {Q = λ o. IsWrittenAt given new.meta.namespace new.meta.name o.meta × ToldClaim (IsGiven o new) (e ∷ mine)} (λ o h. (h.0, inr h.1))) mine g)
   gives_on request g = tt
 
   each_on : (writes : List Request) → AllGive mine writes → AllGive (e ∷ mine) writes

@@ -1,9 +1,9 @@
 -- Each call that a turn of an actor gives, gives a volume only to a claim that it suits.
 use Rattle.std.proofs.Common.{◌≡◌, ℕ, List, [], ◌∷◌, Bool, true, false, true≢false, Option, Some, None, inl, inr, refl, sym, ◌∙◌, ap, subst, if◌then◌else◌}
 use Rattle.std.specs.Prelude.{◌==◌, option_map, ⊤}
-use Rattle.kube_types.specs.declared.key.Key.{Key}
-use Rattle.kube_types.specs.declared.parts.Kind.{Kind}
-use Rattle.kube_types.specs.Keys.{AreRows, row_at}
+use Rattle.kube_objects.specs.declared.key.Key.{Key}
+use Rattle.kube_parts.specs.declared.parts.Kind.{Kind}
+use Rattle.kube_objects.specs.Keys.{AreRows, row_at}
 use Rattle.call_types.specs.declared.entry.Entry.{Entry}
 use Rattle.call_types.specs.declared.setup.Setup.{Setup}
 use Rattle.call_types.specs.declared.request.Request.{Request}
@@ -90,7 +90,8 @@ TaskSuits (tasks.Binder machine) mine = MachineSuits machine
 TaskSuits (tasks.Schedule op) mine = AllGive mine op.writes
 TaskSuits task mine = ⊤
 
-task_begins : (role : Role) (mine : List Entry) (c : AllKnown) (key : Key) (t : Task) → task_kind t ≡ role.kind → AllStandFor c mine → AreRows (all_objects c) → IsDecision role (memory_of role mine) (all_objects c) key (firsts.Begins t) → TaskSuits t mine
+task_begins : (role : Role) (mine : List Entry) (c : AllKnown) (key : Key) (t : Task) → task_kind t ≡ role.kind → AllStandFor c mine
+    → AreRows (all_objects c) → IsDecision role (memory_of role mine) (all_objects c) key (firsts.Begins t) → TaskSuits t mine
 task_begins role mine c key (tasks.ClaimProtect op) kind stand order first = tt
 task_begins role mine c key (tasks.VolumeProtect op) kind stand order first = tt
 task_begins role mine c key (tasks.Agent op) kind stand order first = tt
@@ -102,20 +103,23 @@ task_begins role mine c key (tasks.Schedule op) kind stand order first =
     begun_gives (all_objects c) mine stand.rows order (memory_of role mine).tries.refused (row_at key (all_objects c)) op
     (subst (λ k. IsFirstOf k role.node (memory_of role mine) (all_objects c) key (firsts.Begins (tasks.Schedule op))) (sym kind) first)
 
-task_goes : (t next : Task) (e : Entry) (before : List Entry) → IsAnswered e before → TaskKeeps t before → TaskSuits t before → task_call t ≡ Some e.request → task_moved t e.reply ≡ Some next → TaskSuits next (e ∷ before)
+task_goes : (t next : Task) (e : Entry) (before : List Entry) → IsAnswered e before → TaskKeeps t before → TaskSuits t before
+    → task_call t ≡ Some e.request → task_moved t e.reply ≡ Some next → TaskSuits next (e ∷ before)
 task_goes (tasks.ClaimProtect op) next e before a kept suits call is = subst (λ t. TaskSuits t (e ∷ before)) (one (tasks.ClaimProtect (claim_moved op e.reply)) next is) tt
 task_goes (tasks.VolumeProtect op) next e before a kept suits call is = subst (λ t. TaskSuits t (e ∷ before)) (one (tasks.VolumeProtect (volume_moved op e.reply)) next is) tt
 task_goes (tasks.Agent op) next e before a kept suits call is = subst (λ t. TaskSuits t (e ∷ before)) (one (tasks.Agent (agent_moved op e.reply)) next is) tt
 task_goes (tasks.Provision op) next e before a kept suits call is = subst (λ t. TaskSuits t (e ∷ before)) (one (tasks.Provision (provision_moved op e.reply)) next is) tt
 task_goes (tasks.Erase op) next e before a kept suits call is = subst (λ t. TaskSuits t (e ∷ before)) (one (tasks.Erase (erase_moved op e.reply)) next is) tt
-task_goes (tasks.Schedule op) next e before a kept suits call is = subst (λ t. TaskSuits t (e ∷ before)) (one (tasks.Schedule (schedule_moved op e.reply)) next is) (moved_gives op before e e.reply suits)
+task_goes (tasks.Schedule op) next e before a kept suits call is =
+    subst (λ t. TaskSuits t (e ∷ before)) (one (tasks.Schedule (schedule_moved op e.reply)) next is) (moved_gives op before e e.reply suits)
 task_goes (tasks.Binder m) next e before a kept suits call is = by (binder.moved m e.reply) refl is
   where
     by : (x : Option Machine) → binder.moved m e.reply ≡ x → option_map (λ k. tasks.Binder k) x ≡ Some next → TaskSuits next (e ∷ before)
     by None at h = none_some h
     by (Some k) at h = subst (λ t. TaskSuits t (e ∷ before)) (one (tasks.Binder k) next h) (goes_on_suits m k e before a kept call at)
 
-under_goes : (role : Role) (u next : Under) (e : Entry) (before : List Entry) → IsAnswered e before → KeepsUnder role u before → TaskSuits u.task before → e.request ≡ u.call → under_after u e.reply ≡ Some next → TaskSuits next.task (e ∷ before)
+under_goes : (role : Role) (u next : Under) (e : Entry) (before : List Entry) → IsAnswered e before → KeepsUnder role u before
+    → TaskSuits u.task before → e.request ≡ u.call → under_after u e.reply ≡ Some next → TaskSuits next.task (e ∷ before)
 under_goes role u next e before a kept suits asked is = by_task (task_moved u.task e.reply) refl is
   where
     by_call : (t : Task) (c : Option Request) → TaskSuits t (e ∷ before) → with_call u.key t c ≡ Some next → TaskSuits next.task (e ∷ before)

@@ -2,11 +2,11 @@
 use Rattle.std.proofs.Common.{sym, refl, inl, inr, ap, ◌∙◌, true≢false, arith}
 use Rattle.std.proofs.lemmas.Bool.{le-leb}
 use Rattle.std.specs.Prelude.{◌≡◌, ◌⊎◌, nat_le, Bool, true, false, Option, Some, None, is_some, bytes_eq}
-use Rattle.kube_types.specs.declared.objects.Ref.{Ref}
-use Rattle.kube_types.specs.declared.objects.Volume.{Volume as VolumeData}
-use Rattle.kube_types.specs.declared.objects.Claim.{Claim as ClaimData}
-use Rattle.kube_types.specs.Uids.{uid_of_serial}
-use Rattle.kube_types.specs.Bindings.{is_completed, names_claim, ref_uid}
+use Rattle.kube_objects.specs.declared.objects.Ref.{Ref}
+use Rattle.kube_objects.specs.declared.objects.Volume.{Volume as VolumeData}
+use Rattle.kube_objects.specs.declared.objects.Claim.{Claim as ClaimData}
+use Rattle.kube_parts.specs.Uids.{uid_of_serial}
+use Rattle.kube_objects.specs.Bindings.{is_completed, names_claim, ref_uid}
 use Rattle.call_types.specs.declared.request.SeatKind.{SeatKind}
 use Rattle.call_types.specs.declared.request.SeatKind.TheVariants as seats
 use Rattle.binder_model.specs.BindWrites.{taken_for}
@@ -102,11 +102,14 @@ giving_examples = record {
   too_small = λ g. not_free a (c 9) (fewer a (c 9) refl) refl refl (suited seats.Binder a (c 9) g);
   other_mode = λ g. not_free a (of_blocks (c 3)) (λ f. other_mode a (of_blocks (c 3)) f refl refl) refl refl (suited seats.Binder a (of_blocks (c 3)) g);
   too_small_and_named = λ g. not_free a (naming_a (c 9)) (fewer a (naming_a (c 9)) refl) refl refl (suited seats.Binder a (naming_a (c 9)) g);
-  too_small_and_reserved = λ g. neither (fewer reserved_a (c 9) refl) (neither (λ p. unnamed reserved_a (c 9) refl refl p.named) (λ r. true≢false (sym r.completed))) (suited seats.Binder reserved_a (c 9) g);
-  too_small_and_completed = λ g. neither (fewer reserved_a (completed (naming_a (c 9))) refl) (neither (λ p. true≢false p.undone) (λ r. true≢false (ap is_some r.free))) (suited seats.Binder reserved_a (completed (naming_a (c 9))) g);
+  too_small_and_reserved = λ g. neither (fewer reserved_a (c 9) refl) (neither (λ p. unnamed reserved_a (c 9) refl refl p.named)
+      (λ r. true≢false (sym r.completed))) (suited seats.Binder reserved_a (c 9) g);
+  too_small_and_completed = λ g. neither (fewer reserved_a (completed (naming_a (c 9))) refl) (neither (λ p. true≢false p.undone)
+      (λ r. true≢false (ap is_some r.free))) (suited seats.Binder reserved_a (completed (naming_a (c 9))) g);
   claim_never_told = λ g. sole (sole (sole (sole g).1).1).1;
   volume_never_told = λ g. sole (sole g).1;
-  scheduler_fitting = inr (inl (refl, inl (record { version = refl; placed = refl; named = refl }, inl (refl, inl (record { change = refl; suits = inl (record { bytes = omega arith; mode = refl }) })))));
+  scheduler_fitting = inr (inl
+      (refl, inl (record { version = refl; placed = refl; named = refl }, inl (refl, inl (record { change = refl; suits = inl (record { bytes = omega arith; mode = refl }) })))));
   scheduler_too_small = λ g. not_free a (c 9) (fewer a (c 9) refl) refl refl (suited seats.Scheduler a (c 9) g);
   other_writes_are_free = tt;
 }

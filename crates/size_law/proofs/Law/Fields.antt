@@ -8,16 +8,16 @@ use Rattle.std.specs.Bool.{beq}
 use Rattle.plain_data.specs.Pairs.{Pair, value_at, put_pair, without_key}
 use Rattle.plain_data.specs.Pairs as pairs
 use Rattle.plain_data.proofs.RowLookups.{find-put, find-put_other, find-without_other}
-use Rattle.kube_types.specs.declared.uid.Uid.{Uid}
-use Rattle.kube_types.specs.declared.objects.Amount.{Amount}
-use Rattle.kube_types.specs.declared.objects.Meta.{Meta}
-use Rattle.kube_types.specs.declared.objects.Ref.{Ref}
-use Rattle.kube_types.specs.declared.objects.Volume.{Volume as VolumeData}
-use Rattle.kube_types.specs.declared.objects.Claim.{Claim as ClaimData}
-use Rattle.kube_types.specs.declared.objects.Object.{Object}
-use Rattle.kube_types.specs.declared.objects.Object.TheVariants.{Volume, Claim}
-use Rattle.kube_types.specs.Keys.{meta_of}
-use Rattle.kube_types.specs.Bindings.{bind_completed, bound_by_controller, selected_node, yes}
+use Rattle.kube_parts.specs.declared.uid.Uid.{Uid}
+use Rattle.kube_objects.specs.declared.objects.Amount.{Amount}
+use Rattle.kube_objects.specs.declared.objects.Meta.{Meta}
+use Rattle.kube_objects.specs.declared.objects.Ref.{Ref}
+use Rattle.kube_objects.specs.declared.objects.Volume.{Volume as VolumeData}
+use Rattle.kube_objects.specs.declared.objects.Claim.{Claim as ClaimData}
+use Rattle.kube_objects.specs.declared.objects.Object.{Object}
+use Rattle.kube_objects.specs.declared.objects.Object.TheVariants.{Volume, Claim}
+use Rattle.kube_objects.specs.Keys.{meta_of}
+use Rattle.kube_objects.specs.Bindings.{bind_completed, bound_by_controller, selected_node, yes}
 use Rattle.binder_model.specs.BindWrites.{annotated_meta_if}
 use Rattle.binder_model.specs.Fields.{update_fault, changed_field, keeps_class, same_claim_spec}
 use Rattle.binder_model.specs.Same.{same_option, same_modes, same_amount, same_selector, same_ref}
@@ -52,7 +52,8 @@ pub claim_fixed : (a b : ClaimData) → update_fault (Claim a) (Claim b) ≡ Non
 unfolding update_fault changed_field
 claim_fixed a b e =
     let spec = and_parts (same_claim_spec a b) (keeps_class a b) (not-false _ (faulty_none _ _ _ e).0) in
-    let selectors = and_parts (same_modes a.modes b.modes && same_amount a.amount b.amount && beq a.block b.block && same_option same_selector a.selector b.selector) (bytes_eq a.extra b.extra) spec.0 in
+    let selectors = and_parts (same_modes a.modes b.modes && same_amount a.amount b.amount && beq a.block b.block && same_option same_selector
+    a.selector b.selector) (bytes_eq a.extra b.extra) spec.0 in
     let blocks = and_parts (same_modes a.modes b.modes && same_amount a.amount b.amount && beq a.block b.block) (same_option same_selector a.selector b.selector) selectors.0 in
     let sizes = and_parts (same_modes a.modes b.modes && same_amount a.amount b.amount) (beq a.block b.block) blocks.0 in
     let amounts = and_parts (same_modes a.modes b.modes) (same_amount a.amount b.amount) sizes.0 in
@@ -104,7 +105,11 @@ pub user_keeps : (o new : VolumeData) (r : Ref) (uid : Uid) → Passes (Some (Vo
 user_keeps o new r uid p h =
     let clears : clears_released (Some (Volume o)) (Volume new) ≡ false = none_false _ new.claim_ref r h.is in
     let given : has_uid new.claim_ref ≡ true = ap has_uid h.is ∙ ap is_some h.known in
-    record { reference = same_refs _ _ (by (same_option same_ref o.claim_ref new.claim_ref) (has_uid o.claim_ref) (has_uid new.claim_ref) (clears_released (Some (Volume o)) (Volume new)) given clears p.reference); clears = clears }
+    record {
+      reference = same_refs _ _ (by (same_option same_ref o.claim_ref new.claim_ref) (has_uid o.claim_ref) (has_uid new.claim_ref)
+          (clears_released (Some (Volume o)) (Volume new)) given clears p.reference);
+      clears = clears;
+    }
   where
     by : (same before after clears : Bool) → after ≡ true → clears ≡ false → (not same && (before || after) && not clears) ≡ false → same ≡ true
     by true before after clears a c e = refl

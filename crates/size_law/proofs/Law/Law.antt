@@ -2,16 +2,16 @@
 use Rattle.std.proofs.Common.{sym, refl, subst, inl, inr, ap, ◌∙◌, true≢false, arith}
 use Rattle.std.proofs.lemmas.Option.{same_Some}
 use Rattle.std.specs.Prelude.{ℕ, ◌+◌, ◌<◌, ◌≡◌, ◌⊎◌, Bool, true, false, List, [], ◌∷◌, Option, Some, None, is_some, length}
-use Rattle.kube_types.specs.declared.uid.Uid.{Uid}
-use Rattle.kube_types.specs.declared.key.Key.{Key}
-use Rattle.kube_types.specs.declared.objects.Ref.{Ref}
-use Rattle.kube_types.specs.declared.objects.Volume.{Volume as VolumeData}
-use Rattle.kube_types.specs.declared.objects.Claim.{Claim as ClaimData}
-use Rattle.kube_types.specs.declared.objects.Object.{Object}
-use Rattle.kube_types.specs.declared.objects.Object.TheVariants.{Class, Node, Volume, Claim, Pod}
-use Rattle.kube_types.specs.Keys.{meta_of, key_of, row_at}
-use Rattle.kube_types.specs.Bindings.{bind_completed, bound_by_controller, has_key, is_completed, ref_uid}
-use Rattle.kube_types.proofs.KeyOrder.{row_at_key}
+use Rattle.kube_parts.specs.declared.uid.Uid.{Uid}
+use Rattle.kube_objects.specs.declared.key.Key.{Key}
+use Rattle.kube_objects.specs.declared.objects.Ref.{Ref}
+use Rattle.kube_objects.specs.declared.objects.Volume.{Volume as VolumeData}
+use Rattle.kube_objects.specs.declared.objects.Claim.{Claim as ClaimData}
+use Rattle.kube_objects.specs.declared.objects.Object.{Object}
+use Rattle.kube_objects.specs.declared.objects.Object.TheVariants.{Class, Node, Volume, Claim, Pod}
+use Rattle.kube_objects.specs.Keys.{meta_of, key_of, row_at}
+use Rattle.kube_objects.specs.Bindings.{bind_completed, bound_by_controller, has_key, is_completed, ref_uid}
+use Rattle.kube_objects.proofs.KeyOrder.{row_at_key}
 use Rattle.call_types.specs.declared.entry.Entry.{Entry}
 use Rattle.call_types.specs.declared.setup.Setup.{Setup}
 use Rattle.binder_model.specs.Imports.{most_serials, imported_object}
@@ -162,7 +162,8 @@ get_enough : (setup : Setup) (past : List Entry) → Invariant setup past → Su
 get_enough setup past inv s key c is counts lost fit =
     let b = (bindings_stand setup past inv).bound key c is counts in
     let t = carried b.volume c b.carries in
-    let given = s.given (volume_key c.volume_name) key b.volume c t.reference t.uid b.there is t.refers t.its (ap (was_imported_as_lost setup) (sym t.its) ∙ lost) (subst (ImportsFit setup) t.its fit) in
+    let given = s.given (volume_key c.volume_name) key b.volume c t.reference t.uid b.there is t.refers t.its
+    (ap (was_imported_as_lost setup) (sym t.its) ∙ lost) (subst (ImportsFit setup) t.its fit) in
     record {
       volume = b.volume;
       there = b.there;

@@ -2,12 +2,12 @@
 use Rattle.std.proofs.Common.{sym, refl, subst, inl, inr, ap, true≢false, arith}
 use Rattle.std.specs.Prelude.{Bool, true, false, List, [], ◌∷◌, Some}
 use mathlib.Core.Bool.{xor}
-use Rattle.kube_types.specs.declared.parts.VolumePhase.TheVariants as volumes
-use Rattle.kube_types.specs.declared.objects.Volume.{Volume as VolumeData}
-use Rattle.kube_types.specs.declared.objects.Claim.{Claim as ClaimData}
-use Rattle.kube_types.specs.declared.objects.Object.{Object}
-use Rattle.kube_types.specs.declared.objects.Object.TheVariants.{Volume}
-use Rattle.kube_types.specs.Uids.{uid_of_serial}
+use Rattle.kube_parts.specs.declared.parts.VolumePhase.TheVariants as volumes
+use Rattle.kube_objects.specs.declared.objects.Volume.{Volume as VolumeData}
+use Rattle.kube_objects.specs.declared.objects.Claim.{Claim as ClaimData}
+use Rattle.kube_objects.specs.declared.objects.Object.{Object}
+use Rattle.kube_objects.specs.declared.objects.Object.TheVariants.{Volume}
+use Rattle.kube_parts.specs.Uids.{uid_of_serial}
 use Rattle.call_types.specs.declared.entry.Entry.{Entry}
 use Rattle.call_types.specs.declared.request.SeatKind.TheVariants as seats
 use Rattle.call_types.specs.declared.reply.Reply.TheVariants as replies
@@ -27,7 +27,34 @@ use Rattle.model_laws.specs.Worked.{no_setup}
 use Rattle.safety_law.proofs.Invariant.Objects.{same_claim, same_volume}
 use Rattle.size_law.specs.Law.Fitting.{Fits, GivesFitting}
 use Rattle.size_law.specs.Law.Enough.{ImportsFit, WerePair, IsGivenByController, IsNamedByController}
-use Rattle.size_law.specs.Law.Examples.{PairRunExamples, ImportedPairExamples, LostClaimExamples, KeptMarkExamples, EarlyMarkExamples, again_reserved, back_a, c, cleared_a, done, early_c, entry, lists_claim, lists_volume, lost_c, naming_a, new_c, old_a, old_c, old_pair, pair_binding, reserved_a, reserved_back, taken, told, v13}
+use Rattle.size_law.specs.Law.Examples.{
+  PairRunExamples,
+  ImportedPairExamples,
+  LostClaimExamples,
+  KeptMarkExamples,
+  EarlyMarkExamples,
+  again_reserved,
+  back_a,
+  c,
+  cleared_a,
+  done,
+  early_c,
+  entry,
+  lists_claim,
+  lists_volume,
+  lost_c,
+  naming_a,
+  new_c,
+  old_a,
+  old_c,
+  old_pair,
+  pair_binding,
+  reserved_a,
+  reserved_back,
+  taken,
+  told,
+  v13,
+}
 use Rattle.size_law.proofs.Law.Examples.{by_hand_examples, fewer, giving_examples}
 use Rattle.size_law.proofs.Law.Runs.{after_bind, after_take, l3, l4}
 
@@ -58,11 +85,15 @@ p7 = ((refl, (refl, (refl, (refl, tt)))), inr (inr (inl (refl, inl (record { ver
     complete = inl (refl, inl (record { bound = refl; carries = refl; names = inr refl; change = refl }))
 
 run_of_pair : Run no_setup pair_binding
-unfolding effect on_devices device_answer outcome create update update_status list with_status written_if_fits refuse refuse_field refuse_rule guard_on guard breaks create_fault kind_fault volume_fault claim_fault update_fault changed_field faulty lacks_node admitted_object without_status created_object with_status_of updated_object at_version leaves with_meta reply_to world_after reply_of after log_after xor taken_for completed_with
+unfolding effect on_devices device_answer outcome create update update_status list with_status written_if_fits refuse refuse_field refuse_rule
+    guard_on guard breaks create_fault kind_fault volume_fault claim_fault update_fault changed_field faulty lacks_node admitted_object
+    without_status created_object with_status_of updated_object at_version leaves with_meta reply_to world_after reply_of after log_after xor taken_for completed_with
 run_of_pair = (((((((tt, refl, tt), refl, tt), refl, l3 reserved_a), refl, l4 reserved_a x9), refl, p5), refl, p6), refl, p7)
 
 pair_of_9 : WerePair no_setup pair_binding (taken reserved_a x9 4 volumes.Bound) (done x9 reserved_a 5)
-unfolding effect on_devices device_answer outcome create update update_status list with_status written_if_fits refuse refuse_field refuse_rule guard_on guard breaks create_fault kind_fault volume_fault claim_fault update_fault changed_field faulty lacks_node admitted_object without_status created_object with_status_of updated_object at_version leaves with_meta reply_to world_after reply_of after log_after xor taken_for completed_with
+unfolding effect on_devices device_answer outcome create update update_status list with_status written_if_fits refuse refuse_field refuse_rule
+    guard_on guard breaks create_fault kind_fault volume_fault claim_fault update_fault changed_field faulty lacks_node admitted_object
+    without_status created_object with_status_of updated_object at_version leaves with_meta reply_to world_after reply_of after log_after xor taken_for completed_with
 pair_of_9 = inl (inl (inl (inl (inl (inr (record {
   volume = reserved_a;
   volume_there = refl;
@@ -82,7 +113,9 @@ unfolding completed_with
 not_named d = true≢false (sym d.marked)
 
 pub pair_run_examples : PairRunExamples
-unfolding effect on_devices device_answer outcome create update update_status list with_status written_if_fits refuse refuse_field refuse_rule guard_on guard breaks create_fault kind_fault volume_fault claim_fault update_fault changed_field faulty lacks_node admitted_object without_status created_object with_status_of updated_object at_version leaves with_meta reply_to world_after reply_of after log_after xor taken_for completed_with
+unfolding effect on_devices device_answer outcome create update update_status list with_status written_if_fits refuse refuse_field refuse_rule
+    guard_on guard breaks create_fault kind_fault volume_fault claim_fault update_fault changed_field faulty lacks_node admitted_object
+    without_status created_object with_status_of updated_object at_version leaves with_meta reply_to world_after reply_of after log_after xor taken_for completed_with
 pair_run_examples = record {
   run = run_of_pair;
   fitting = (((((((tt, tt), tt), tt), tt), giving_examples.pair), tt), tt);
@@ -110,7 +143,8 @@ import_fits v x in_v in_x refers its = elim in_v [
   | inl is_v ↦ elim in_x [
     | inl no_claim ↦ absurd (true≢false (ap is_a_volume no_claim))
     | inr more ↦ elim more [
-      | inl is_x ↦ subst (λ (y : ClaimData). Fits v y) (same_claim (old_c 3) x is_x) (subst (λ (w : VolumeData). Fits w (old_c 3)) (same_volume old_a v is_v) (record { bytes = omega arith; mode = refl }))
+      | inl is_x ↦ subst (λ (y : ClaimData). Fits v y) (same_claim (old_c 3) x is_x)
+          (subst (λ (w : VolumeData). Fits w (old_c 3)) (same_volume old_a v is_v) (record { bytes = omega arith; mode = refl }))
       | inr none ↦ absurd none
     ]
   ]
@@ -152,10 +186,17 @@ b5 = ((refl, (refl, (refl, tt))), (refl, inl (refl, inl (record { version = refl
 
 gives_back : GivesFitting seats.Binder told_back (write_reference back_a lost_c)
 unfolding taken_for
-gives_back = inr (inl (refl, inl (record { version = refl; placed = refl; named = refl }, inl (refl, inl (record { change = refl; suits = inr (inr (record { free = refl; named = refl; completed = refl })) })))))
+gives_back = inr (inl (
+  refl,
+  inl
+      (record { version = refl; placed = refl; named = refl }, inl (refl, inl (record { change = refl; suits = inr (inr (record { free = refl; named = refl; completed = refl })) }))),
+))
 
 pub lost_claim_examples : LostClaimExamples
-unfolding effect on_devices device_answer outcome create update update_status list with_status written_if_fits refuse refuse_field refuse_rule guard_on guard breaks create_fault kind_fault volume_fault claim_fault update_fault changed_field faulty lacks_node admitted_object without_status created_object with_status_of updated_object at_version leaves with_meta reply_to world_after reply_of after log_after xor taken_for completed_with imported_object import_fault fault_if fault_of_field
+unfolding effect on_devices device_answer outcome create update update_status list with_status written_if_fits refuse refuse_field refuse_rule
+    guard_on guard breaks create_fault kind_fault volume_fault claim_fault update_fault changed_field faulty lacks_node admitted_object
+    without_status created_object with_status_of updated_object at_version leaves with_meta reply_to world_after reply_of after log_after xor
+    taken_for completed_with imported_object import_fault fault_if fault_of_field
 lost_claim_examples = record {
   imports_pass = (refl, tt);
   run = (((((tt, refl, tt), refl, (tt, (refl, tt))), refl, ((refl, tt), (refl, tt))), refl, b4), refl, b5);
@@ -221,7 +262,10 @@ gives_again = inl (
 )
 
 pub kept_mark_examples : KeptMarkExamples
-unfolding effect on_devices device_answer outcome create update update_status edit edit_to edited_object list with_status written_if_fits refuse refuse_field refuse_rule guard_on guard breaks create_fault kind_fault volume_fault claim_fault update_fault changed_field faulty lacks_node admitted_object without_status created_object with_status_of updated_object at_version leaves with_meta reply_to world_after reply_of after log_after xor taken_for completed_with imported_object import_fault fault_if fault_of_field
+unfolding effect on_devices device_answer outcome create update update_status edit edit_to edited_object list with_status written_if_fits refuse
+    refuse_field refuse_rule guard_on guard breaks create_fault kind_fault volume_fault claim_fault update_fault changed_field faulty lacks_node
+    admitted_object without_status created_object with_status_of updated_object at_version leaves with_meta reply_to world_after reply_of after
+    log_after xor taken_for completed_with imported_object import_fault fault_if fault_of_field
 kept_mark_examples = record {
   imports_pass = (refl, tt);
   run = (((((((((tt, refl, tt), refl, tt), refl, tt), refl, (tt, (refl, tt))), refl, ((refl, tt), (refl, tt))), refl, k6), refl, k7), refl, k8), refl, k9);
@@ -281,7 +325,10 @@ gives_early = inr (inl (
 ))
 
 pub early_mark_examples : EarlyMarkExamples
-unfolding effect on_devices device_answer outcome create update update_status list with_status written_if_fits refuse refuse_field refuse_rule guard_on guard breaks create_fault kind_fault volume_fault claim_fault update_fault changed_field faulty lacks_node admitted_object without_status created_object with_status_of updated_object at_version leaves with_meta reply_to world_after reply_of after log_after xor taken_for completed_with imported_object import_fault fault_if fault_of_field
+unfolding effect on_devices device_answer outcome create update update_status list with_status written_if_fits refuse refuse_field refuse_rule
+    guard_on guard breaks create_fault kind_fault volume_fault claim_fault update_fault changed_field faulty lacks_node admitted_object
+    without_status created_object with_status_of updated_object at_version leaves with_meta reply_to world_after reply_of after log_after xor
+    taken_for completed_with imported_object import_fault fault_if fault_of_field
 early_mark_examples = record {
   imports_pass = (refl, tt);
   run = ((((((tt, refl, tt), refl, (tt, (refl, tt))), refl, ((refl, tt), (refl, tt))), refl, m4), refl, m5), refl, m6);

@@ -6,17 +6,17 @@ use Rattle.std.specs.Ordering.{is_eq}
 use Rattle.std.specs.Prelude.{ℕ, ◌≡◌, ◌||◌, ◌&&◌, Bool, true, false, not, List, [], ◌∷◌, Option, Some, None, is_some, codes, if◌then◌else◌}
 use Rattle.std.specs.List.{list_any}
 use mathlib.Core.Bool.{xor}
-use Rattle.kube_types.specs.declared.uid.Uid.{Uid}
-use Rattle.kube_types.specs.declared.key.Key.{Key}
-use Rattle.kube_types.specs.declared.parts.VolumePhase.TheVariants as volumes
-use Rattle.kube_types.specs.declared.objects.Ref.{Ref}
-use Rattle.kube_types.specs.declared.objects.Volume.{Volume as VolumeData}
-use Rattle.kube_types.specs.declared.objects.Claim.{Claim as ClaimData}
-use Rattle.kube_types.specs.declared.objects.Object.{Object}
-use Rattle.kube_types.specs.declared.objects.Object.TheVariants.{Volume}
-use Rattle.kube_types.specs.Keys.{key_cmp, key_of, row_at}
-use Rattle.kube_types.specs.Uids.{uid_of_serial}
-use Rattle.kube_types.specs.Bindings.{ref_uid}
+use Rattle.kube_parts.specs.declared.uid.Uid.{Uid}
+use Rattle.kube_objects.specs.declared.key.Key.{Key}
+use Rattle.kube_parts.specs.declared.parts.VolumePhase.TheVariants as volumes
+use Rattle.kube_objects.specs.declared.objects.Ref.{Ref}
+use Rattle.kube_objects.specs.declared.objects.Volume.{Volume as VolumeData}
+use Rattle.kube_objects.specs.declared.objects.Claim.{Claim as ClaimData}
+use Rattle.kube_objects.specs.declared.objects.Object.{Object}
+use Rattle.kube_objects.specs.declared.objects.Object.TheVariants.{Volume}
+use Rattle.kube_objects.specs.Keys.{key_cmp, key_of, row_at}
+use Rattle.kube_parts.specs.Uids.{uid_of_serial}
+use Rattle.kube_objects.specs.Bindings.{ref_uid}
 use Rattle.call_types.specs.declared.entry.Entry.{Entry}
 use Rattle.call_types.specs.declared.setup.Setup.{Setup}
 use Rattle.call_types.specs.declared.request.SeatKind.TheVariants as seats
@@ -83,11 +83,15 @@ l7 size = ((refl, (refl, (refl, (refl, tt)))), inr (inr (inl (refl, inl (record 
     complete = inl (refl, inl (record { bound = refl; carries = refl; names = inl refl; change = refl }))
 
 run_of_3 : Run no_setup (binding 3)
-unfolding effect on_devices device_answer outcome create update update_status list with_status written_if_fits refuse refuse_field refuse_rule guard_on guard breaks create_fault kind_fault volume_fault claim_fault update_fault changed_field faulty lacks_node admitted_object without_status created_object with_status_of updated_object at_version leaves with_meta reply_to world_after reply_of after log_after xor taken_for completed_with
+unfolding effect on_devices device_answer outcome create update update_status list with_status written_if_fits refuse refuse_field refuse_rule
+    guard_on guard breaks create_fault kind_fault volume_fault claim_fault update_fault changed_field faulty lacks_node admitted_object
+    without_status created_object with_status_of updated_object at_version leaves with_meta reply_to world_after reply_of after log_after xor taken_for completed_with
 run_of_3 = (((((((tt, refl, tt), refl, tt), refl, l3 a), refl, l4 a (c 3)), refl, l5 3), refl, l6 3), refl, l7 3)
 
 run_of_9 : Run no_setup (binding 9)
-unfolding effect on_devices device_answer outcome create update update_status list with_status written_if_fits refuse refuse_field refuse_rule guard_on guard breaks create_fault kind_fault volume_fault claim_fault update_fault changed_field faulty lacks_node admitted_object without_status created_object with_status_of updated_object at_version leaves with_meta reply_to world_after reply_of after log_after xor taken_for completed_with
+unfolding effect on_devices device_answer outcome create update update_status list with_status written_if_fits refuse refuse_field refuse_rule
+    guard_on guard breaks create_fault kind_fault volume_fault claim_fault update_fault changed_field faulty lacks_node admitted_object
+    without_status created_object with_status_of updated_object at_version leaves with_meta reply_to world_after reply_of after log_after xor taken_for completed_with
 run_of_9 = (((((((tt, refl, tt), refl, tt), refl, l3 a), refl, l4 a (c 9)), refl, l5 9), refl, l6 9), refl, l7 9)
 
 -- what stood
@@ -140,7 +144,8 @@ no_pair setup (e ∷ past) v x none p =
     let parts = or_parts (any_stood is_reserved setup past) (list_any is_reserved (world setup (e ∷ past)).store.rows) none in
     elim p [
       | inl before ↦ no_pair setup past v x parts.0 before
-      | inr now ↦ true≢false (sym (reserved_is now.volume now.claim now.pair.reserved) ∙ none_at is_reserved (world setup (e ∷ past)).store.rows (key_of (Volume now.volume)) (Volume now.volume) now.volume_there parts.1)
+      | inr now ↦ true≢false (sym (reserved_is now.volume now.claim now.pair.reserved) ∙ none_at is_reserved (world setup (e ∷ past)).store.rows
+          (key_of (Volume now.volume)) (Volume now.volume) now.volume_there parts.1)
     ]
 
 later_true : (a b : Bool) → (a && not b) ≡ false → a ≡ true → b ≡ true
@@ -149,7 +154,8 @@ later_true true false e h = absurd (true≢false e)
 later_true false b e h = absurd (true≢false (sym h))
 
 volumes_fresh : (setup : Setup) (past : List Entry) (v : VolumeData) → any_stood is_marked_early setup past ≡ false → is_marked v.meta ≡ true → IsGivenByController setup past v
-volumes_fresh setup past v none marked = record { marked = marked; fresh = λ o was same is. later_true (is_marked o.meta) (is_some (ref_uid o.claim_ref)) (none_stood is_marked_early setup past (Volume o) none was) is }
+volumes_fresh setup past v none marked =
+    record { marked = marked; fresh = λ o was same is. later_true (is_marked o.meta) (is_some (ref_uid o.claim_ref)) (none_stood is_marked_early setup past (Volume o) none was) is }
 
 fits_3 : Fits (taken a (c 3) 4 volumes.Bound) (done (c 3) a 5)
 unfolding taken_for completed_with
@@ -159,7 +165,9 @@ fitting_3 : AreFitting (binding 3)
 fitting_3 = (((((((tt, tt), tt), tt), tt), giving_examples.fitting), tt), tt)
 
 pub fitting_run_examples : FittingRunExamples
-unfolding effect on_devices device_answer outcome create update update_status list with_status written_if_fits refuse refuse_field refuse_rule guard_on guard breaks create_fault kind_fault volume_fault claim_fault update_fault changed_field faulty lacks_node admitted_object without_status created_object with_status_of updated_object at_version leaves with_meta reply_to world_after reply_of after log_after xor taken_for completed_with
+unfolding effect on_devices device_answer outcome create update update_status list with_status written_if_fits refuse refuse_field refuse_rule
+    guard_on guard breaks create_fault kind_fault volume_fault claim_fault update_fault changed_field faulty lacks_node admitted_object
+    without_status created_object with_status_of updated_object at_version leaves with_meta reply_to world_after reply_of after log_after xor taken_for completed_with
 fitting_run_examples = record {
   run = run_of_3;
   fitting = fitting_3;
@@ -173,11 +181,15 @@ fitting_run_examples = record {
 -- what the claim of 9 gets
 
 short_volume : (v : VolumeData) → row_at (volume_key (codes "a")) (world no_setup (binding 9)).store.rows ≡ Some (Volume v) → v ≡ taken a (c 9) 4 volumes.Bound
-unfolding effect on_devices device_answer outcome create update update_status list with_status written_if_fits refuse refuse_field refuse_rule guard_on guard breaks create_fault kind_fault volume_fault claim_fault update_fault changed_field faulty lacks_node admitted_object without_status created_object with_status_of updated_object at_version leaves with_meta reply_to world_after reply_of after log_after xor taken_for completed_with
+unfolding effect on_devices device_answer outcome create update update_status list with_status written_if_fits refuse refuse_field refuse_rule
+    guard_on guard breaks create_fault kind_fault volume_fault claim_fault update_fault changed_field faulty lacks_node admitted_object
+    without_status created_object with_status_of updated_object at_version leaves with_meta reply_to world_after reply_of after log_after xor taken_for completed_with
 short_volume v is = some_volume v _ (sym is)
 
 no_pair_of_9 : (v : VolumeData) → WerePair no_setup (binding 9) v (done (c 9) a 5) → ⊥
-unfolding effect on_devices device_answer outcome create update update_status list with_status written_if_fits refuse refuse_field refuse_rule guard_on guard breaks create_fault kind_fault volume_fault claim_fault update_fault changed_field faulty lacks_node admitted_object without_status created_object with_status_of updated_object at_version leaves with_meta reply_to world_after reply_of after log_after xor taken_for completed_with
+unfolding effect on_devices device_answer outcome create update update_status list with_status written_if_fits refuse refuse_field refuse_rule
+    guard_on guard breaks create_fault kind_fault volume_fault claim_fault update_fault changed_field faulty lacks_node admitted_object
+    without_status created_object with_status_of updated_object at_version leaves with_meta reply_to world_after reply_of after log_after xor taken_for completed_with
 no_pair_of_9 v p = no_pair no_setup (binding 9) v (done (c 9) a 5) refl p
 
 short_of_9 : Fits (taken a (c 9) 4 volumes.Bound) (done (c 9) a 5) → ⊥
@@ -196,13 +208,17 @@ unfolding completed_with
 counts_9 = record { completed = refl; found = λ lost. absurd (true≢false (sym lost)) }
 
 pub short_run_examples : ShortRunExamples
-unfolding effect on_devices device_answer outcome create update update_status list with_status written_if_fits refuse refuse_field refuse_rule guard_on guard breaks create_fault kind_fault volume_fault claim_fault update_fault changed_field faulty lacks_node admitted_object without_status created_object with_status_of updated_object at_version leaves with_meta reply_to world_after reply_of after log_after xor taken_for completed_with
+unfolding effect on_devices device_answer outcome create update update_status list with_status written_if_fits refuse refuse_field refuse_rule
+    guard_on guard breaks create_fault kind_fault volume_fault claim_fault update_fault changed_field faulty lacks_node admitted_object
+    without_status created_object with_status_of updated_object at_version leaves with_meta reply_to world_after reply_of after log_after xor taken_for completed_with
 short_run_examples = record {
   run = run_of_9;
   counts = counts_9;
   not_fitting = λ f. giving_examples.too_small f.0.0.1;
   were_no_pair = no_pair_of_9 (taken a (c 9) 4 volumes.Bound);
   gets_too_little = gets_9;
-  references_misfit = λ h. neither short_of_9 (no_pair_of_9 (taken a (c 9) 4 volumes.Bound)) (h (volume_key (codes "a")) (claim_key (codes "default") (codes "c")) (taken a (c 9) 4 volumes.Bound) (done (c 9) a 5) (uid_of_serial 2) refl refl refl refl refl (λ v x in_v in_x ref its. absurd in_v));
+  references_misfit = λ h. neither short_of_9 (no_pair_of_9 (taken a (c 9) 4 volumes.Bound))
+      (h (volume_key (codes "a")) (claim_key (codes "default") (codes "c")) (taken a (c 9) 4 volumes.Bound) (done (c 9) a 5)
+      (uid_of_serial 2) refl refl refl refl refl (λ v x in_v in_x ref its. absurd in_v));
   not_enough = λ g. gets_9 (g (claim_key (codes "default") (codes "c")) (done (c 9) a 5) refl counts_9 refl (λ v x in_v in_x ref its. absurd in_v));
 }

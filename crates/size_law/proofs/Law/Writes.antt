@@ -6,17 +6,17 @@ use Rattle.std.proofs.lemmas.Option.{same_Some}
 use Rattle.std.specs.Prelude.{ℕ, ◌≡◌, ◌==◌, ◌⊎◌, Bool, true, false, List, [], ◌∷◌, Option, Some, None, is_some, unwrap_or, ⊤}
 use Rattle.std.proofs.Common.{arith}
 use Rattle.plain_data.specs.Pairs.{value_at}
-use Rattle.kube_types.specs.declared.uid.Uid.{Uid}
-use Rattle.kube_types.specs.declared.key.Key.{Key}
-use Rattle.kube_types.specs.declared.parts.Kind.TheVariants as kinds
-use Rattle.kube_types.specs.declared.objects.Meta.{Meta}
-use Rattle.kube_types.specs.declared.objects.Ref.{Ref}
-use Rattle.kube_types.specs.declared.objects.Volume.{Volume as VolumeData}
-use Rattle.kube_types.specs.declared.objects.Claim.{Claim as ClaimData}
-use Rattle.kube_types.specs.declared.objects.Object.{Object}
-use Rattle.kube_types.specs.declared.objects.Object.TheVariants.{Volume, Claim, Pod}
-use Rattle.kube_types.specs.Keys.{meta_of, key_of, row_at}
-use Rattle.kube_types.specs.Bindings.{bind_completed, bound_by_controller, is_completed, is_empty, yes, is_protected_volume, is_protected_claim, ref_uid}
+use Rattle.kube_parts.specs.declared.uid.Uid.{Uid}
+use Rattle.kube_objects.specs.declared.key.Key.{Key}
+use Rattle.kube_parts.specs.declared.parts.Kind.TheVariants as kinds
+use Rattle.kube_objects.specs.declared.objects.Meta.{Meta}
+use Rattle.kube_objects.specs.declared.objects.Ref.{Ref}
+use Rattle.kube_objects.specs.declared.objects.Volume.{Volume as VolumeData}
+use Rattle.kube_objects.specs.declared.objects.Claim.{Claim as ClaimData}
+use Rattle.kube_objects.specs.declared.objects.Object.{Object}
+use Rattle.kube_objects.specs.declared.objects.Object.TheVariants.{Volume, Claim, Pod}
+use Rattle.kube_objects.specs.Keys.{meta_of, key_of, row_at}
+use Rattle.kube_objects.specs.Bindings.{bind_completed, bound_by_controller, is_completed, is_empty, yes, is_protected_volume, is_protected_claim, ref_uid}
 use Rattle.call_types.specs.declared.entry.Entry.{Entry}
 use Rattle.call_types.specs.declared.setup.Setup.{Setup}
 use Rattle.call_types.specs.declared.edit.Edit.{Edit}
@@ -52,7 +52,7 @@ use Rattle.safety_law.proofs.Law.Rows.{stored_volume, no_ref_uid}
 use Rattle.safety_law.proofs.Law.Claims.{stored_claim, select_keeps, clear_keeps}
 use Rattle.safety_law.proofs.Law.Users.{passes, completion_same, no_uid_given}
 use Rattle.safety_law.proofs.Law.Allowed.{Known, at_claim}
-use Rattle.kube_types.proofs.KeyOrder.{row_at_key}
+use Rattle.kube_objects.proofs.KeyOrder.{row_at_key}
 use Rattle.model_laws.proofs.Stood.{one_version_one_object}
 use Rattle.safety_law.proofs.Invariant.Came.{row_was}
 use Rattle.size_law.specs.Law.Fitting.{Fits, Suits, IsGiven, GivesTo, GivesFitting, is_marked}
@@ -168,7 +168,8 @@ module _ (setup : Setup) (past mine : List Entry) (inv : Invariant setup past) (
 
 guarded_volume : (setup : Setup) (past mine : List Entry) (a b : VolumeData) (n : ℕ) (guards : Bool) → VolumeMay (volume_guard guards) mine b a → ReferencesMove setup past a (stored_volume a b n)
 guarded_volume setup past mine a b n true row = kept_reference setup past a (stored_volume a b n) (ap (λ (x : VolumeData). x.claim_ref) row.rest) (ap (λ (m : Meta). m.annotations) row.guard.change)
-guarded_volume setup past mine a b n false row = kept_reference setup past a (stored_volume a b n) (ap (λ (x : VolumeData). x.claim_ref) row.change) (ap (λ (x : VolumeData). x.meta.annotations) row.change)
+guarded_volume setup past mine a b n false row =
+    kept_reference setup past a (stored_volume a b n) (ap (λ (x : VolumeData). x.claim_ref) row.change) (ap (λ (x : VolumeData). x.meta.annotations) row.change)
 
 user_volume : (setup : Setup) (past : List Entry) (a b : VolumeData) (n : ℕ) → guard_on seats.User (Some (Volume a)) (Volume b) ≡ None → ReferencesMove setup past a (stored_volume a b n)
 user_volume setup past a b n g r uid h =
@@ -187,7 +188,8 @@ module _ (setup : Setup) (past mine : List Entry) (inv : Invariant setup past) (
   update_volume seats.Scheduler a b given n l f g v is = given_volume setup past mine inv known a b given n f v is
   update_volume seats.ClaimProtect a b given n l f g v is = absurd l.1
   update_volume seats.VolumeProtect a b given n l f g v is =
-      guarded_volume setup past mine a b n (is_protected_volume b) (at_volume setup past mine inv known a (key_of (Volume b)) given (VolumeMay (volume_guard (is_protected_volume b)) mine b) refl l.1 is v)
+      guarded_volume setup past mine a b n (is_protected_volume b)
+      (at_volume setup past mine inv known a (key_of (Volume b)) given (VolumeMay (volume_guard (is_protected_volume b)) mine b) refl l.1 is v)
   update_volume seats.Agent a b given n l f g v is = absurd l.1
 
 -- claims
@@ -209,7 +211,8 @@ completed_marks o v n =
       completed = λ was. done;
     }
   where
-    by : {done : Type 0} (name : List ℕ) → o.volume_name ≡ name → done → is_marked (annotated_meta_if (is_empty name) bound_by_controller o.meta) ≡ true → (is_marked o.meta ≡ true) ⊎ ((o.volume_name ≡ []) × done)
+    by : {done : Type 0} (name : List ℕ) → o.volume_name ≡ name → done
+        → is_marked (annotated_meta_if (is_empty name) bound_by_controller o.meta) ≡ true → (is_marked o.meta ≡ true) ⊎ ((o.volume_name ≡ []) × done)
     by [] e done marked = inr (e, done)
     by (c ∷ cs) e done marked = inl marked
 
@@ -222,7 +225,8 @@ complete_marks setup past mine true_of o new n row =
 assign_marks : (mine : List Entry) (o new : ClaimData) (n : ℕ) → MayAssignClass mine o new → MarksMove o (stored_claim o new n)
 assign_marks mine o new n row = same_annotations o (stored_claim o new n) (ap (λ (x : ClaimData). x.meta.annotations) row.change)
 
-binder_marks : (setup : Setup) (past mine : List Entry) → IsTrue setup past mine → (o new : ClaimData) (n : ℕ) (done : Bool) → ClaimMay (binder_claim done) mine new o → MarksMove o (stored_claim o new n)
+binder_marks : (setup : Setup) (past mine : List Entry) → IsTrue setup past mine → (o new : ClaimData) (n : ℕ) (done : Bool)
+    → ClaimMay (binder_claim done) mine new o → MarksMove o (stored_claim o new n)
 binder_marks setup past mine true_of o new n true row = complete_marks setup past mine true_of o new n row
 binder_marks setup past mine true_of o new n false row = assign_marks mine o new n row
 
@@ -277,7 +281,8 @@ module _ (setup : Setup) (past mine : List Entry) (inv : Invariant setup past) (
       → row_at (key_of new) (world setup past).store.rows ≡ Some old → update_fault old new ≡ None
       → KindMoves setup past old (updated_object old new n)
   unfolding updated_object with_status_of with_meta
-  update_moves kind (Volume a) (Volume b) given n l f g v is e = let s = volume_fixed a b e in record { bytes = s.0; mode = s.1; refers = update_volume setup past mine inv known kind a b given n l f g v is }
+  update_moves kind (Volume a) (Volume b) given n l f g v is e = let s = volume_fixed a b e in
+      record { bytes = s.0; mode = s.1; refers = update_volume setup past mine inv known kind a b given n l f g v is }
   update_moves kind (Claim a) (Claim b) given n l f g v is e = let s = claim_fixed a b e in record { bytes = s.0; mode = s.1; marks = update_claim setup past mine inv known kind a b given n l g v is }
   update_moves kind old new given n l f g v is e = tt
 
@@ -367,7 +372,8 @@ fitted setup past mine inv known kind (requests.Create new) l f o w =
     let first = created_first (world setup past).store kind (world setup past).moment new o w in
     record {
       moves = λ old there. none_some (sym first.free ∙ there);
-      begins = λ none. subst (KindBegins setup past) (sym w.is) (created_begins setup past _ new _ _ (create_names setup past mine known.told kind new l w.guard) (create_unmarked mine kind new l w.guard));
+      begins = λ none. subst (KindBegins setup past) (sym w.is)
+          (created_begins setup past _ new _ _ (create_names setup past mine known.told kind new l w.guard) (create_unmarked mine kind new l w.guard));
     }
 fitted setup past mine inv known kind (requests.Update new given) l f o w =
     follows setup past o w.old (updated_next (world setup past).store kind new given o w).there

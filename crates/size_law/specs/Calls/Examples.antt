@@ -1,13 +1,13 @@
 -- What a binder or a scheduler asks, and what a binder's decision does not ask for, computed. A choice of this project.
 use Rattle.std.specs.Prelude.{ℕ, ◌≡◌, false, true, List, [], ◌∷◌, Some, None}
-use Rattle.kube_types.specs.declared.parts.Kind.{Kind}
-use Rattle.kube_types.specs.declared.parts.Kind.TheVariants as kinds
-use Rattle.kube_types.specs.declared.parts.VolumePhase.TheVariants as volumes
+use Rattle.kube_parts.specs.declared.parts.Kind.{Kind}
+use Rattle.kube_parts.specs.declared.parts.Kind.TheVariants as kinds
+use Rattle.kube_parts.specs.declared.parts.VolumePhase.TheVariants as volumes
 use Rattle.kube_types.specs.declared.lookup.Live.TheVariants.{NotAsked}
-use Rattle.kube_types.specs.declared.objects.Volume.{Volume as VolumeData}
-use Rattle.kube_types.specs.declared.objects.Claim.{Claim as ClaimData}
-use Rattle.kube_types.specs.declared.objects.Object.{Object}
-use Rattle.kube_types.specs.declared.objects.Object.TheVariants.{Volume, Claim}
+use Rattle.kube_objects.specs.declared.objects.Volume.{Volume as VolumeData}
+use Rattle.kube_objects.specs.declared.objects.Claim.{Claim as ClaimData}
+use Rattle.kube_objects.specs.declared.objects.Object.{Object}
+use Rattle.kube_objects.specs.declared.objects.Object.TheVariants.{Volume, Claim}
 use Rattle.call_types.specs.declared.request.Request.{Request}
 use Rattle.call_types.specs.declared.request.Request.TheVariants as requests
 use Rattle.call_types.specs.declared.request.SeatKind.{SeatKind}
@@ -34,7 +34,14 @@ knows_nothing kind = record { rows = record { kind = kind; marks = []; objects =
 abbrev pub new_actor : SeatKind → ℕ → ActorState
 new_actor kind behind = record {
   role = record { kind = kind; node = [] };
-  caches = record { classes = knows_nothing kinds.StorageClass; nodes = knows_nothing kinds.Node; volumes = knows_nothing kinds.PersistentVolume; claims = knows_nothing kinds.PersistentVolumeClaim; pods = knows_nothing kinds.Pod };
+  caches = record {
+    classes = knows_nothing kinds.StorageClass;
+    nodes = knows_nothing kinds.Node;
+    volumes =
+        knows_nothing kinds.PersistentVolume;
+    claims = knows_nothing kinds.PersistentVolumeClaim;
+    pods = knows_nothing kinds.Pod;
+  };
   work = no_work;
   pass = record { behind = behind; event = true };
   memory = no_memory;
@@ -60,7 +67,8 @@ pub record AskedExamples : Type 0 where
   pub scheduler_lists_by_actor : IsByActor seats.Scheduler [] list_volumes
   pub never_told_by_no_scheduler : IsByActor seats.Scheduler [] (write_reference a (c 3)) → ⊥
   pub user_may_give : IsByActor seats.User [] (write_reference a (c 3))
-  pub history_by_actors : (told : List Object) (version : ℕ) → AreByActors (entry 6 seats.Scheduler list_volumes (replies.Listed told version) ∷ entry 5 seats.Binder list_volumes (replies.Listed told version) ∷ [])
+  pub history_by_actors : (told : List Object) (version : ℕ)
+      → AreByActors (entry 6 seats.Scheduler list_volumes (replies.Listed told version) ∷ entry 5 seats.Binder list_volumes (replies.Listed told version) ∷ [])
 
 -- the decision on a claim, where the look-up has this volume and the claim
 abbrev pub decides : VolumeData → ClaimData → ClaimStep

@@ -1,13 +1,13 @@
 -- Which volumes are made for a claim, and what of the requests of ops gives one: cases that hold, and cases beside them that must
 -- not. A choice of this project, as the definitions are. The newest entry stands first.
 use Rattle.std.specs.Prelude.{ℕ, false, List, [], ◌∷◌, Some, None, codes}
-use Rattle.kube_types.specs.declared.parts.Policy.TheVariants as policies
-use Rattle.kube_types.specs.declared.parts.VolumePhase.TheVariants as volumes
-use Rattle.kube_types.specs.declared.objects.DataId.{DataId}
-use Rattle.kube_types.specs.declared.objects.Class.{Class as ClassData}
-use Rattle.kube_types.specs.declared.objects.Volume.{Volume as VolumeData}
-use Rattle.kube_types.specs.declared.objects.Object.TheVariants.{Volume, Claim}
-use Rattle.kube_types.specs.Uids.{uid_of_serial}
+use Rattle.kube_parts.specs.declared.parts.Policy.TheVariants as policies
+use Rattle.kube_parts.specs.declared.parts.VolumePhase.TheVariants as volumes
+use Rattle.kube_objects.specs.declared.objects.DataId.{DataId}
+use Rattle.kube_objects.specs.declared.objects.Class.{Class as ClassData}
+use Rattle.kube_objects.specs.declared.objects.Volume.{Volume as VolumeData}
+use Rattle.kube_objects.specs.declared.objects.Object.TheVariants.{Volume, Claim}
+use Rattle.kube_parts.specs.Uids.{uid_of_serial}
 use Rattle.call_types.specs.declared.entry.Entry.{Entry}
 use Rattle.call_types.specs.declared.request.NewStatus.TheVariants as statuses
 use Rattle.call_types.specs.declared.request.Request.TheVariants as requests
@@ -23,7 +23,15 @@ use Rattle.size_law.specs.Calls.Makes.{IsMadeFor, MakesFitting}
 
 -- the class of the claims, and data that its provisioner gave
 abbrev pub slow : ClassData
-slow = record { meta = record (named [] (codes "slow")) { uid = Some (uid_of_serial 4); version = 1 }; provisioner = codes "x/y"; policy = policies.Delete; delayed = false; parameters = []; extra = [] }
+slow = record {
+  meta = record (named [] (codes "slow")) { uid = Some (uid_of_serial 4); version = 1 };
+  provisioner = codes "x/y";
+  policy =
+      policies.Delete;
+  delayed = false;
+  parameters = [];
+  extra = [];
+}
 
 abbrev pub data_1 : DataId
 data_1 = record { driver = codes "x/y"; id = codes "data-1" }

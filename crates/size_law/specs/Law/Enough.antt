@@ -1,13 +1,13 @@
 -- A claim never gets less than it asked for: what holds of each completed claim in each world of a run.
 -- A choice of this project; the mark is that of `pv_controller.go`, which stands where the controller made the binding.
 use Rattle.std.specs.Prelude.{◌≡◌, ◌⊎◌, true, false, List, [], ◌∷◌, Option, Some, is_some}
-use Rattle.kube_types.specs.declared.uid.Uid.{Uid}
-use Rattle.kube_types.specs.declared.key.Key.{Key}
-use Rattle.kube_types.specs.declared.objects.Volume.{Volume as VolumeData}
-use Rattle.kube_types.specs.declared.objects.Claim.{Claim as ClaimData}
-use Rattle.kube_types.specs.declared.objects.Object.TheVariants.{Volume, Claim}
-use Rattle.kube_types.specs.Keys.{row_at}
-use Rattle.kube_types.specs.Bindings.{is_completed, ref_uid}
+use Rattle.kube_parts.specs.declared.uid.Uid.{Uid}
+use Rattle.kube_objects.specs.declared.key.Key.{Key}
+use Rattle.kube_objects.specs.declared.objects.Volume.{Volume as VolumeData}
+use Rattle.kube_objects.specs.declared.objects.Claim.{Claim as ClaimData}
+use Rattle.kube_objects.specs.declared.objects.Object.TheVariants.{Volume, Claim}
+use Rattle.kube_objects.specs.Keys.{row_at}
+use Rattle.kube_objects.specs.Bindings.{is_completed, ref_uid}
 use Rattle.call_types.specs.declared.entry.Entry.{Entry}
 use Rattle.call_types.specs.declared.setup.Setup.{Setup}
 use Rattle.binder_model.specs.ObjectKeys.{volume_key}

@@ -1,17 +1,17 @@
 -- Which volumes fit, what may be given, and what claims get at the end of runs, computed: for each definition a case that holds,
 -- and cases that do not. A choice of this project, as the definitions are. Lists of entries begin with the newest.
 use Rattle.std.specs.Prelude.{ℕ, ◌≡◌, true, false, List, [], ◌∷◌, Some, None, codes}
-use Rattle.kube_types.specs.declared.parts.Kind.TheVariants as kinds
-use Rattle.kube_types.specs.declared.parts.ClaimPhase.TheVariants as claims
-use Rattle.kube_types.specs.declared.parts.VolumePhase.{VolumePhase}
-use Rattle.kube_types.specs.declared.parts.VolumePhase.TheVariants as volumes
-use Rattle.kube_types.specs.declared.objects.Ref.{Ref}
-use Rattle.kube_types.specs.declared.objects.Volume.{Volume as VolumeData}
-use Rattle.kube_types.specs.declared.objects.Claim.{Claim as ClaimData}
-use Rattle.kube_types.specs.declared.objects.Object.{Object}
-use Rattle.kube_types.specs.declared.objects.Object.TheVariants.{Volume, Claim}
-use Rattle.kube_types.specs.Uids.{uid_of_serial}
-use Rattle.kube_types.specs.Bindings.{bind_completed, bound_by_controller, yes}
+use Rattle.kube_parts.specs.declared.parts.Kind.TheVariants as kinds
+use Rattle.kube_parts.specs.declared.parts.ClaimPhase.TheVariants as claims
+use Rattle.kube_parts.specs.declared.parts.VolumePhase.{VolumePhase}
+use Rattle.kube_parts.specs.declared.parts.VolumePhase.TheVariants as volumes
+use Rattle.kube_objects.specs.declared.objects.Ref.{Ref}
+use Rattle.kube_objects.specs.declared.objects.Volume.{Volume as VolumeData}
+use Rattle.kube_objects.specs.declared.objects.Claim.{Claim as ClaimData}
+use Rattle.kube_objects.specs.declared.objects.Object.{Object}
+use Rattle.kube_objects.specs.declared.objects.Object.TheVariants.{Volume, Claim}
+use Rattle.kube_parts.specs.Uids.{uid_of_serial}
+use Rattle.kube_objects.specs.Bindings.{bind_completed, bound_by_controller, yes}
 use Rattle.call_types.specs.declared.entry.Entry.{Entry}
 use Rattle.call_types.specs.declared.setup.Setup.{Setup}
 use Rattle.call_types.specs.declared.edit.Edit.TheVariants as edits

@@ -1,13 +1,13 @@
 -- How the map of stages and the three lists of keys go together: choices of this project, which no public clause names.
 use Rattle.std.specs.Prelude.{◌≡◌, ℕ, ◌+◌, ◌≤◌, Bool, true, false, List, [], ◌∷◌, ◌++◌, Option, None, Some, map, length, if◌then◌else◌}
 use Rattle.std.specs.List.{list_any}
-use Rattle.kube_types.specs.declared.key.Key.{Key}
+use Rattle.kube_objects.specs.declared.key.Key.{Key}
 use Rattle.std.specs.VecDeque.{deque_len, deque_capacity}
 use Rattle.indexmap.specs.IndexMap.{get, keys}
 use Rattle.sync_queue.specs.declared.lanes.Lanes.{Lanes}
 use Rattle.sync_queue.specs.declared.lanes.Stage.{Stage}
 use Rattle.sync_queue.specs.declared.lanes.Stage.TheVariants.{Waiting, Taken, Again, Parked, Gone}
-use Rattle.kube_types.specs.Keys.{same_key}
+use Rattle.kube_objects.specs.Keys.{same_key}
 use Rattle.sync_queue.specs.Work.{Work, AreOnce}
 use Rattle.sync_queue.specs.Steps.Places.{AreBelow, key_there, keys_at}
 use Rattle.sync_queue.specs.Work.{Taken as TakenKey}

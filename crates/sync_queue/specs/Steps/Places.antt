@@ -1,7 +1,7 @@
 -- Keys by their places in the map: choices of this project, which no public clause names.
 use Rattle.std.specs.Prelude.{ℕ, ◌<◌, zero, suc, List, [], ◌∷◌, map}
-use Rattle.kube_types.specs.declared.parts.Kind.TheVariants.{StorageClass}
-use Rattle.kube_types.specs.declared.key.Key.{Key}
+use Rattle.kube_parts.specs.declared.parts.Kind.TheVariants.{StorageClass}
+use Rattle.kube_objects.specs.declared.key.Key.{Key}
 
 -- what stands for the key at a place past the last one
 abbrev pub no_key : Key

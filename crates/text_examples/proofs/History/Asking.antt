@@ -5,7 +5,7 @@ use Rattle.std.specs.Str.{is_utf8, chars}
 use Rattle.uuid.specs.Text.{by_index}
 use Rattle.serde_json.proofs.OnLiterals.{serde_json_on_literals}
 use Rattle.quantity_text.specs.Quantity.{amount_of, refuse, unsigned_amount, scale_of, scaled, has_too_many_digits, value_of}
-use Rattle.kube_types.specs.Uids.{uid_of_text}
+use Rattle.kube_parts.specs.Uids.{uid_of_text}
 use Rattle.object_text.specs.ExtraMembers.{extra_at}
 use Rattle.object_text.specs.KindReaders.{node_of}
 use Rattle.object_text.specs.MetaReaders.{identity_at, marks_at, meta_of}
@@ -16,7 +16,8 @@ use Rattle.text_examples.specs.History.Requests.{RequestExamples}
 use Rattle.text_examples.specs.History.Replies.{ReplyExamples}
 
 pub request_examples : RequestExamples
-unfolding request_in object_of kind_at node_of meta_of identity_at marks_at extra_at uid_of_text by_index amount_of refuse unsigned_amount scale_of scaled has_too_many_digits value_of digits is_utf8 chars serde_json_on_literals
+unfolding request_in object_of kind_at node_of meta_of identity_at marks_at extra_at uid_of_text by_index amount_of refuse unsigned_amount scale_of
+    scaled has_too_many_digits value_of digits is_utf8 chars serde_json_on_literals
 request_examples = record {
   creates = refl;
   creates_no_other_kind = refl;

@@ -7,7 +7,7 @@ use Rattle.serde_json.proofs.OnLiterals.{serde_json_on_literals}
 use Rattle.uuid.specs.Text.{by_index}
 use Rattle.json_text.specs.Build.{put_some}
 use Rattle.json_text.specs.Members.{extra_members}
-use Rattle.kube_types.specs.Uids.{uid_of_text, uid_text}
+use Rattle.kube_parts.specs.Uids.{uid_of_text, uid_text}
 use Rattle.object_print.specs.Metadata.{meta_data}
 use Rattle.object_print.specs.Objects.{node_data, object_data}
 use Rattle.object_text.specs.ExtraMembers.{extra_at}
@@ -28,7 +28,9 @@ use Rattle.text_examples.specs.History.Lines.{SetupExamples, EntryExamples}
 use Rattle.text_examples.specs.History.Texts.{TextExamples, PrintedExamples}
 
 pub setup_examples : SetupExamples
-unfolding setup_of setup_in parts_in pool_in setup_line setup_data pool_data put_some escape_byte digits is_utf8 chars object_of kind_at node_of meta_of identity_at marks_at extra_at import_fault fault_if fault_of_field create_fault kind_fault faulty uid_of_text uid_text by_index object_data node_data meta_data extra_members serde_json_on_literals
+unfolding setup_of setup_in parts_in pool_in setup_line setup_data pool_data put_some escape_byte digits is_utf8 chars object_of kind_at node_of
+    meta_of identity_at marks_at extra_at import_fault fault_if fault_of_field create_fault kind_fault faulty uid_of_text uid_text by_index
+    object_data node_data meta_data extra_members serde_json_on_literals
 setup_examples = record {
   nothing = refl;
   a_pool_and_faults = refl;
@@ -44,7 +46,8 @@ setup_examples = record {
 }
 
 pub entry_examples : EntryExamples
-unfolding entry_of entry_in request_in reply_in entry_line entry_data request_data reply_data put_some escape_byte digits is_utf8 chars object_of kind_at node_of meta_of identity_at marks_at extra_at object_data node_data meta_data extra_members serde_json_on_literals
+unfolding entry_of entry_in request_in reply_in entry_line entry_data request_data reply_data put_some escape_byte digits is_utf8 chars object_of
+    kind_at node_of meta_of identity_at marks_at extra_at object_data node_data meta_data extra_members serde_json_on_literals
 entry_examples = record {
   takes_a_node = refl;
   lists = refl;
@@ -58,7 +61,8 @@ entry_examples = record {
 }
 
 pub text_examples : TextExamples
-unfolding lines_of setup_of setup_in parts_in setup_line setup_data entry_of entry_in request_in reply_in entry_line entry_data request_data reply_data put_some escape_byte digits is_utf8 chars serde_json_on_literals
+unfolding lines_of setup_of setup_in parts_in setup_line setup_data entry_of entry_in request_in reply_in entry_line entry_data request_data
+    reply_data put_some escape_byte digits is_utf8 chars serde_json_on_literals
 text_examples = record {
   no_entries = refl;
   the_last_line_feed_may_lack = refl;

@@ -4,7 +4,7 @@ use Rattle.std.specs.Fmt.{digits}
 use Rattle.std.specs.Str.{is_utf8, chars}
 use Rattle.serde_json.proofs.OnLiterals.{serde_json_on_literals}
 use Rattle.quantity_text.specs.Quantity.{amount_of, refuse, unsigned_amount, scale_of, scaled, has_too_many_digits, value_of}
-use Rattle.kube_types.specs.Uids.{uid_of_text}
+use Rattle.kube_parts.specs.Uids.{uid_of_text}
 use Rattle.object_text.specs.ExtraMembers.{extra_at}
 use Rattle.object_text.specs.KindReaders.{node_of}
 use Rattle.object_text.specs.Listing.{item_of}
@@ -15,7 +15,8 @@ use Rattle.script_text.specs.LineReaders.{create_line, delete_line, edit_line, f
 use Rattle.text_examples.specs.Script.Lines.{CallExamples, EditExamples, SetupExamples, ActorExamples}
 
 pub call_examples : CallExamples
-unfolding meaning_of create_line update_line delete_line get_line list_line time_line key_at item_of object_of kind_at node_of meta_of identity_at marks_at extra_at uid_of_text is_utf8 chars serde_json_on_literals
+unfolding meaning_of create_line update_line delete_line get_line list_line time_line key_at item_of object_of kind_at node_of meta_of identity_at
+    marks_at extra_at uid_of_text is_utf8 chars serde_json_on_literals
 call_examples = record {
   creates = refl;
   creates_as_user_four = refl;

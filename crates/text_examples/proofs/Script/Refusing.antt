@@ -20,7 +20,8 @@ use Rattle.script_lines.specs.Refusals.{refusal_line, reason_text}
 use Rattle.text_examples.specs.Script.Refusals.{PrintedExamples, ReasonExamples, OrderExamples, AgainExamples, ImportExamples, PlaceExamples}
 
 pub reason_examples : ReasonExamples
-unfolding meaning_of create_line item_of object_of kind_at node_of volume_of volume_spec_of volume_shape quantity_at amount_of refuse unsigned_amount scale_of meta_of identity_at marks_at extra_at is_utf8 chars serde_json_on_literals
+unfolding meaning_of create_line item_of object_of kind_at node_of volume_of volume_spec_of volume_shape quantity_at amount_of refuse unsigned_amount
+    scale_of meta_of identity_at marks_at extra_at is_utf8 chars serde_json_on_literals
 reason_examples = record {
   no_json = refl;
   no_object = refl;
@@ -56,7 +57,8 @@ again_examples = record {
 }
 
 pub import_examples : ImportExamples
-unfolding meaning_of import_line import_fault fault_if fault_of_field create_fault faulty kind_fault item_of object_of kind_at node_of meta_of identity_at marks_at extra_at is_utf8 chars serde_json_on_literals
+unfolding meaning_of import_line import_fault fault_if fault_of_field create_fault faulty kind_fault item_of object_of kind_at node_of meta_of
+    identity_at marks_at extra_at is_utf8 chars serde_json_on_literals
 import_examples = record {
   none_without_a_uid = refl;
   lost_calls_may_come_before = refl;

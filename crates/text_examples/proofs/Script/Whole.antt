@@ -14,7 +14,8 @@ use Rattle.script_text.specs.Said.{numbered_of}
 use Rattle.text_examples.specs.Script.Texts.{TextExamples}
 
 pub text_examples : TextExamples
-unfolding meaning_of create_line fault_line turn_line item_of object_of kind_at node_of pod_of meta_of identity_at marks_at extra_at and_line and_filled own_object read_numbered_of numbered_of is_utf8 chars serde_json_on_literals claims_at
+unfolding meaning_of create_line fault_line turn_line item_of object_of kind_at node_of pod_of meta_of identity_at marks_at extra_at and_line
+    and_filled own_object read_numbered_of numbered_of is_utf8 chars serde_json_on_literals claims_at
 text_examples = record {
   empty = refl;
   the_last_line_feed_may_lack = refl;

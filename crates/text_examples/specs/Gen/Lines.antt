@@ -1,7 +1,7 @@
 -- Lines of generated scripts, beside lines that they are not.
 -- A choice of this project, as the definitions are.
 use Rattle.std.specs.Prelude.{◌≡◌, ◌≢◌, true, false, None, codes}
-use Rattle.kube_types.specs.declared.objects.Object.TheVariants.{Volume, Claim, Pod}
+use Rattle.kube_objects.specs.declared.objects.Object.TheVariants.{Volume, Claim, Pod}
 use Rattle.call_types.specs.declared.request.Request.TheVariants.{Delete}
 use Rattle.script_text.specs.declared.script.Line.TheVariants.{Call}
 use Rattle.script_gen.specs.Objects.{volume_of, sized_claim, claim_key, pod_with}

@@ -5,8 +5,8 @@ use Rattle.call_types.specs.declared.request.Request.TheVariants as asks
 use Rattle.call_types.specs.declared.request.SeatKind.TheVariants as seats
 use Rattle.call_types.specs.declared.reply.Refusal.TheVariants as refusals
 use Rattle.call_types.specs.declared.reply.Reply.TheVariants as replies
-use Rattle.kube_types.specs.declared.parts.Kind.TheVariants as kinds
-use Rattle.kube_types.specs.Uids.{uid_of_serial}
+use Rattle.kube_parts.specs.declared.parts.Kind.TheVariants as kinds
+use Rattle.kube_parts.specs.Uids.{uid_of_serial}
 use Rattle.history_lines.specs.Entries.{parts_with, entry_of, setup_of}
 use Rattle.text_examples.specs.History.Samples.{no_setup, no_setup_line, taken, taken_line, node_named, node_n, with_imports}
 
@@ -36,10 +36,12 @@ pub record EntryExamples : Type 0 where
       entry_of (codes "{\"ask\":{\"do\":\"mounts\",\"epoch\":1,\"node\":\"n\"},\"kind\":\"Agent\",\"reply\":{\"current\":2,\"refused\":\"StaleEpoch\"},\"seat\":5,\"told\":true}")
       ≡ Some (record { seat = 5; kind = seats.Agent; request = asks.Mounts (codes "n") 1; reply = replies.Refused (refusals.StaleEpoch 2); told = true })
   pub creates :
-      entry_of (codes "{\"ask\":{\"do\":\"create\",\"object\":{\"apiVersion\":\"v1\",\"kind\":\"Node\",\"metadata\":{\"name\":\"n\"}}},\"kind\":\"User\",\"reply\":{\"refused\":\"AlreadyExists\"},\"seat\":1,\"told\":false}")
+      entry_of (codes
+      "{\"ask\":{\"do\":\"create\",\"object\":{\"apiVersion\":\"v1\",\"kind\":\"Node\",\"metadata\":{\"name\":\"n\"}}},\"kind\":\"User\",\"reply\":{\"refused\":\"AlreadyExists\"},\"seat\":1,\"told\":false}")
       ≡ Some (record { seat = 1; kind = seats.User; request = asks.Create (node_named (codes "n") None); reply = replies.Refused refusals.AlreadyExists; told = false })
   pub another_order_of_members : entry_of (codes "{\"kind\":\"Agent\",\"ask\":{\"do\":\"take\",\"node\":\"n\"},\"reply\":{\"epoch\":1},\"seat\":9,\"told\":true}") ≡ None
   pub a_member_more : entry_of (codes "{\"ask\":{\"do\":\"take\",\"node\":\"n\"},\"kind\":\"Agent\",\"more\":1,\"reply\":{\"epoch\":1},\"seat\":9,\"told\":true}") ≡ None
   pub no_member_told : entry_of (codes "{\"ask\":{\"do\":\"take\",\"node\":\"n\"},\"kind\":\"Agent\",\"reply\":{\"epoch\":1},\"seat\":9}") ≡ None
-  pub an_empty_namespace : entry_of (codes "{\"ask\":{\"do\":\"get\",\"kind\":\"Pod\",\"name\":\"p\",\"namespace\":\"\"},\"kind\":\"User\",\"reply\":{\"refused\":\"NotFound\"},\"seat\":1,\"told\":true}") ≡ None
+  pub an_empty_namespace : entry_of (codes
+      "{\"ask\":{\"do\":\"get\",\"kind\":\"Pod\",\"name\":\"p\",\"namespace\":\"\"},\"kind\":\"User\",\"reply\":{\"refused\":\"NotFound\"},\"seat\":1,\"told\":true}") ≡ None
   pub another_word : entry_of (codes "{\"ask\":{\"do\":\"taken\",\"node\":\"n\"},\"kind\":\"Agent\",\"reply\":{\"epoch\":1},\"seat\":9,\"told\":true}") ≡ None

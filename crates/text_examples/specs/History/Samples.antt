@@ -2,10 +2,10 @@
 -- A choice of this project: the history format.
 use Rattle.std.specs.Prelude.{ℕ, List, [], true, Err, Option, Some, None, codes}
 use Rattle.std.specs.declared.result.Result.{Result}
-use Rattle.kube_types.specs.Uids.{uid_of_serial}
-use Rattle.kube_types.specs.declared.uid.Uid.{Uid}
-use Rattle.kube_types.specs.declared.objects.Object.{Object}
-use Rattle.kube_types.specs.declared.objects.Object.TheVariants as objects
+use Rattle.kube_parts.specs.Uids.{uid_of_serial}
+use Rattle.kube_parts.specs.declared.uid.Uid.{Uid}
+use Rattle.kube_objects.specs.declared.objects.Object.{Object}
+use Rattle.kube_objects.specs.declared.objects.Object.TheVariants as objects
 use Rattle.call_types.specs.declared.request.Request.TheVariants as asks
 use Rattle.call_types.specs.declared.request.SeatKind.TheVariants as seats
 use Rattle.call_types.specs.declared.reply.Reply.TheVariants as replies
@@ -30,7 +30,8 @@ taken_line = codes "{\"ask\":{\"do\":\"take\",\"node\":\"n\"},\"kind\":\"Agent\"
 
 -- a node without more, with this UID
 abbrev pub node_named : List ℕ → Option Uid → Object
-node_named name uid = objects.Node (record { meta = record { namespace = []; name = name; uid = uid; version = 0; created = []; deleted = None; labels = []; annotations = []; finalizers = [] }; extra = [] })
+node_named name uid = objects.Node (record
+    { meta = record { namespace = []; name = name; uid = uid; version = 0; created = []; deleted = None; labels = []; annotations = []; finalizers = [] }; extra = [] })
 
 abbrev pub node_n : Object
 node_n = node_named (codes "n") (Some (uid_of_serial 9))

@@ -1,8 +1,8 @@
 -- Short histories with values that a text can give, and some without; their texts, and texts that are not theirs.
 -- A choice of this project, as the history format is.
 use Rattle.std.specs.Prelude.{ℕ, ◌^◌, ◌++◌, List, [], ◌∷◌, true, codes}
-use Rattle.kube_types.specs.declared.key.Key.{Key}
-use Rattle.kube_types.specs.declared.parts.Kind.TheVariants as kinds
+use Rattle.kube_objects.specs.declared.key.Key.{Key}
+use Rattle.kube_parts.specs.declared.parts.Kind.TheVariants as kinds
 use Rattle.call_types.specs.declared.entry.Entry.{Entry}
 use Rattle.call_types.specs.declared.setup.Setup.{Setup}
 use Rattle.call_types.specs.declared.request.Request.{Request}

@@ -1,11 +1,11 @@
 -- What passes a limit, beside what just does not.
 -- A choice of this project: the script format, and its limits.
 use Rattle.std.specs.Prelude.{◌≡◌, ℕ, zero, suc, List, [], ◌∷◌, Option, Some, None, Ok, Err, codes, false}
-use Rattle.kube_types.specs.declared.objects.Object.{Object}
-use Rattle.kube_types.specs.declared.objects.Object.TheVariants as objects
+use Rattle.kube_objects.specs.declared.objects.Object.{Object}
+use Rattle.kube_objects.specs.declared.objects.Object.TheVariants as objects
 use Rattle.call_types.specs.declared.request.Request.TheVariants.{Create, Get}
 use Rattle.call_types.specs.declared.setup.Pool.{Pool}
-use Rattle.kube_types.specs.declared.parts.Kind.TheVariants as kinds
+use Rattle.kube_parts.specs.declared.parts.Kind.TheVariants as kinds
 use Rattle.script_lines.specs.declared.errors.Reason.{Reason}
 use Rattle.script_lines.specs.declared.errors.Reason.TheVariants.{TooLong, TooManyLines, TooManyObjects, TooManyNodes, TooManyPools, TooManyFaults, TooManyRestarts, TooManyLosses, TooManyTurns}
 use Rattle.script_lines.specs.declared.actors.WorkerKind.TheVariants.{Binder, Ops}
@@ -25,13 +25,15 @@ abbrev pub pool_p : Pool
 pool_p = record { name = codes "p"; provisioner = codes "x"; bytes = 5; topology = None }
 
 abbrev pub node_named : List ℕ → Object
-node_named name = objects.Node (record { meta = record { namespace = []; name = name; uid = None; version = 0; created = []; deleted = None; labels = []; annotations = []; finalizers = [] }; extra = [] })
+node_named name = objects.Node (record
+    { meta = record { namespace = []; name = name; uid = None; version = 0; created = []; deleted = None; labels = []; annotations = []; finalizers = [] }; extra = [] })
 
 abbrev pub creates_node : List ℕ → Line
 creates_node name = Call 1 (Create (node_named name))
 
 abbrev pub eight_nodes : List Line
-eight_nodes = creates_node (codes "1") ∷ creates_node (codes "2") ∷ creates_node (codes "3") ∷ creates_node (codes "4") ∷ creates_node (codes "5") ∷ creates_node (codes "6") ∷ creates_node (codes "7") ∷ creates_node (codes "8") ∷ []
+eight_nodes = creates_node (codes "1") ∷ creates_node (codes "2") ∷ creates_node (codes "3") ∷ creates_node (codes "4") ∷ creates_node
+    (codes "5") ∷ creates_node (codes "6") ∷ creates_node (codes "7") ∷ creates_node (codes "8") ∷ []
 
 abbrev pub lost : Line
 lost = Lose (worker Binder One) 3 false
@@ -51,7 +53,23 @@ abbrev pub ImportPasses : Object → List Object → Option Reason → Type 0
 ImportPasses object before limit = limit_of (record nothing_said { imports = object ∷ before }) (meanings.Import object) ≡ limit
 
 abbrev pub pod_on : List ℕ → Object
-pod_on node = objects.Pod (record { meta = record { namespace = codes "default"; name = codes "p"; uid = None; version = 0; created = []; deleted = None; labels = []; annotations = []; finalizers = [] }; claims = []; node = node; extra = [] })
+pod_on node = objects.Pod (record {
+  meta = record {
+    namespace = codes "default";
+    name = codes "p";
+    uid = None;
+    version = 0;
+    created = [];
+    deleted = None;
+    labels =
+        [];
+    annotations = [];
+    finalizers = [];
+  };
+  claims = [];
+  node = node;
+  extra = [];
+})
 
 -- pods that are scheduled on eight nodes
 abbrev pub eight_pods : List Object

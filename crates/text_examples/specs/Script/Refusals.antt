@@ -1,10 +1,10 @@
 -- Why lines are refused: each reason, and which comes first where several apply.
 -- A choice of this project: the script format, and its limits.
 use Rattle.std.specs.Prelude.{◌≡◌, ℕ, List, [], ◌∷◌, Some, None, Ok, codes, false}
-use Rattle.kube_types.specs.Uids.{uid_of_serial}
-use Rattle.kube_types.specs.declared.names.Field.TheVariants as fields
-use Rattle.kube_types.specs.declared.objects.Object.{Object}
-use Rattle.kube_types.specs.declared.objects.Object.TheVariants as objects
+use Rattle.kube_parts.specs.Uids.{uid_of_serial}
+use Rattle.kube_parts.specs.declared.names.Field.TheVariants as fields
+use Rattle.kube_objects.specs.declared.objects.Object.{Object}
+use Rattle.kube_objects.specs.declared.objects.Object.TheVariants as objects
 use Rattle.object_text.specs.declared.errors.Member.TheVariants as manifests
 use Rattle.binder_model.specs.Imports.{import_fault}
 use Rattle.script_lines.specs.declared.line_member.LineMember.TheVariants as members
@@ -29,9 +29,12 @@ pub record ReasonExamples : Type 0 where
   pub verb_of_another_type : means (codes "{\"do\":5}") ≡ refuses (reasons.WrongType members.Do)
   pub another_verb : means (codes "{\"do\":\"run\"}") ≡ refuses reasons.UnknownDo
   pub object_that_is_a_text : means (codes "{\"do\":\"create\",\"object\":\"n\"}") ≡ refuses (reasons.WrongType members.Object)
-  pub object_with_a_part_of_a_number : means (codes "{\"do\":\"create\",\"object\":{\"apiVersion\":\"v1\",\"kind\":\"Node\",\"metadata\":{\"name\":\"n\"},\"spec\":{\"x\":1.5}}}") ≡ refuses reasons.NotWhole
+  pub object_with_a_part_of_a_number : means
+      (codes "{\"do\":\"create\",\"object\":{\"apiVersion\":\"v1\",\"kind\":\"Node\",\"metadata\":{\"name\":\"n\"},\"spec\":{\"x\":1.5}}}") ≡ refuses reasons.NotWhole
   pub manifest_of_another_kind : means (codes "{\"do\":\"create\",\"object\":{\"apiVersion\":\"v1\",\"kind\":\"Secret\"}}") ≡ refuses reasons.UnknownKind
-  pub manifest_without_a_size : means (codes "{\"do\":\"create\",\"object\":{\"apiVersion\":\"v1\",\"kind\":\"PersistentVolume\",\"metadata\":{\"name\":\"a\"},\"spec\":{\"capacity\":{\"storage\":\"5x\"}}}}") ≡ refuses (reasons.BadQuantity (members.Of manifests.Storage))
+  pub manifest_without_a_size : means (codes
+      "{\"do\":\"create\",\"object\":{\"apiVersion\":\"v1\",\"kind\":\"PersistentVolume\",\"metadata\":{\"name\":\"a\"},\"spec\":{\"capacity\":{\"storage\":\"5x\"}}}}") ≡ refuses
+      (reasons.BadQuantity (members.Of manifests.Storage))
   pub manifest_without_a_name : means (codes "{\"do\":\"create\",\"object\":{\"apiVersion\":\"v1\",\"kind\":\"Node\",\"metadata\":{}}}") ≡ refuses (reasons.Missing (members.Of manifests.Name))
 
 -- ---- the first that applies
@@ -65,7 +68,8 @@ abbrev pub imports_n : List ℕ
 imports_n = codes "{\"do\":\"import\",\"object\":{\"apiVersion\":\"v1\",\"kind\":\"Node\",\"metadata\":{\"name\":\"n\"}}}"
 
 abbrev pub node_nine : Object
-node_nine = objects.Node (record { meta = record { namespace = []; name = codes "n"; uid = Some (uid_of_serial 9); version = 0; created = []; deleted = None; labels = []; annotations = []; finalizers = [] }; extra = [] })
+node_nine = objects.Node (record
+    { meta = record { namespace = []; name = codes "n"; uid = Some (uid_of_serial 9); version = 0; created = []; deleted = None; labels = []; annotations = []; finalizers = [] }; extra = [] })
 
 -- a drain came before
 abbrev pub drained : Said

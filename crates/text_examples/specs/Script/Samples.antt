@@ -2,10 +2,10 @@
 -- A choice of this project: the script format.
 use Rattle.std.specs.Prelude.{ℕ, List, [], None, Ok, Err, codes}
 use Rattle.std.specs.declared.result.Result.{Result}
-use Rattle.kube_types.specs.declared.parts.Kind.{Kind}
-use Rattle.kube_types.specs.declared.key.Key.{Key}
-use Rattle.kube_types.specs.declared.objects.Object.{Object}
-use Rattle.kube_types.specs.declared.objects.Object.TheVariants as objects
+use Rattle.kube_parts.specs.declared.parts.Kind.{Kind}
+use Rattle.kube_objects.specs.declared.key.Key.{Key}
+use Rattle.kube_objects.specs.declared.objects.Object.{Object}
+use Rattle.kube_objects.specs.declared.objects.Object.TheVariants as objects
 use Rattle.script_lines.specs.declared.errors.Reason.{Reason}
 use Rattle.script_lines.specs.declared.errors.BadLine.{BadLine}
 use Rattle.script_lines.specs.declared.actors.Actor.{Actor}
@@ -48,7 +48,8 @@ node_n = objects.Node (record { meta = record { namespace = []; name = codes "n"
 
 -- the same, at version 7
 abbrev pub node_at_seven : Object
-node_at_seven = objects.Node (record { meta = record { namespace = []; name = codes "n"; uid = None; version = 7; created = []; deleted = None; labels = []; annotations = []; finalizers = [] }; extra = [] })
+node_at_seven = objects.Node (record
+    { meta = record { namespace = []; name = codes "n"; uid = None; version = 7; created = []; deleted = None; labels = []; annotations = []; finalizers = [] }; extra = [] })
 
 -- a text is refused at this line for this reason
 abbrev pub at_fault : ℕ → Reason → Result Script BadLine

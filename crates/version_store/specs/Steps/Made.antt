@@ -1,9 +1,9 @@
 -- What the store makes of a request, as the outcome that it stands for; a default class and a list, object by object.
 use Rattle.std.specs.Prelude.{ℕ, Bool, true, List, Option, Some, None, if◌then◌else◌}
-use Rattle.kube_types.specs.declared.objects.Class.{Class as ClassData}
-use Rattle.kube_types.specs.declared.objects.Object.{Object}
-use Rattle.kube_types.specs.declared.objects.Object.TheVariants.{Class}
-use Rattle.kube_types.specs.Keys.{put_row}
+use Rattle.kube_objects.specs.declared.objects.Class.{Class as ClassData}
+use Rattle.kube_objects.specs.declared.objects.Object.{Object}
+use Rattle.kube_objects.specs.declared.objects.Object.TheVariants.{Class}
+use Rattle.kube_objects.specs.Keys.{put_row}
 use Rattle.binder_model.specs.Imports.{is_dropped, imported_object}
 use Rattle.kube_types.specs.Defaults.{is_default}
 use Rattle.binder_model.specs.Store.{State, newer_class}

@@ -1,6 +1,6 @@
 -- What a change makes of the metadata of an object.
 use Rattle.std.specs.Prelude.{Some}
-use Rattle.kube_types.specs.declared.objects.Meta.{Meta}
+use Rattle.kube_objects.specs.declared.objects.Meta.{Meta}
 use Rattle.version_store.specs.declared.metadata.MetaChange.{MetaChange}
 use Rattle.version_store.specs.declared.metadata.MetaChange.TheVariants as changes
 

@@ -1,9 +1,9 @@
 -- Where the objects of each kind begin among rows, as the ordered map keeps it. A choice of this project.
 use Rattle.std.specs.Prelude.{ℕ, ◌≤◌, List, Option, length}
-use Rattle.kube_types.specs.declared.objects.Object.{Object}
-use Rattle.kube_types.specs.Keys.{AreRows, IsKindStart}
-use Rattle.kube_types.specs.VolumeIndex.{Index}
-use Rattle.kept_index.specs.Keeping.{Keeps}
+use Rattle.kube_objects.specs.declared.objects.Object.{Object}
+use Rattle.kube_objects.specs.Keys.{AreRows, IsKindStart}
+use Rattle.volume_index.specs.VolumeIndex.{Index}
+use Rattle.volume_index.specs.Keeping.{Keeps}
 use Rattle.version_store.specs.declared.starts.Starts.{Starts}
 
 -- the objects of earlier kinds stand before this place, and those of this kind and of later ones from it on

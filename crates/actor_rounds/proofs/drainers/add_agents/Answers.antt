@@ -13,4 +13,5 @@ loop-node-preserved c =
 
 pub returns : goal.returns
 returns c =
-    all_added c.args.first c.loop-node.seat c.args.nodes.now c.as_slice-node-items.result.now c.loop-node.node-index c.args.list.now.items c.loop-node.list.items (omega (arith, c.loop-node-test.false)) c.loop-node.invariant.added
+    all_added c.args.first c.loop-node.seat c.args.nodes.now c.as_slice-node-items.result.now c.loop-node.node-index c.args.list.now.items
+    c.loop-node.list.items (omega (arith, c.loop-node-test.false)) c.loop-node.invariant.added

@@ -19,7 +19,8 @@ pub returns-in-None-clause-runs : goal.returns-in-None-clause-runs
 returns-in-None-clause-runs g c =
     let i = c.loop-left.invariant in
     let idle = subst (λ a. IsAskOf c.args.kind c.in_ok-next.next a) c.in-None.is c.ask_of.ensures in
-    i.runs _ _ _ _ (IsIdle c.loop-left-test.true (record { rows = c.in_ok-next.ensures.order; stands = i.stands }) (subst (λ (a : Next). IsTurn c.loop-left.actor c.next.new.self a) idle c.in_ok-next.ensures.turn) refl refl refl)
+    i.runs _ _ _ _ (IsIdle c.loop-left-test.true (record { rows = c.in_ok-next.ensures.order; stands = i.stands })
+    (subst (λ (a : Next). IsTurn c.loop-left.actor c.next.new.self a) idle c.in_ok-next.ensures.turn) refl refl refl)
 
 pub returns-in-None-clause-stands : goal.returns-in-None-clause-stands
 returns-in-None-clause-stands g c =
@@ -49,12 +50,15 @@ call-requires-clause-licensed g c =
     (subst (λ (a : Next). IsLicensedAnswer c.loop-left.actor.role.kind mine a) asks.0 (c.in_ok-next.ensures.licensed mine i.stands.told))
 
 pub returns-in_err-absorb-in-Some-clause-grown : goal.returns-in_err-absorb-in-Some-clause-grown
-returns-in_err-absorb-in-Some-clause-grown g c = call_grown (g.W.Answers.lets c.loop-left.desk) c.args.seat c.in-Some.ask.kind c.in-Some.ask.request c.in_ok-outcome-in-Some.outcome (g.W.Answers.past c.args.desk.now) (g.W.Answers.past c.loop-left.desk) (g.W.Answers.past c.call.new.desk) c.in_ok-outcome-in-Some.ensures.came c.loop-left.invariant.grown
+returns-in_err-absorb-in-Some-clause-grown g c =
+    call_grown (g.W.Answers.lets c.loop-left.desk) c.args.seat c.in-Some.ask.kind c.in-Some.ask.request c.in_ok-outcome-in-Some.outcome
+    (g.W.Answers.past c.args.desk.now) (g.W.Answers.past c.loop-left.desk) (g.W.Answers.past c.call.new.desk) c.in_ok-outcome-in-Some.ensures.came c.loop-left.invariant.grown
 
 pub returns-in_err-absorb-in-Some-clause-users : goal.returns-in_err-absorb-in-Some-clause-users
 returns-in_err-absorb-in-Some-clause-users g c =
     let asks = subst (λ a. IsAskOf c.args.kind c.in_ok-next.next a) c.in-Some.is c.ask_of.ensures in
-    call_users (g.W.Answers.lets c.loop-left.desk) c.args.seat c.in-Some.ask.kind c.in-Some.ask.request c.in_ok-outcome-in-Some.outcome (g.W.Answers.past c.loop-left.desk) (g.W.Answers.past c.call.new.desk) (subst IsBuiltKind (sym asks.1) c.requires.built) c.in_ok-outcome-in-Some.ensures.came ∙ c.loop-left.invariant.users
+    call_users (g.W.Answers.lets c.loop-left.desk) c.args.seat c.in-Some.ask.kind c.in-Some.ask.request c.in_ok-outcome-in-Some.outcome
+    (g.W.Answers.past c.loop-left.desk) (g.W.Answers.past c.call.new.desk) (subst IsBuiltKind (sym asks.1) c.requires.built) c.in_ok-outcome-in-Some.ensures.came ∙ c.loop-left.invariant.users
 
 -- the call that was made is one of the actor, also where its answer is not absorbed
 pub returns-in_err-absorb-in-Some-clause-actors : goal.returns-in_err-absorb-in-Some-clause-actors
@@ -65,7 +69,9 @@ returns-in_err-absorb-in-Some-clause-actors g c = λ before.
     let h = g.W.Answers.past c.loop-left.desk in
     let asks = subst (λ a. IsAskOf c.args.kind c.in_ok-next.next a) c.in-Some.is c.ask_of.ensures in
     let same = asks.1 ∙ turn_kind c.args.kind s given _ i.kind c.in_ok-next.ensures.turn in
-    call_actors (g.W.Answers.lets c.loop-left.desk) c.args.seat c.in-Some.ask.kind given c.in-Some.ask.request c.in_ok-outcome-in-Some.outcome h (g.W.Answers.past c.call.new.desk) (subst IsBuiltKind (sym asks.1) c.requires.built) same (c.in_ok-next.ensures.stands (own c.args.seat h) i.stands.told) (sym c.in_ok-next.ensures.asked ∙ ap call_in asks.0)
+    call_actors (g.W.Answers.lets c.loop-left.desk) c.args.seat c.in-Some.ask.kind given c.in-Some.ask.request c.in_ok-outcome-in-Some.outcome h
+    (g.W.Answers.past c.call.new.desk) (subst IsBuiltKind (sym asks.1) c.requires.built) same
+    (c.in_ok-next.ensures.stands (own c.args.seat h) i.stands.told) (sym c.in_ok-next.ensures.asked ∙ ap call_in asks.0)
     c.in_ok-outcome-in-Some.ensures.came (i.actors before)
 
 pub loop-left-preserved : goal.loop-left-preserved
@@ -91,10 +97,13 @@ loop-left-preserved g c =
       few = omega (arith, i.few, c.loop-left-test.true);
       kind = i.kind ∙ sym (ap (λ (r : Role). r.kind) role);
       role = role ∙ i.role;
-      runs = λ last past left idle more. i.runs last past left idle (call_runs lets c.args.seat c.in-Some.ask.kind s given after request outcome h new c.loop-left.left c.loop-left-test.true (record { rows = c.in_ok-next.ensures.order; stands = i.stands }) turn same
+      runs = λ last past left idle more. i.runs last past left idle
+          (call_runs lets c.args.seat c.in-Some.ask.kind s given after request outcome h new c.loop-left.left c.loop-left-test.true
+          (record { rows = c.in_ok-next.ensures.order; stands = i.stands }) turn same
           c.in_ok-absorb-in-Some.ensures.state came last past left idle more);
       stands = called_whole s given after _ request outcome mine (own c.args.seat new) c.in_ok-next.ensures.turn c.in_ok-absorb-in-Some.ensures.state
-          (call_stands lets c.args.seat c.in-Some.ask.kind given after request outcome h new same came c.in_ok-outcome-in-Some.ensures.own c.in_ok-absorb-in-Some.ensures.told c.in_ok-absorb-in-Some.ensures.lost_before told)
+          (call_stands lets c.args.seat c.in-Some.ask.kind given after request outcome h new same came c.in_ok-outcome-in-Some.ensures.own
+          c.in_ok-absorb-in-Some.ensures.told c.in_ok-absorb-in-Some.ensures.lost_before told)
           i.stands;
       serves = λ other there. c.in_ok-outcome-in-Some.ensures.serves other (i.serves other there);
       free = c.in_ok-outcome-in-Some.ensures.orders;

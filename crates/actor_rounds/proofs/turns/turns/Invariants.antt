@@ -12,8 +12,10 @@ abbrev pub invariant-loop-place : goal.invariant-loop-place
 invariant-loop-place g l = record {
   few : l.left ≤ l.budget;
   some : 0 < l.place → 0 < l.budget → l.left < l.budget;
-  round : (past : List Entry) (left : ℕ) (after : List Drainer) (whole : Bool) → IsRound (g.W.Answers.lets l.initial.desk) past left (drop l.place l.drainers-inside.list.items) (g.W.Answers.past l.desk) l.left after whole
-      → IsRound (g.W.Answers.lets l.initial.desk) past left l.initial.drainers-inside.list.items (g.W.Answers.past l.initial.desk) l.budget (take l.place l.drainers-inside.list.items ++ after) (l.whole && whole);
+  round : (past : List Entry) (left : ℕ) (after : List Drainer) (whole : Bool)
+      → IsRound (g.W.Answers.lets l.initial.desk) past left (drop l.place l.drainers-inside.list.items) (g.W.Answers.past l.desk) l.left after whole
+      → IsRound (g.W.Answers.lets l.initial.desk) past left l.initial.drainers-inside.list.items (g.W.Answers.past l.initial.desk) l.budget
+      (take l.place l.drainers-inside.list.items ++ after) (l.whole && whole);
   stands : EachBelow (length l.drainers-inside.list.items) StandsWhole l.drainers-inside.list.items (g.W.Answers.past l.desk);
   idle : l.whole ≡ true → EachBelow l.place IsIdleAt l.drainers-inside.list.items (g.W.Answers.past l.desk);
   serves : (seat : ℕ) → g.W.Answers.serves l.initial.desk seat → g.W.Answers.serves l.desk seat;

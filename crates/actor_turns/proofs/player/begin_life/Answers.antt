@@ -6,7 +6,8 @@ use Rattle.actor_turns.proofs.player.begin_life.Goals as goal
 pub returns-then-seat-player-clause-plays : goal.returns-then-seat-player-clause-plays
 returns-then-seat-player-clause-plays c = λ past idle named plays.
     let old = c.args.player.now in
-    next_life old (record old { seat = c.seat_at-seat.result; began = old.made; actor = c.restart.new.self }) past idle named refl refl refl c.seat_at-seat.ensures c.if-seat-player.true c.restart.ensures.is c.restart.ensures.stands plays
+    next_life old (record old { seat = c.seat_at-seat.result; began = old.made; actor = c.restart.new.self }) past idle named refl refl refl
+    c.seat_at-seat.ensures c.if-seat-player.true c.restart.ensures.is c.restart.ensures.stands plays
 
 pub returns-then-seat-player-clause-lives : goal.returns-then-seat-player-clause-lives
 returns-then-seat-player-clause-lives c = λ role past told idle named plays lives.

@@ -62,7 +62,8 @@ make-requires-clause-latest g c =
     let mid = c.begin_life.new.player in
     let past = g.W.Answers.past c.args.desk.now in
     let some = c.requires.plays in
-    λ other there. latest_life mid past some.idle (c.begin_life.ensures.plays past some.idle c.requires.named some.plays) other (subst (λ (p : Part). IsLife p other) (sym c.begin_life.ensures.part) (c.requires.orders other there))
+    λ other there. latest_life mid past some.idle (c.begin_life.ensures.plays past some.idle c.requires.named some.plays) other
+    (subst (λ (p : Part). IsLife p other) (sym c.begin_life.ensures.part) (c.requires.orders other there))
 
 pub make-requires-clause-licensed : goal.make-requires-clause-licensed
 make-requires-clause-licensed g c =
@@ -72,7 +73,8 @@ make-requires-clause-licensed g c =
     let mine = own mid.seat past in
     let plays = c.begin_life.ensures.plays past some.idle c.requires.named some.plays in
     let asks = subst (λ (a : Option Ask). IsAskOf c.kind-kind-2.result c.in_ok-next.next a) c.in-Some.is c.ask_of.ensures in
-    let kind : mid.actor.role.kind ≡ c.in-Some.ask.kind = sym (asks.1 ∙ c.kind-kind-2.ensures.kind ∙ ap (λ (r : Role). r.kind) (turn_role mid.actor c.next.new.self c.in_ok-next.next c.in_ok-next.ensures.turn)) in
+    let kind : mid.actor.role.kind ≡ c.in-Some.ask.kind =
+    sym (asks.1 ∙ c.kind-kind-2.ensures.kind ∙ ap (λ (r : Role). r.kind) (turn_role mid.actor c.next.new.self c.in_ok-next.next c.in_ok-next.ensures.turn)) in
     subst (λ (k : SeatKind). Licensed k mine c.in-Some.ask.request) kind
     (subst (λ (a : Next). IsLicensedAnswer mid.actor.role.kind mine a) asks.0 (c.in_ok-next.ensures.licensed mine plays.since.stands))
 
@@ -92,8 +94,15 @@ returns-in_ok-count-in-Some-clause-stepped g c = λ idle plays.
     let b = c.in_ok-held-in-Some.held in
     let asks = subst (λ (a : Option Ask). IsAskOf c.kind-kind-2.result c.in_ok-next.next a) c.in-Some.is c.ask_of.ensures in
     subst (λ (x : Player). HasMade lets idle past after c.args.player.now x) (sym c.in_ok-count-in-Some.ensures.counted)
-    (one_made lets c.args.player.now mid (record mid { made = mid.made + 1; held = and_held b (mid.made + 1) mid.held; actor = c.make.new.actor }) c.next.new.self c.in_ok-next.next past after idle c.fate_of-fate.result b c.in-Some.ask.kind
-    c.requires.named (record { part = c.begin_life.ensures.part; made = c.begin_life.ensures.made; held = c.begin_life.ensures.held; seat = c.begin_life.ensures.seat }) (record { part = refl; seat = refl }) refl refl
+    (one_made lets c.args.player.now mid (record mid { made = mid.made + 1; held = and_held b (mid.made + 1) mid.held; actor = c.make.new.actor })
+    c.next.new.self c.in_ok-next.next past after idle c.fate_of-fate.result b c.in-Some.ask.kind
+    c.requires.named (record {
+      part = c.begin_life.ensures.part;
+      made = c.begin_life.ensures.made;
+      held = c.begin_life.ensures.held;
+      seat =
+          c.begin_life.ensures.seat;
+    }) (record { part = refl; seat = refl }) refl refl
     (asks.1 ∙ c.kind-kind-2.ensures.kind ∙ ap (λ (r : Role). r.kind) (turn_role mid.actor c.next.new.self c.in_ok-next.next c.in_ok-next.ensures.turn))
     (c.fate_of-fate.ensures ∙ ap (λ (losses : List Loss). fate_of losses (mid.made + 1)) c.as_slice.ensures)
     c.in_ok-next.ensures.turn c.in_ok-next.ensures.stands c.in_ok-held-in-Some.ensures.called
@@ -108,7 +117,8 @@ returns-in_ok-count-in-Some-clause-lived g c = λ role idle lives.
     let some = c.requires.plays in
     let called = c.in_ok-held-in-Some.ensures.called in
     let asks = subst (λ (a : Option Ask). IsAskOf c.kind-kind-2.result c.in_ok-next.next a) c.in-Some.is c.ask_of.ensures in
-    let life : mid.seat ≡ seat_at mid.part (mid.made + 1) = c.begin_life.ensures.seat ∙ sym (ap (λ (p : Part). seat_at p (mid.made + 1)) c.begin_life.ensures.part ∙ ap (λ m. seat_at c.args.player.now.part (m + 1)) c.begin_life.ensures.made) in
+    let life : mid.seat ≡ seat_at mid.part (mid.made + 1) = c.begin_life.ensures.seat
+    ∙ sym (ap (λ (p : Part). seat_at p (mid.made + 1)) c.begin_life.ensures.part ∙ ap (λ m. seat_at c.args.player.now.part (m + 1)) c.begin_life.ensures.made) in
     subst (λ (x : Player). Lives role x after idle) (sym c.in_ok-count-in-Some.ensures.counted)
     (made_lives role mid c.next.new.self c.make.new.actor c.in-Some.ask.request c.fate_of-fate.result b past after some.idle idle life
     (c.fate_of-fate.ensures ∙ ap (λ (losses : List Loss). fate_of losses (mid.made + 1)) c.as_slice.ensures) c.next.ensures.order

@@ -61,8 +61,10 @@ returns-then-not-branch-clause-turned g c = λ idle plays.
     let after = (g.W.Answers.past c.step.new.desk) in
     let lets = g.W.Answers.lets c.args.desk.now in
     let stepped = λ (idle : ℕ → List Entry) (plays : Plays old h idle). subst (λ (l : Lets). HasStepped l idle h after old mid c.in_ok-step.field-0) i.lets (c.in_ok-step.ensures.stepped idle plays) in
-    turned_few lets c.loop-made.made c.args.calls idle (g.W.Answers.past c.args.desk.now) h after c.args.player.now old mid (record mid { actor = c.wake.new.self }) c.loop-made-test.true i.part i.count gone
-    (subst (λ (b : Bool). HasStepped lets idle h after old mid b) c.if-not-branch.true (stepped idle gone.plays)) refl refl refl refl c.step.ensures.part (ap (λ (x : ActorState). x.role) c.in_ok-wake.ensures.state)
+    turned_few lets c.loop-made.made c.args.calls idle (g.W.Answers.past c.args.desk.now) h after c.args.player.now old mid
+    (record mid { actor = c.wake.new.self }) c.loop-made-test.true i.part i.count gone
+    (subst (λ (b : Bool). HasStepped lets idle h after old mid b) c.if-not-branch.true (stepped idle gone.plays)) refl refl refl refl
+    c.step.ensures.part (ap (λ (x : ActorState). x.role) c.in_ok-wake.ensures.state)
     (λ mine stands. woken_since mid.actor c.wake.new.self mine c.in_ok-wake.ensures.state (c.in_ok-wake.ensures.stands mine stands))
 
 pub loop-made-preserved : goal.loop-made-preserved
@@ -73,7 +75,9 @@ loop-made-preserved g c =
     let h = (g.W.Answers.past c.loop-made.desk) in
     let after = (g.W.Answers.past c.step.new.desk) in
     let lets = g.W.Answers.lets c.args.desk.now in
-    let made = λ (idle : ℕ → List Entry) (plays : Plays old h idle). subst (λ (b : Bool). HasStepped lets idle h after old new b) c.if-not-branch.false (subst (λ (l : Lets). HasStepped l idle h after old new c.in_ok-step.field-0) i.lets (c.in_ok-step.ensures.stepped idle plays)) in
+    let made = λ (idle : ℕ → List Entry) (plays : Plays old h idle). subst
+    (λ (b : Bool). HasStepped lets idle h after old new b) c.if-not-branch.false
+    (subst (λ (l : Lets). HasStepped l idle h after old new c.in_ok-step.field-0) i.lets (c.in_ok-step.ensures.stepped idle plays)) in
     let count = (made i.some.idle i.some.plays).made in
     record {
       few = omega (arith, c.loop-made-test.true);
@@ -96,7 +100,8 @@ loop-made-preserved g c =
 pub returns-clause-turned : goal.returns-clause-turned
 returns-clause-turned g c = λ idle plays.
     let i = c.loop-made.invariant in
-    turned_all (g.W.Answers.lets c.args.desk.now) c.loop-made.made c.args.calls idle (g.W.Answers.past c.args.desk.now) (g.W.Answers.past c.loop-made.desk) c.args.player.now c.loop-made.player (omega (arith, i.few, c.loop-made-test.false)) i.count (i.gone idle plays)
+    turned_all (g.W.Answers.lets c.args.desk.now) c.loop-made.made c.args.calls idle (g.W.Answers.past c.args.desk.now)
+    (g.W.Answers.past c.loop-made.desk) c.args.player.now c.loop-made.player (omega (arith, i.few, c.loop-made-test.false)) i.count (i.gone idle plays)
 
 pub returns-then-not-branch-clause-actors : goal.returns-then-not-branch-clause-actors
 returns-then-not-branch-clause-actors g c = λ before. c.in_ok-step.ensures.actors (c.loop-made.invariant.actors before)
@@ -106,7 +111,8 @@ returns-then-not-branch-clause-lives g c = λ role idle lives.
     let i = c.loop-made.invariant in
     let mid = c.step.new.player in
     let after = (g.W.Answers.past c.step.new.desk) in
-    let still = subst (λ (b : Bool). HasStepped (g.W.Answers.lets c.loop-made.desk) i.some.idle (g.W.Answers.past c.loop-made.desk) after c.loop-made.player mid b) c.if-not-branch.true (c.in_ok-step.ensures.stepped i.some.idle i.some.plays) in
+    let still = subst (λ (b : Bool). HasStepped (g.W.Answers.lets c.loop-made.desk) i.some.idle
+    (g.W.Answers.past c.loop-made.desk) after c.loop-made.player mid b) c.if-not-branch.true (c.in_ok-step.ensures.stepped i.some.idle i.some.plays) in
     let same = still.made in
     inr (woken_lives role c.args.calls c.args.player.now mid c.wake.new.self after idle (omega (arith, same, i.count, c.loop-made-test.true)) c.in_ok-wake.ensures.state c.in_ok-wake.ensures.stands
     (subst (λ (b : Bool). HasLived role after idle mid b) c.if-not-branch.true (c.in_ok-step.ensures.lived role idle (i.lives role idle lives))))

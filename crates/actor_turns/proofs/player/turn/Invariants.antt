@@ -22,7 +22,8 @@ invariant-loop-made g l = record {
   actors : AreByActors (g.W.Answers.past l.initial.desk) → AreByActors (g.W.Answers.past l.desk);
   some : SomePlays l.player (g.W.Answers.past l.desk);
   lives : (role : Role) (idle : ℕ → List Call) → Lives role l.initial.player (g.W.Answers.past l.initial.desk) idle → Lives role l.player (g.W.Answers.past l.desk) idle;
-  gone : (idle : ℕ → List Entry) → Plays l.initial.player (g.W.Answers.past l.initial.desk) idle → HasGone (g.W.Answers.lets l.initial.desk) l.made idle (g.W.Answers.past l.initial.desk) (g.W.Answers.past l.desk) l.initial.player l.player;
+  gone : (idle : ℕ → List Entry) → Plays l.initial.player (g.W.Answers.past l.initial.desk) idle
+      → HasGone (g.W.Answers.lets l.initial.desk) l.made idle (g.W.Answers.past l.initial.desk) (g.W.Answers.past l.desk) l.initial.player l.player;
 }
 
 abbrev pub decreases-loop-made : goal.decreases-loop-made

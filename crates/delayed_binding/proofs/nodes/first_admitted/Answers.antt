@@ -14,4 +14,5 @@ returns-in-Some g c =
 pub returns : goal.returns
 returns g c =
     let same : c.loop-place.place ≡ c.count-place-end.result = omega arith in
-    none_found (g.L.Lookup.rows c.args.lookup.now) c.count-place-end.ensures.order (AreAdmitted (g.L.Lookup.rows c.args.lookup.now) c.args.claims.now) c.loop-place.place (same ∙ c.count-place-end.ensures.count) c.loop-place.invariant
+    none_found (g.L.Lookup.rows c.args.lookup.now) c.count-place-end.ensures.order
+    (AreAdmitted (g.L.Lookup.rows c.args.lookup.now) c.args.claims.now) c.loop-place.place (same ∙ c.count-place-end.ensures.count) c.loop-place.invariant

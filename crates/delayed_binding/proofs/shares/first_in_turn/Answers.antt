@@ -7,4 +7,6 @@ use Rattle.delayed_binding.proofs.shares.first_in_turn.Goals as goal
 pub returns-clause-found : goal.returns-clause-found
 returns-clause-found g c =
     let same : c.loop-place.place ≡ c.count-place-end.result = omega arith in
-    none_found (g.L.Lookup.rows c.args.lookup.now) c.count-place-end.ensures.order (ServesInTurn (g.L.Lookup.rows c.args.lookup.now) c.args.claims.now (option_copied c.args.last) c.args.past) c.loop-place.place (same ∙ c.count-place-end.ensures.count) c.loop-place.invariant.0
+    none_found (g.L.Lookup.rows c.args.lookup.now) c.count-place-end.ensures.order
+    (ServesInTurn (g.L.Lookup.rows c.args.lookup.now) c.args.claims.now (option_copied c.args.last) c.args.past) c.loop-place.place
+    (same ∙ c.count-place-end.ensures.count) c.loop-place.invariant.0

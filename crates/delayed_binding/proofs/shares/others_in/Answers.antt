@@ -13,7 +13,8 @@ loop-place-preserved-in-Continue-1 g c =
     let x = c.index-claims-place.result in
     let at = slice_get_read cs (length cs) (c.loop-place.place - 1) x refl (omega (arith, c.loop-place-test.true, c.loop-place.auto.place)) c.index-claims-place.is in
     let same : (c.loop-place.place - 1) + 1 ≡ c.loop-place.place = omega (arith, c.loop-place-test.true) in
-    c.in_ok-insert_claim.ensures ∙ (ap (insert_claim x) (c.loop-place.invariant ∙ ap (λ n. others_in rows (drop n cs)) (sym same)) ∙ sym (other_put rows cs i x at (sym (ap (is_other rows) c.get.ensures) ∙ (sym c.is_other.ensures ∙ c.if-is_other.true))))
+    c.in_ok-insert_claim.ensures ∙ (ap (insert_claim x) (c.loop-place.invariant ∙ ap (λ n. others_in rows (drop n cs)) (sym same)) ∙ sym
+    (other_put rows cs i x at (sym (ap (is_other rows) c.get.ensures) ∙ (sym c.is_other.ensures ∙ c.if-is_other.true))))
 
 pub loop-place-preserved : goal.loop-place-preserved
 loop-place-preserved g c =
@@ -23,4 +24,5 @@ loop-place-preserved g c =
     let x = c.index-claims-place.result in
     let at = slice_get_read cs (length cs) (c.loop-place.place - 1) x refl (omega (arith, c.loop-place-test.true, c.loop-place.auto.place)) c.index-claims-place.is in
     let same : (c.loop-place.place - 1) + 1 ≡ c.loop-place.place = omega (arith, c.loop-place-test.true) in
-    c.loop-place.invariant ∙ (ap (λ n. others_in rows (drop n cs)) (sym same) ∙ sym (other_passed rows cs i x at (sym (ap (is_other rows) c.get.ensures) ∙ (sym c.is_other.ensures ∙ c.if-is_other.false))))
+    c.loop-place.invariant ∙ (ap (λ n. others_in rows (drop n cs)) (sym same) ∙ sym
+    (other_passed rows cs i x at (sym (ap (is_other rows) c.get.ensures) ∙ (sym c.is_other.ensures ∙ c.if-is_other.false))))

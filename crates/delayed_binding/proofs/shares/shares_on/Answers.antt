@@ -13,7 +13,8 @@ returns-then-not-branch-clause-none g c =
     let i = c.loop-claim.claim-index in
     let x = c.claim-item.result in
     let at = slice_get_read cs (length cs) i x refl c.loop-claim-test.true c.claim-item.is in
-    let given = subst (IsServedAs rows n x (held_by c.loop-claim.shares) (held_by c.give.new.self)) c.if-not-branch.true (subst (λ d. IsServedAs rows n d (held_by c.loop-claim.shares) (held_by c.give.new.self) c.in_ok-give.field-0) c.get.ensures c.in_ok-give.ensures.given) in
+    let given = subst (IsServedAs rows n x (held_by c.loop-claim.shares) (held_by c.give.new.self)) c.if-not-branch.true
+    (subst (λ d. IsServedAs rows n d (held_by c.loop-claim.shares) (held_by c.give.new.self) c.in_ok-give.field-0) c.get.ensures c.in_ok-give.ensures.given) in
     subst (HaveNoShares rows n) (split_at cs i x at) (not_shared rows n c.set_aside.ensures.order (take i cs) (held_by c.loop-claim.shares) c.loop-claim.invariant.0 x (drop (i + 1) cs) given)
 
 pub loop-claim-preserved : goal.loop-claim-preserved
@@ -24,5 +25,9 @@ loop-claim-preserved g c =
     let i = c.loop-claim.claim-index in
     let x = c.claim-item.result in
     let at = slice_get_read cs (length cs) i x refl c.loop-claim-test.true c.claim-item.is in
-    let given = subst (IsServedAs rows n x (held_by c.loop-claim.shares) (held_by c.give.new.self)) c.if-not-branch.false (subst (λ d. IsServedAs rows n d (held_by c.loop-claim.shares) (held_by c.give.new.self) c.in_ok-give.field-0) c.get.ensures c.in_ok-give.ensures.given) in
-    (subst (λ xs. IsSharedOut rows n xs (held_by c.give.new.self)) (sym (take_next cs i x at)) (shared_more rows n (take i cs) (held_by c.loop-claim.shares) (held_by c.give.new.self) c.loop-claim.invariant.0 x given), c.in_ok-give.ensures.passed)
+    let given = subst (IsServedAs rows n x (held_by c.loop-claim.shares) (held_by c.give.new.self)) c.if-not-branch.false
+    (subst (λ d. IsServedAs rows n d (held_by c.loop-claim.shares) (held_by c.give.new.self) c.in_ok-give.field-0) c.get.ensures c.in_ok-give.ensures.given) in (
+      subst (λ xs. IsSharedOut rows n xs (held_by c.give.new.self)) (sym (take_next cs i x at))
+          (shared_more rows n (take i cs) (held_by c.loop-claim.shares) (held_by c.give.new.self) c.loop-claim.invariant.0 x given),
+      c.in_ok-give.ensures.passed,
+    )

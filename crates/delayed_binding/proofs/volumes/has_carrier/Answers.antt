@@ -1,5 +1,5 @@
 use Rattle.std.proofs.Common.{◌∙◌}
-use Rattle.kube_types.specs.VolumeIndex.{volumes_in}
+use Rattle.volume_index.specs.VolumeIndex.{volumes_in}
 use Rattle.delayed_binding.proofs.Carrying.{carried_in_part}
 use Rattle.delayed_binding.proofs.volumes.has_carrier.Goals as goal
 

@@ -1,6 +1,6 @@
 use Rattle.std.proofs.Common.{◌≡◌, drop}
 use Rattle.std.specs.List.{list_any}
-use Rattle.kube_types.specs.Bindings.{carries}
+use Rattle.kube_objects.specs.Bindings.{carries}
 use Rattle.delayed_binding.proofs.volumes.is_carried.Given as goal
 
 -- what is to be found is still ahead

@@ -1,6 +1,6 @@
 use Rattle.std.proofs.Common.{◌∙◌, sym}
-use Rattle.kube_types.specs.declared.parts.Kind.TheVariants as kinds
-use Rattle.kube_types.specs.Keys.{rows_of}
+use Rattle.kube_parts.specs.declared.parts.Kind.TheVariants as kinds
+use Rattle.kube_objects.specs.Keys.{rows_of}
 use Rattle.delayed_binding.proofs.Scanning.{carrier_found, carrier_passed, carriers_are_volumes}
 use Rattle.delayed_binding.proofs.volumes.is_carried_at_all.Goals as goal
 

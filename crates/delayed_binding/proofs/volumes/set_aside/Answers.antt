@@ -1,6 +1,6 @@
 use Rattle.std.proofs.Common.{◌≡◌, ◌∙◌, ◌∷◌, ap, arith, subst, if◌then◌else◌}
-use Rattle.kube_types.specs.declared.parts.Kind.TheVariants as kinds
-use Rattle.kube_types.specs.Keys.{rows_of}
+use Rattle.kube_parts.specs.declared.parts.Kind.TheVariants as kinds
+use Rattle.kube_objects.specs.Keys.{rows_of}
 use Rattle.delayed_binding.specs.Steps.Places.{is_in_namespace}
 use Rattle.delayed_binding.specs.Steps.Sharing.{AreSame}
 use Rattle.delayed_binding.proofs.Scanning.{aside_end, aside_step}

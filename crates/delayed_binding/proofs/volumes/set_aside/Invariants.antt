@@ -1,6 +1,6 @@
 use Rattle.std.proofs.Common.{◌++◌, drop}
-use Rattle.kube_types.specs.declared.parts.Kind.TheVariants as kinds
-use Rattle.kube_types.specs.Keys.{rows_of}
+use Rattle.kube_parts.specs.declared.parts.Kind.TheVariants as kinds
+use Rattle.kube_objects.specs.Keys.{rows_of}
 use Rattle.delayed_binding.specs.Choices.{places_from, set_aside}
 use Rattle.delayed_binding.specs.Steps.Sharing.{AreSame}
 use Rattle.delayed_binding.proofs.volumes.set_aside.Given as goal

@@ -16,4 +16,7 @@ returns-else-nth-binds g c =
     let rows = g.L.Lookup.rows c.args.lookup.now in
     let rest = c.args.nth - length c.args.binds.now in
     let is : c.args.nth ≡ length c.args.binds.now + (c.args.nth - length c.args.binds.now) = omega (arith, c.if-nth-binds.false) in
-    IfOk-weaker c.node_write_at.result _ _ (λ w h. h ∙ (ap (node_write_at rows c.args.node.now) (got c.get-key.result c.args.provisions.now rest c.get-key.ensures.lookup.1 c.get-key.ensures.lookup.3) ∙ sym (write_second rows c.args.node.now c.args.binds.now c.args.provisions.now c.args.nth rest is))) c.node_write_at.ensures
+    IfOk-weaker c.node_write_at.result _ _ (λ w h. h ∙
+    (ap (node_write_at rows c.args.node.now)
+    (got c.get-key.result c.args.provisions.now rest c.get-key.ensures.lookup.1 c.get-key.ensures.lookup.3)
+    ∙ sym (write_second rows c.args.node.now c.args.binds.now c.args.provisions.now c.args.nth rest is))) c.node_write_at.ensures

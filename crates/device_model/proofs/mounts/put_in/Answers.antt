@@ -9,7 +9,8 @@ use Rattle.device_model.proofs.mounts.put_in.Goals as goal
 pub returns-in_err-push-in-Ok-clause-err : goal.returns-in_err-push-in-Ok-clause-err
 returns-in_err-push-in-Ok-clause-err c =
     let was = c.index_mut.ensures.value in
-    let same = mounts_set c.args.nodes.now.items c.in-Ok.at c.index_mut.result.now (record { node = c.index_mut.result.now.node; rows = c.push.new.self }) (ap (λ (n : NodeRows). n.node) was) (c.in_err-push-in-Ok.ensures.items ∙ ap (λ (n : NodeRows). n.rows.items) was) in
+    let same = mounts_set c.args.nodes.now.items c.in-Ok.at c.index_mut.result.now
+    (record { node = c.index_mut.result.now.node; rows = c.push.new.self }) (ap (λ (n : NodeRows). n.node) was) (c.in_err-push-in-Ok.ensures.items ∙ ap (λ (n : NodeRows). n.rows.items) was) in
     search rules
 
 pub returns-in_err-push-in-Ok-clause-rising : goal.returns-in_err-push-in-Ok-clause-rising
@@ -19,7 +20,8 @@ pub returns-in_ok-push-in-Ok-clause-ok : goal.returns-in_ok-push-in-Ok-clause-ok
 returns-in_ok-push-in-Ok-clause-ok c =
     let at = rw c.deref.ensures.value at c.in-Ok.ensures.at in
     let was = c.index_mut.ensures.value in
-    put_at_node c.args.node c.args.row c.args.nodes.now.items c.in-Ok.at c.index_mut.result.now _ c.requires at (ap (λ (n : NodeRows). n.node) was) (c.in_ok-push-in-Ok.ensures.items ∙ ap (λ (n : NodeRows). n.rows.items ++ c.args.row ∷ []) was)
+    put_at_node c.args.node c.args.row c.args.nodes.now.items c.in-Ok.at c.index_mut.result.now _ c.requires at (ap (λ (n : NodeRows). n.node) was)
+    (c.in_ok-push-in-Ok.ensures.items ∙ ap (λ (n : NodeRows). n.rows.items ++ c.args.row ∷ []) was)
 
 pub returns-in_ok-push-in-Ok-clause-rising : goal.returns-in_ok-push-in-Ok-clause-rising
 returns-in_ok-push-in-Ok-clause-rising c = rising_set c.args.nodes.now.items c.in-Ok.at c.index_mut.result.now _ (ap (λ (n : NodeRows). n.node) c.index_mut.ensures.value) c.requires
@@ -27,7 +29,8 @@ returns-in_ok-push-in-Ok-clause-rising c = rising_set c.args.nodes.now.items c.i
 pub returns-in_ok-insert-in-Err-clause-ok : goal.returns-in_ok-insert-in-Err-clause-ok
 returns-in_ok-insert-in-Err-clause-ok c =
     let gap = rw c.deref.ensures.value at c.in-Err.ensures.gap in
-    rw c.in_ok-insert-in-Err.ensures.items (put_new_node c.args.node c.args.row c.args.nodes.now.items c.in-Err.at _ c.requires gap refl (rw c.in_ok-push-in-Err.ensures.items (rw c.new-rows.ensures.items refl)))
+    rw c.in_ok-insert-in-Err.ensures.items (put_new_node c.args.node c.args.row c.args.nodes.now.items c.in-Err.at _ c.requires gap refl
+    (rw c.in_ok-push-in-Err.ensures.items (rw c.new-rows.ensures.items refl)))
 
 pub returns-in_ok-insert-in-Err-clause-rising : goal.returns-in_ok-insert-in-Err-clause-rising
 returns-in_ok-insert-in-Err-clause-rising c =

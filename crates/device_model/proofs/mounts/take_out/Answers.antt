@@ -8,7 +8,8 @@ pub returns-in-Ok-clause-rows : goal.returns-in-Ok-clause-rows
 returns-in-Ok-clause-rows c =
     let at = rw c.deref.ensures.value at c.in-Ok.ensures.at in
     let was = c.index_mut.ensures.value in
-    without_at_node c.args.node.now c.args.pod c.args.nodes.now.items c.in-Ok.at c.index_mut.result.now _ c.requires at (ap (λ (n : NodeRows). n.node) was) (c.drop_pod.ensures ∙ ap (λ (n : NodeRows). filter (λ r. not (same_uid r.pod c.args.pod)) n.rows.items) was)
+    without_at_node c.args.node.now c.args.pod c.args.nodes.now.items c.in-Ok.at c.index_mut.result.now _ c.requires at
+    (ap (λ (n : NodeRows). n.node) was) (c.drop_pod.ensures ∙ ap (λ (n : NodeRows). filter (λ r. not (same_uid r.pod c.args.pod)) n.rows.items) was)
 
 pub returns-in-Ok-clause-rising : goal.returns-in-Ok-clause-rising
 returns-in-Ok-clause-rising c = rising_set c.args.nodes.now.items c.in-Ok.at c.index_mut.result.now _ (ap (λ (n : NodeRows). n.node) c.index_mut.ensures.value) c.requires

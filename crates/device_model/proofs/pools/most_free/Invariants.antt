@@ -7,5 +7,6 @@ use Rattle.device_model.proofs.pools.most_free.Given as goal
 abbrev pub invariant-loop-pool : goal.invariant-loop-pool
 invariant-loop-pool l = record {
   place : l.place ≡ l.pool-index;
-  most : max l.most (most_free l.provisioner (option_copied l.labels) (map stored_data l.stored) l.place (drop l.pool-index l.pools)) ≡ most_free l.provisioner (option_copied l.labels) (map stored_data l.stored) 0 l.pools;
+  most : max l.most (most_free l.provisioner (option_copied l.labels) (map stored_data l.stored) l.place (drop l.pool-index l.pools))
+      ≡ most_free l.provisioner (option_copied l.labels) (map stored_data l.stored) 0 l.pools;
 }

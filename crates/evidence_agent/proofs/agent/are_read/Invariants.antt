@@ -8,7 +8,8 @@ use Rattle.evidence_agent.proofs.agent.are_read.Given as goal
 abbrev pub invariant-loop-place : goal.invariant-loop-place
 invariant-loop-place l = record {
   within : l.place ≤ length l.names;
-  left : (recent : List Entry) → Above l.behind (reverse l.entries) recent → AreReadReady recent l.namespace (drop l.place l.names) (drop l.place l.uids) → AreReadReady recent l.namespace l.names l.uids;
+  left : (recent : List Entry) → Above l.behind (reverse l.entries) recent
+      → AreReadReady recent l.namespace (drop l.place l.names) (drop l.place l.uids) → AreReadReady recent l.namespace l.names l.uids;
 }
 
 abbrev pub decreases-loop-place : goal.decreases-loop-place

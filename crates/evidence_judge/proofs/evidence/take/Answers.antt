@@ -5,7 +5,8 @@ use Rattle.call_types.specs.declared.entry.Entry.{Entry}
 use Rattle.evidence_judge.proofs.evidence.take.Goals as goal
 
 pub returns-clause-ok : goal.returns-clause-ok
-returns-clause-ok c = on_ok_weaker c.push.result (λ put. ap reverse put ∙ reverse-append c.args.entries.now (c.in_ok-kept.kept ∷ []) ∙ ap (λ (x : Entry). x ∷ reverse c.args.entries.now) c.in_ok-kept.ensures) c.push.ensures.ok
+returns-clause-ok c = on_ok_weaker c.push.result (λ put. ap reverse put ∙ reverse-append c.args.entries.now (c.in_ok-kept.kept ∷ []) ∙ ap
+    (λ (x : Entry). x ∷ reverse c.args.entries.now) c.in_ok-kept.ensures) c.push.ensures.ok
 
 pub returns-clause-index : goal.returns-clause-index
 returns-clause-index c =

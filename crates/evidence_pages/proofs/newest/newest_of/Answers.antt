@@ -1,5 +1,5 @@
 use Rattle.std.proofs.Common.{sym, ap, subst, ◌∙◌}
-use Rattle.kube_types.specs.Keys.{AreRows, row_at}
+use Rattle.kube_objects.specs.Keys.{AreRows, row_at}
 use Rattle.informer_cache.specs.Cache.{objects_of}
 use Rattle.evidence_pages.specs.Keyed.{key_by}
 use Rattle.evidence_pages.proofs.newest.newest_of.Goals as goal

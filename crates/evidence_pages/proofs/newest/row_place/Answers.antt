@@ -1,6 +1,6 @@
 use Rattle.plain_data.proofs.RowFacts.{searched}
-use Rattle.kube_types.specs.Keys.{key_of}
-use Rattle.kube_types.proofs.KeyOrder.{key_cmp_total}
+use Rattle.kube_objects.specs.Keys.{key_of}
+use Rattle.kube_objects.proofs.KeyOrder.{key_cmp_total}
 use Rattle.evidence_pages.specs.Keyed.{key_by}
 use Rattle.evidence_pages.proofs.newest.row_place.Goals as goal
 

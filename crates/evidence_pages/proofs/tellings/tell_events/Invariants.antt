@@ -1,5 +1,5 @@
 use Rattle.std.proofs.Common.{◌≡◌, List}
-use Rattle.kube_types.specs.declared.objects.Object.{Object}
+use Rattle.kube_objects.specs.declared.objects.Object.{Object}
 use Rattle.call_types.specs.declared.entry.Entry.{Entry}
 use Rattle.binder_model.specs.Told.{SomeOf, ToldObject, objects_of_events}
 use Rattle.evidence_pages.specs.Parts.{ArePages}

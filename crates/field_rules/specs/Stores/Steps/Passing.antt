@@ -2,11 +2,11 @@
 -- A choice of this project, proved to be the test of `Imports` in the definitions.
 use Rattle.std.specs.Prelude.{ℕ, Bool, true, false, not, ◌&&◌, ◌||◌, List, [], ◌∷◌, ◌++◌, Option, Some, None, is_none, nat_eq, slice_get}
 use Rattle.std.specs.List.{list_any, position}
-use Rattle.kube_types.specs.declared.uid.Uid.{Uid}
-use Rattle.kube_types.specs.declared.key.Key.{Key}
-use Rattle.kube_types.specs.declared.objects.Object.{Object}
-use Rattle.kube_types.specs.Keys.{meta_of, key_of, same_key}
-use Rattle.kube_types.specs.Bindings.{ref_uid}
+use Rattle.kube_parts.specs.declared.uid.Uid.{Uid}
+use Rattle.kube_objects.specs.declared.key.Key.{Key}
+use Rattle.kube_objects.specs.declared.objects.Object.{Object}
+use Rattle.kube_objects.specs.Keys.{meta_of, key_of, same_key}
+use Rattle.kube_objects.specs.Bindings.{ref_uid}
 use Rattle.binder_model.specs.Imports.{import_fault, is_ended_for, reference_of, refers_to_another}
 
 -- the number of a UID, or 0 where there is none

@@ -1,5 +1,5 @@
 use Rattle.std.proofs.Common.{◌≡◌, take, map}
-use Rattle.kube_types.specs.Keys.{key_of}
+use Rattle.kube_objects.specs.Keys.{key_of}
 use Rattle.call_types.specs.declared.reply.Event.{Event}
 use Rattle.informer_cache.proofs.learn.keys_of_events.Given as goal
 

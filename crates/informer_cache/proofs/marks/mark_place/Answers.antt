@@ -1,4 +1,4 @@
-use Rattle.kube_types.proofs.KeyOrder.{key_cmp_total}
+use Rattle.kube_objects.proofs.KeyOrder.{key_cmp_total}
 use Rattle.informer_cache.specs.Marks.{mark_key}
 use Rattle.informer_cache.proofs.Ending.{gap_end}
 use Rattle.informer_cache.proofs.marks.mark_place.Goals as goal

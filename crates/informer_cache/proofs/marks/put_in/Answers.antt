@@ -1,5 +1,5 @@
 use Rattle.std.proofs.Common.{sym, refl, subst, ◌∙◌}
-use Rattle.kube_types.proofs.KeyOrder.{key_cmp_total}
+use Rattle.kube_objects.proofs.KeyOrder.{key_cmp_total}
 use Rattle.informer_cache.specs.Marks.{mark_key, AreMarks}
 use Rattle.plain_data.proofs.RowFacts.{put_at, put_gap, rising_put}
 use Rattle.informer_cache.proofs.marks.put_in.Goals as goal

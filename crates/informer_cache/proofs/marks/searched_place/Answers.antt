@@ -1,5 +1,5 @@
 use Rattle.plain_data.proofs.RowFacts.{searched}
-use Rattle.kube_types.proofs.KeyOrder.{key_cmp_total}
+use Rattle.kube_objects.proofs.KeyOrder.{key_cmp_total}
 use Rattle.informer_cache.specs.Marks.{mark_key}
 use Rattle.informer_cache.proofs.marks.searched_place.Goals as goal
 

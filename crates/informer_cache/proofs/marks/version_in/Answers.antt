@@ -1,7 +1,7 @@
 use Rattle.std.proofs.Common.{sym, ap}
 use Rattle.std.specs.Prelude.{option_map}
 use Rattle.plain_data.proofs.RowFacts.{find_at, find_gap}
-use Rattle.kube_types.proofs.KeyOrder.{key_cmp_total}
+use Rattle.kube_objects.proofs.KeyOrder.{key_cmp_total}
 use Rattle.informer_cache.specs.Marks.{mark_key}
 use Rattle.informer_cache.proofs.marks.version_in.Goals as goal
 

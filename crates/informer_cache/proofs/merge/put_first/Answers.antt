@@ -1,8 +1,8 @@
 use Rattle.std.proofs.Common.{sym, subst}
 use Rattle.std.proofs.lemmas.Result.{on_ok_weaker}
 use Rattle.plain_data.proofs.RowFacts.{rising_put}
-use Rattle.kube_types.specs.Keys.{AreRows, key_of}
-use Rattle.kube_types.proofs.KeyOrder.{key_cmp_total}
+use Rattle.kube_objects.specs.Keys.{AreRows, key_of}
+use Rattle.kube_objects.proofs.KeyOrder.{key_cmp_total}
 use Rattle.informer_cache.proofs.Found.{first_new, first_there}
 use Rattle.informer_cache.proofs.merge.put_first.Goals as goal
 
@@ -15,4 +15,5 @@ returns-clause-rows c =
 
 pub returns-clause-found : goal.returns-clause-found
 returns-clause-found c =
-    on_ok_weaker c.put_object.result (λ put. first_new c.args.sorted.now.items c.put_object.new.objects.items c.args.object.now c.in_ok-copy-in-None.field-0 c.in_ok-key.key c.in_ok-key.ensures c.in_ok-copy-in-None.ensures (rw c.deref.ensures.value at c.in-None.ensures) put) c.put_object.ensures.ok
+    on_ok_weaker c.put_object.result (λ put. first_new c.args.sorted.now.items c.put_object.new.objects.items c.args.object.now
+    c.in_ok-copy-in-None.field-0 c.in_ok-key.key c.in_ok-key.ensures c.in_ok-copy-in-None.ensures (rw c.deref.ensures.value at c.in-None.ensures) put) c.put_object.ensures.ok

@@ -1,5 +1,5 @@
 use Rattle.std.proofs.Common.{◌∙◌, sym, ap, arith, Some, None, if◌then◌else◌}
-use Rattle.kube_types.specs.Keys.{key_of, same_key}
+use Rattle.kube_objects.specs.Keys.{key_of, same_key}
 use Rattle.binder_model.specs.Told.{first_some}
 use Rattle.informer_cache.proofs.Found.{find-take}
 use Rattle.informer_cache.proofs.merge.sorted.Goals as goal

@@ -1,6 +1,6 @@
 use Rattle.std.proofs.Common.{Some, ap, sym, ◌∙◌}
-use Rattle.kube_types.specs.Keys.{key_of}
-use Rattle.kube_types.proofs.KeyOrder.{key_cmp_total}
+use Rattle.kube_objects.specs.Keys.{key_of}
+use Rattle.kube_objects.proofs.KeyOrder.{key_cmp_total}
 use Rattle.plain_data.proofs.RowFacts.{find_at, find_gap, put_at, put_gap}
 use Rattle.informer_cache.proofs.rows.exchanged.Goals as goal
 

@@ -1,5 +1,5 @@
-use Rattle.kube_types.specs.Keys.{key_of}
-use Rattle.kube_types.proofs.KeyOrder.{key_cmp_total}
+use Rattle.kube_objects.specs.Keys.{key_of}
+use Rattle.kube_objects.proofs.KeyOrder.{key_cmp_total}
 use Rattle.informer_cache.proofs.Ending.{gap_end}
 use Rattle.informer_cache.proofs.rows.object_place.Goals as goal
 

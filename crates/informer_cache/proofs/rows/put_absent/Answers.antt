@@ -1,5 +1,5 @@
 use Rattle.std.proofs.Common.{◌∙◌, subst, sym}
-use Rattle.kept_index.specs.Keeping.{Keeps}
+use Rattle.volume_index.specs.Keeping.{Keeps}
 use Rattle.informer_cache.proofs.Kept.{keeps_absent, tells_absent}
 use Rattle.informer_cache.proofs.rows.put_absent.Goals as goal
 

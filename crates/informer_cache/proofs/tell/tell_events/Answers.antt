@@ -1,5 +1,5 @@
 use Rattle.std.proofs.Common.{◌≡◌, ◌<◌, ◌-◌, ℕ, suc, List, ◌∷◌, length, get_or, drop, drop-cons, arith, ◌∙◌, ap, sym}
-use Rattle.kube_types.specs.declared.key.Key.{Key}
+use Rattle.kube_objects.specs.declared.key.Key.{Key}
 use Rattle.call_types.specs.declared.reply.Event.{Event}
 use Rattle.binder_model.specs.Told.{later, told_by_events}
 use Rattle.informer_cache.specs.Knowledge.{event_tells, telling_in}
@@ -7,9 +7,11 @@ use Rattle.informer_cache.proofs.Seen.{later_assoc}
 use Rattle.informer_cache.proofs.tell.tell_events.Goals as goal
 
 -- the events from a place on are the one there, and those after it
-events_from : (events : List Event) (at i : ℕ) (e : Event) (k : Key) → i < length events → suc i ≡ at → e ≡ get_or events i e → told_by_events (drop i events) k ≡ later (event_tells e k) (told_by_events (drop at events) k)
+events_from : (events : List Event) (at i : ℕ) (e : Event) (k : Key) → i < length events → suc i ≡ at → e ≡ get_or events i e
+    → told_by_events (drop i events) k ≡ later (event_tells e k) (told_by_events (drop at events) k)
 events_from events at i e k lt next is =
-    ap (λ es. told_by_events es k) (drop-cons events i e lt ∙ ap (λ j. get_or events i e ∷ drop j events) next) ∙ ap (λ (x : Event). later (event_tells x k) (told_by_events (drop at events) k)) (sym is)
+    ap (λ es. told_by_events es k) (drop-cons events i e lt ∙ ap (λ j. get_or events i e ∷ drop j events) next)
+    ∙ ap (λ (x : Event). later (event_tells x k) (told_by_events (drop at events) k)) (sym is)
 
 pub loop-at-preserved : goal.loop-at-preserved
 loop-at-preserved c =

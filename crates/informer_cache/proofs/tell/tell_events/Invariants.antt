@@ -1,5 +1,5 @@
 use Rattle.std.proofs.Common.{◌≡◌, ◌≤◌, length, drop}
-use Rattle.kube_types.specs.declared.key.Key.{Key}
+use Rattle.kube_objects.specs.declared.key.Key.{Key}
 use Rattle.binder_model.specs.Told.{later, told_by_events}
 use Rattle.informer_cache.specs.Knowledge.{telling_in}
 use Rattle.informer_cache.proofs.tell.tell_events.Given as goal

@@ -1,6 +1,6 @@
 use Rattle.std.proofs.Common.{◌∙◌, ◌+◌, length, ap, refl, sym, subst, arith}
 use Rattle.std.proofs.lemmas.Option.{slice_get_read}
-use Rattle.kube_types.specs.Keys.{IsKindStart, same_kind}
+use Rattle.kube_objects.specs.Keys.{IsKindStart, same_kind}
 use Rattle.kube_types.proofs.KindPlaces.{none_past, none_there, one_there}
 use Rattle.kube_types.proofs.table.at_of_kind.Goals as goal
 

@@ -1,6 +1,6 @@
 use Rattle.std.proofs.Common.{◌≡◌, ◌+◌, ◌-◌, arith, sym}
-use Rattle.kube_types.specs.Keys.{kind_index, kind_of}
-use Rattle.kube_types.proofs.KindRows.{ordered, between}
+use Rattle.kube_objects.specs.Keys.{kind_index, kind_of}
+use Rattle.kube_objects.proofs.KindRows.{ordered, between}
 use Rattle.kube_types.proofs.table.between_starts.Goals as goal
 
 pub overflow_sub-count : goal.overflow_sub-count

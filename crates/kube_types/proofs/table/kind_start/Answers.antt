@@ -1,9 +1,9 @@
 use Rattle.std.proofs.Common.{◌≡◌, ◌≤◌}
 use Rattle.std.specs.declared.cmp.Ordering.TheVariants.{Less}
-use Rattle.kube_types.specs.declared.objects.Object.{Object}
-use Rattle.kube_types.specs.Keys.{key_cmp, key_of, kind_index, kind_of}
-use Rattle.kube_types.proofs.KeyOrder.{kinds_up}
-use Rattle.kube_types.proofs.KindRows.{never_equal, less_below, greater_above, levels_rise, rank_rises, rank_from}
+use Rattle.kube_objects.specs.declared.objects.Object.{Object}
+use Rattle.kube_objects.specs.Keys.{key_cmp, key_of, kind_index, kind_of}
+use Rattle.kube_objects.proofs.KeyOrder.{kinds_up}
+use Rattle.kube_objects.proofs.KindRows.{never_equal, less_below, greater_above, levels_rise, rank_rises, rank_from}
 use Rattle.std.specs.Ordering.{ordering_index}
 use Rattle.kube_types.proofs.table.kind_start.Goals as goal
 

@@ -1,11 +1,11 @@
 use Rattle.std.proofs.Common.{◌≡◌, ℕ, List, Result, Ok, Err, IfOk, IfErr, OnOk, OnErr, sym, subst, ◌∙◌}
 use Rattle.plain_data.proofs.RowFacts.{put_at, put_gap, rising_put}
 use Rattle.plain_data.specs.declared.copies.OutOfMemory.{OutOfMemory}
-use Rattle.kube_types.specs.declared.objects.Object.{Object}
-use Rattle.kube_types.specs.declared.key.Key.{Key}
-use Rattle.kube_types.specs.Keys.{key_of, AreRows, IsRowAt, IsRowGap, put_row}
+use Rattle.kube_objects.specs.declared.objects.Object.{Object}
+use Rattle.kube_objects.specs.declared.key.Key.{Key}
+use Rattle.kube_objects.specs.Keys.{key_of, AreRows, IsRowAt, IsRowGap, put_row}
 use Rattle.plain_data.specs.Rows.{placed_row}
-use Rattle.kube_types.proofs.KeyOrder.{key_cmp_total}
+use Rattle.kube_objects.proofs.KeyOrder.{key_cmp_total}
 use Rattle.kube_types.proofs.table.put_in.Goals as goal
 
 -- what is put at its place is put in order

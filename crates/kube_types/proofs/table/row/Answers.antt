@@ -1,7 +1,7 @@
 use Rattle.std.proofs.Common.{sym, ap, Some, ◌∙◌}
 use Rattle.plain_data.proofs.RowFacts.{find_at, find_gap}
-use Rattle.kube_types.specs.Keys.{key_of}
-use Rattle.kube_types.proofs.KeyOrder.{key_cmp_total}
+use Rattle.kube_objects.specs.Keys.{key_of}
+use Rattle.kube_objects.proofs.KeyOrder.{key_cmp_total}
 use Rattle.kube_types.proofs.table.row.Goals as goal
 
 pub returns-in-Ok : goal.returns-in-Ok

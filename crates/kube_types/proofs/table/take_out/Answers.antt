@@ -1,7 +1,7 @@
 use Rattle.std.proofs.Common.{sym, subst, ap, Some, ◌∙◌}
 use Rattle.plain_data.proofs.RowFacts.{find_at, find_gap, without_at, without_gap, rising_without}
-use Rattle.kube_types.specs.Keys.{key_of, AreRows}
-use Rattle.kube_types.proofs.KeyOrder.{key_cmp_total}
+use Rattle.kube_objects.specs.Keys.{key_of, AreRows}
+use Rattle.kube_objects.proofs.KeyOrder.{key_cmp_total}
 use Rattle.kube_types.proofs.table.take_out.Goals as goal
 
 pub returns-in-Ok-clause-taken : goal.returns-in-Ok-clause-taken

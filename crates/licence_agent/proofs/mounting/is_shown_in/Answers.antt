@@ -28,7 +28,8 @@ loop-place-preserved c =
     let older = reverse (take i a.listed.now) in
     let next : reverse (take (i + 1) a.listed.now) ≡ e ∷ older = newest_first a.listed.now i e c.loop-place-test.true ∙ ap (λ x. x ∷ older) (sym c.index-listed-place.is) in
     let goes : reverse (drop i a.listed.now) ≡ recent ++ e ∷ [] = newer a.listed.now i (i + 1) e c.loop-place-test.true refl ∙ ap (λ x. recent ++ x ∷ []) (sym c.index-listed-place.is) in
-    let none : IsShownIn mine a.node.now a.uid a.claims.now (recent ++ e ∷ []) older → ⊥ = λ h. c.loop-place.invariant.none (subst (λ r. IsShownIn mine a.node.now a.uid a.claims.now r older) (sym goes) h) in
+    let none : IsShownIn mine a.node.now a.uid a.claims.now (recent ++ e ∷ []) older → ⊥ =
+    λ h. c.loop-place.invariant.none (subst (λ r. IsShownIn mine a.node.now a.uid a.claims.now r older) (sym goes) h) in
     let not : TellsObject (IsPodWith (IsFirstReady mine recent older a.node.now a.uid a.claims.now)) e → ⊥ =
     λ told. absurd (true≢false (sym (c.if-is_shown_first.ensures.1 told))) in
     record {

@@ -1,5 +1,5 @@
 use Rattle.std.proofs.Common.{reverse}
-use Rattle.kube_types.specs.Keys.{key_of}
+use Rattle.kube_objects.specs.Keys.{key_of}
 use Rattle.binder_model.specs.Told.{ToldObject}
 use Rattle.licence_rows.specs.Asking.{IsNewestWith}
 use Rattle.licence_rows.proofs.Asks.{newest_some}

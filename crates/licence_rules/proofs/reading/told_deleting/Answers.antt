@@ -9,4 +9,5 @@ pub returns : goal.returns
 returns g c =
     let mine = g.R.Record.told c.args.seat.now in
     let page = reverse c.about-page.result.now in
-    paged _ (λ m. ToldClaim (IsDeletingIn c.args.namespace.now) m) page mine _ (told_grows (IsClaimWith (IsDeletingIn c.args.namespace.now)) page mine c.about-page.ensures.part) c.about-page.ensures.all (exact _ _ _ c.told_claim.ensures)
+    paged _ (λ m. ToldClaim (IsDeletingIn c.args.namespace.now) m) page mine _
+    (told_grows (IsClaimWith (IsDeletingIn c.args.namespace.now)) page mine c.about-page.ensures.part) c.about-page.ensures.all (exact _ _ _ c.told_claim.ensures)

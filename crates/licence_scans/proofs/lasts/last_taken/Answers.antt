@@ -12,6 +12,8 @@ returns-in-None c = epoch_none c.args.node.now (reverse c.args.mine.now) c.in-No
 pub returns-in-Some-epoch_in : goal.returns-in-Some-epoch_in
 returns-in-Some-epoch_in c =
     let last = c.in-Some.ensures in (
-      epoch_last c.args.node.now c.args.mine.now c.in-Some.place last ∙ ap (λ (e : Entry). epoch_in c.args.node.now e) (get_or_read c.args.mine.now c.in-Some.place last.entry last.within last.there c.index-mine-place.result ∙ sym c.index-mine-place.is) ∙ sym c.epoch_in.ensures ∙ c.in-Some-epoch_in.is,
+      epoch_last c.args.node.now c.args.mine.now c.in-Some.place last
+          ∙ ap (λ (e : Entry). epoch_in c.args.node.now e)
+          (get_or_read c.args.mine.now c.in-Some.place last.entry last.within last.there c.index-mine-place.result ∙ sym c.index-mine-place.is) ∙ sym c.epoch_in.ensures ∙ c.in-Some-epoch_in.is,
       epoch_after c.args.node.now c.args.mine.now c.in-Some.place last ∙ ap reverse (sym (tail_is c.args.mine.now (c.in-Some.place + 1))),
     )

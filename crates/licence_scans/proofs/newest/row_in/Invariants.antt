@@ -1,5 +1,5 @@
 use Rattle.std.proofs.Common.{◌≡◌, drop}
-use Rattle.kube_types.specs.Keys.{row_at}
+use Rattle.kube_objects.specs.Keys.{row_at}
 use Rattle.licence_scans.specs.Keyed.{key_at}
 use Rattle.licence_scans.proofs.newest.row_in.Given as goal
 

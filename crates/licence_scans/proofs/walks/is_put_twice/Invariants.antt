@@ -6,7 +6,8 @@ use Rattle.licence_scans.proofs.walks.is_put_twice.Given as goal
 abbrev pub invariant-loop-place : goal.invariant-loop-place
 invariant-loop-place l = record {
   within : l.place ≤ length l.old;
-  left : (drop l.place l.new ≡ put_pair l.first l.first_value (put_pair l.second l.second_value (drop l.place l.old))) ↔ (l.new ≡ put_pair l.first l.first_value (put_pair l.second l.second_value l.old));
+  left : (drop l.place l.new ≡ put_pair l.first l.first_value (put_pair l.second l.second_value (drop l.place l.old))) ↔
+      (l.new ≡ put_pair l.first l.first_value (put_pair l.second l.second_value l.old));
 }
 
 abbrev pub decreases-loop-place : goal.decreases-loop-place

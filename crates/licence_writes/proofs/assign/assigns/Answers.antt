@@ -12,4 +12,6 @@ pub returns-in-Some : goal.returns-in-Some
 returns-in-Some g c =
     let mine = g.R.Record.told c.args.seat.now in
     let named = subst (λ n. Judges (g.R.Record.whole c.args.seat.now) c.is_default.result (IsDefaultNamed mine n)) c.as_str.ensures c.is_default.ensures in
-    lift _ _ _ _ (λ b is. assign_row mine c.args.old.now c.args.new.now c.in-Some.name b (sym c.is_completed.ensures ∙ c.if-is_completed.false) (sym c.is_deleting.ensures ∙ c.if-is_deleting.false) (c.is_unnamed.ensures.0 c.if-not-is_unnamed.false) (c.is_classless.ensures.0 c.if-not-is_classless.false) (c.is_claim_class.ensures.0 c.if-not-is_claim_class.false) c.in-Some.is is) named
+    lift _ _ _ _ (λ b is. assign_row mine c.args.old.now c.args.new.now c.in-Some.name b (sym c.is_completed.ensures ∙ c.if-is_completed.false)
+    (sym c.is_deleting.ensures ∙ c.if-is_deleting.false) (c.is_unnamed.ensures.0 c.if-not-is_unnamed.false)
+    (c.is_classless.ensures.0 c.if-not-is_classless.false) (c.is_claim_class.ensures.0 c.if-not-is_claim_class.false) c.in-Some.is is) named

@@ -8,4 +8,5 @@ pub returns : goal.returns
 returns g c =
     let mine = g.R.Record.told c.args.seat.now in
     let small = reverse c.carried-mine.result.now in
-    volume_key_paged _ c.args.given _ small mine c.about-page.ensures.part c.about-page.ensures.all c.carried-mine.ensures.all (λ m o. MayRelease m o) (release_grows small mine c.carried-mine.ensures.part) _ c.args.key.now c.volume_status.ensures
+    volume_key_paged _ c.args.given _ small mine c.about-page.ensures.part c.about-page.ensures.all c.carried-mine.ensures.all
+    (λ m o. MayRelease m o) (release_grows small mine c.carried-mine.ensures.part) _ c.args.key.now c.volume_status.ensures

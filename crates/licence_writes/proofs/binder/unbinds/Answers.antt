@@ -8,4 +8,5 @@ pub returns : goal.returns
 returns g c =
     let mine = g.R.Record.told c.args.seat.now in
     let small = reverse c.carried-mine.result.now in
-    volume_paged _ c.args.given _ small mine c.about-page.ensures.part c.about-page.ensures.all c.carried-mine.ensures.all (λ m o. MayUnbind m o c.args.new.now) (unbind_grows small mine c.carried-mine.ensures.part c.args.new.now) _ c.args.new.now.meta.namespace c.args.new.now.meta.name c.told_volume_at.ensures
+    volume_paged _ c.args.given _ small mine c.about-page.ensures.part c.about-page.ensures.all c.carried-mine.ensures.all
+    (λ m o. MayUnbind m o c.args.new.now) (unbind_grows small mine c.carried-mine.ensures.part c.args.new.now) _ c.args.new.now.meta.namespace c.args.new.now.meta.name c.told_volume_at.ensures

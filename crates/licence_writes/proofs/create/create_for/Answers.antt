@@ -1,8 +1,8 @@
 use Rattle.std.proofs.Common.{subst}
-use Rattle.kube_types.specs.declared.objects.Claim.{Claim as ClaimData}
-use Rattle.kube_types.specs.declared.objects.Class.{Class as ClassData}
-use Rattle.kube_types.specs.declared.objects.Object.TheVariants.{Class, Claim}
-use Rattle.kube_types.specs.Bindings.{class_of_claim}
+use Rattle.kube_objects.specs.declared.objects.Claim.{Claim as ClaimData}
+use Rattle.kube_objects.specs.declared.objects.Class.{Class as ClassData}
+use Rattle.kube_objects.specs.declared.objects.Object.TheVariants.{Class, Claim}
+use Rattle.kube_objects.specs.Bindings.{class_of_claim}
 use Rattle.binder_model.specs.ObjectKeys.{claim_key, class_key}
 use Rattle.binder_model.specs.Told.{IsNewest}
 use Rattle.licence_writes.proofs.OpsRows.Creating.{create_absent, create_classless, create_row}
@@ -40,4 +40,5 @@ returns-in-Some-newest_class g c =
     (subst (λ n. IsNewest mine (claim_key n c.as_str-name.result.now) (Claim c.in-Some.claim.now)) c.as_str-namespace.ensures c.in-Some.ensures.some) in
     let class_newest : IsNewest mine (class_key (class_of_claim c.in-Some.claim.now)) (Class c.in-Some-newest_class.class.now) =
     subst (λ n. IsNewest mine (class_key n) (Class c.in-Some-newest_class.class.now)) c.class_of_claim.ensures c.in-Some-newest_class.ensures.some in
-    lift _ _ _ _ (λ b is. create_row mine c.args.new.now r c.args.uid c.in-Some.claim.now c.in-Some-newest_class.class.now b c.requires.refers c.requires.known newest class_newest is) c.creates.ensures
+    lift _ _ _ _ (λ b is. create_row mine c.args.new.now r c.args.uid c.in-Some.claim.now c.in-Some-newest_class.class.now b c.requires.refers
+    c.requires.known newest class_newest is) c.creates.ensures

@@ -6,4 +6,6 @@ use Rattle.licence_writes.proofs.guards.guards_claim.Goals as goal
 pub returns : goal.returns
 returns g c =
     let mine = g.R.Record.told c.args.seat.now in
-    claim_paged _ c.args.given (reverse c.about-page.result.now) (reverse c.about-page.result.now) mine c.about-page.ensures.part c.about-page.ensures.all c.about-page.ensures.all (λ m o. GuardsClaim o c.args.new.now) (λ o row. row) _ c.args.new.now.meta.namespace c.args.new.now.meta.name c.told_claim_at.ensures
+    claim_paged _ c.args.given (reverse c.about-page.result.now)
+    (reverse c.about-page.result.now) mine c.about-page.ensures.part c.about-page.ensures.all c.about-page.ensures.all
+    (λ m o. GuardsClaim o c.args.new.now) (λ o row. row) _ c.args.new.now.meta.namespace c.args.new.now.meta.name c.told_claim_at.ensures

@@ -1,5 +1,5 @@
 use Rattle.std.proofs.Common.{subst}
-use Rattle.kube_types.specs.declared.objects.Object.TheVariants.{Class}
+use Rattle.kube_objects.specs.declared.objects.Object.TheVariants.{Class}
 use Rattle.binder_model.specs.ObjectKeys.{class_key}
 use Rattle.binder_model.specs.Told.{IsNewest}
 use Rattle.licence_writes.proofs.OpsRows.Providing.{provided_row}

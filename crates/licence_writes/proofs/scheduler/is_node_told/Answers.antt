@@ -1,5 +1,5 @@
 use Rattle.std.proofs.Common.{subst}
-use Rattle.kube_types.specs.declared.objects.Object.TheVariants.{Node}
+use Rattle.kube_objects.specs.declared.objects.Object.TheVariants.{Node}
 use Rattle.binder_model.specs.ObjectKeys.{node_key}
 use Rattle.binder_model.specs.Told.{IsNewest}
 use Rattle.licence_record.proofs.Judging.{exact}

@@ -6,14 +6,16 @@ use Rattle.piece_print.proofs.sinks.put_pieces.Goals as goal
 pub returns-in_err-held-clause-front : goal.returns-in_err-held-clause-front
 returns-in_err-held-clause-front g c =
     let lt : c.loop-piece.piece-index < length c.args.pieces.now = omega (arith, c.loop-piece-test.true) in
-    let next = joined_next c.args.pieces.now c.loop-piece.piece-index c.piece-item.result c.args.own.now c.loop-piece.at c.as_slice.result.now lt c.piece-item.is (c.as_slice.ensures ∙ c.deref.ensures) in
+    let next = joined_next c.args.pieces.now c.loop-piece.piece-index c.piece-item.result c.args.own.now c.loop-piece.at c.as_slice.result.now lt
+    c.piece-item.is (c.as_slice.ensures ∙ c.deref.ensures) in
     on_any _ (put_cut _ _ _ _ _ _ _ _ c.loop-piece.invariant.put next c.in_err-held.ensures.front)
 
 pub loop-piece-preserved : goal.loop-piece-preserved
 loop-piece-preserved g c =
     let p = c.loop-piece.invariant in
     let lt : c.loop-piece.piece-index < length c.args.pieces.now = omega (arith, c.loop-piece-test.true) in
-    let next = joined_next c.args.pieces.now c.loop-piece.piece-index c.piece-item.result c.args.own.now c.loop-piece.at c.as_slice.result.now lt c.piece-item.is (c.as_slice.ensures ∙ c.deref.ensures) in
+    let next = joined_next c.args.pieces.now c.loop-piece.piece-index c.piece-item.result c.args.own.now c.loop-piece.at c.as_slice.result.now lt
+    c.piece-item.is (c.as_slice.ensures ∙ c.deref.ensures) in
     record {
       within = omega (arith, p.within, owned_next c.args.pieces.now c.loop-piece.piece-index c.piece-item.result lt c.piece-item.is);
       held = c.in_ok-held.ensures.bound;

@@ -6,4 +6,5 @@ use Rattle.pod_scheduler.proofs.decide.are_known.Given as goal
 
 -- what may fail is still ahead
 abbrev pub invariant-loop-name : goal.invariant-loop-name
-invariant-loop-name g l = list_all (λ name. is_known_in (claim_named (g.L.Lookup.rows l.lookup) l.pod.meta.namespace name)) (drop l.name-index l.pod.claims) ≡ are_known (g.L.Lookup.rows l.lookup) l.pod
+invariant-loop-name g l = list_all (λ name. is_known_in (claim_named (g.L.Lookup.rows l.lookup) l.pod.meta.namespace name)) (drop l.name-index
+    l.pod.claims) ≡ are_known (g.L.Lookup.rows l.lookup) l.pod

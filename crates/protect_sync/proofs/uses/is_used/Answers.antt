@@ -1,7 +1,7 @@
 use Rattle.std.proofs.Common.{◌∙◌, Option, sym, ap}
-use Rattle.kube_types.specs.declared.parts.Kind.TheVariants as kinds
-use Rattle.kube_types.specs.declared.objects.Object.{Object}
-use Rattle.kube_types.specs.Keys.{rows_of}
+use Rattle.kube_parts.specs.declared.parts.Kind.TheVariants as kinds
+use Rattle.kube_objects.specs.declared.objects.Object.{Object}
+use Rattle.kube_objects.specs.Keys.{rows_of}
 use Rattle.protect_sync.specs.Steps.Pods.{is_used_by}
 use Rattle.protect_sync.proofs.Scanning.{found_at, of_pods, passed_at}
 use Rattle.protect_sync.proofs.uses.is_used.Goals as goal

@@ -1,8 +1,8 @@
 use Rattle.std.proofs.Common.{◌≡◌, drop}
 use Rattle.std.specs.List.{list_any}
-use Rattle.kube_types.specs.declared.parts.Kind.TheVariants as kinds
-use Rattle.kube_types.specs.Keys.{rows_of}
-use Rattle.kube_types.specs.Bindings.{uses}
+use Rattle.kube_parts.specs.declared.parts.Kind.TheVariants as kinds
+use Rattle.kube_objects.specs.Keys.{rows_of}
+use Rattle.kube_objects.specs.Bindings.{uses}
 use Rattle.protect_sync.proofs.uses.is_used.Given as goal
 
 -- what is to be found is still ahead

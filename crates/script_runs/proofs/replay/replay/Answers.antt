@@ -39,7 +39,8 @@ loop-place-preserved c =
 pub returns-clause-replay : goal.returns-clause-replay
 returns-clause-replay c =
     let all = ap length c.as_slice-place-end.ensures in
-    replays c.args.script.now c.args.budget c.loop-place.place c.loop-place.stage c.end.new.self c.into_world.result.past c.in_ok-ending.ending (omega (arith, all, c.loop-place-test.false)) c.loop-place.invariant.so_far c.in_ok-ending.ensures.ended
+    replays c.args.script.now c.args.budget c.loop-place.place c.loop-place.stage c.end.new.self c.into_world.result.past c.in_ok-ending.ending
+    (omega (arith, all, c.loop-place-test.false)) c.loop-place.invariant.so_far c.in_ok-ending.ensures.ended
     (ap (λ (h : History). h.past) c.into_world.ensures)
 
 pub returns-clause-setup : goal.returns-clause-setup
@@ -53,5 +54,6 @@ returns-clause-actors c = subst (λ (h : History). AreByActors h.past) (sym c.in
 pub returns-clause-diligent : goal.returns-clause-diligent
 returns-clause-diligent c =
     let all = ap length c.as_slice-place-end.ensures in
-    diligent_replay c.args.script.now c.args.budget c.loop-place.place c.loop-place.stage c.end.new.self c.into_world.result.past c.in_ok-ending.ending c.requires.readable (omega (arith, all, c.loop-place-test.false)) c.loop-place.invariant.so_far
+    diligent_replay c.args.script.now c.args.budget c.loop-place.place c.loop-place.stage c.end.new.self c.into_world.result.past
+    c.in_ok-ending.ending c.requires.readable (omega (arith, all, c.loop-place-test.false)) c.loop-place.invariant.so_far
     c.in_ok-ending.ensures.ended (ap (λ (h : History). h.past) c.into_world.ensures)

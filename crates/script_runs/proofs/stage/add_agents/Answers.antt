@@ -17,10 +17,12 @@ loop-node-preserved c =
     let index = c.loop-node.node-index in
     let node = c.node-item.result in
     let here = slice_get_read items (length items) index node refl c.loop-node-test.true c.node-item.is in
-    let one = subst (λ (n : List ℕ). HasAdded lines (agent n ∷ []) c.loop-node.seat c.in_ok-seat.seat c.loop-node.players.items c.add_player.new.players.items) c.in_ok-copy.ensures c.in_ok-seat.ensures.added in
+    let one = subst (λ (n : List ℕ). HasAdded lines
+    (agent n ∷ []) c.loop-node.seat c.in_ok-seat.seat c.loop-node.players.items c.add_player.new.players.items) c.in_ok-copy.ensures c.in_ok-seat.ensures.added in
     record {
       small = omega (arith, i.small, c.in_ok-seat.ensures.most);
-      added = λ end after rest. i.added end after (added_next lines agent items index node c.loop-node.seat c.in_ok-seat.seat end c.loop-node.players.items c.add_player.new.players.items after here one rest);
+      added = λ end after rest. i.added end after
+          (added_next lines agent items index node c.loop-node.seat c.in_ok-seat.seat end c.loop-node.players.items c.add_player.new.players.items after here one rest);
     }
 
 pub returns-clause-added : goal.returns-clause-added

@@ -21,7 +21,8 @@ loop-number-preserved c =
     record {
       small = omega (arith, i.small, c.in_ok-seat.ensures.most);
       added = λ end after rest. i.added end after
-          (added_next c.args.lines.now (worker c.args.kind) numbers index (get_or numbers index One) c.loop-number.seat c.in_ok-seat.seat end c.loop-number.players.items c.add_player.new.players.items after here c.in_ok-seat.ensures.added rest);
+          (added_next c.args.lines.now (worker c.args.kind) numbers index
+          (get_or numbers index One) c.loop-number.seat c.in_ok-seat.seat end c.loop-number.players.items c.add_player.new.players.items after here c.in_ok-seat.ensures.added rest);
     }
 
 pub returns-clause-added : goal.returns-clause-added

@@ -9,5 +9,7 @@ use Rattle.script_runs.proofs.stage.add_workers.Given as goal
 abbrev pub invariant-loop-number : goal.invariant-loop-number
 invariant-loop-number l = record {
   small : l.seat ≤ l.first + 4097 * l.number-index;
-  added : (end : ℕ) (after : List Player) → HasAdded l.lines (map (λ (n : WorkerNumber). Worker (record { kind = l.kind; number = n })) (drop l.number-index l.number-items)) l.seat end l.players.items after → HasAdded l.lines (map (λ (n : WorkerNumber). Worker (record { kind = l.kind; number = n })) l.number-items) l.first end l.initial.players.items after;
+  added : (end : ℕ) (after : List Player)
+      → HasAdded l.lines (map (λ (n : WorkerNumber). Worker (record { kind = l.kind; number = n })) (drop l.number-index l.number-items)) l.seat end
+      l.players.items after → HasAdded l.lines (map (λ (n : WorkerNumber). Worker (record { kind = l.kind; number = n })) l.number-items) l.first end l.initial.players.items after;
 }

@@ -9,6 +9,7 @@ returns-clause-added c =
     let nodes = c.args.script.now.node_names in
     let lines = c.as_slice-lines.result.now in
     subst (λ (ls : List Line). HasAdded ls (actors_for nodes) 5 c.in_ok-end.end [] c.add_agents.new.players.items) c.as_slice-lines.ensures
-    (actors_added lines nodes c.in_ok-second.second c.in_ok-third.third c.in_ok-fourth.fourth c.in_ok-fifth.fifth c.in_ok-sixth.sixth c.in_ok-end.end c.new-players.result.items c.add_workers.new.players.items
+    (actors_added lines nodes c.in_ok-second.second c.in_ok-third.third c.in_ok-fourth.fourth c.in_ok-fifth.fifth c.in_ok-sixth.sixth c.in_ok-end.end
+    c.new-players.result.items c.add_workers.new.players.items
     c.add_workers-2.new.players.items c.add_workers-3.new.players.items c.add_workers-4.new.players.items c.add_workers-5.new.players.items c.add_agents.new.players.items c.new-players.ensures.items
     c.in_ok-second.ensures.added c.in_ok-third.ensures.added c.in_ok-fourth.ensures.added c.in_ok-fifth.ensures.added c.in_ok-sixth.ensures.added c.in_ok-end.ensures.added)

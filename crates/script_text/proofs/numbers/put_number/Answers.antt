@@ -13,14 +13,17 @@ returns-in_ok-push-in-Ok-clause-ok c =
 pub returns-in_ok-push-in-Ok-clause-rising : goal.returns-in_ok-push-in-Ok-clause-rising
 returns-in_ok-push-in-Ok-clause-rising c =
     let at = rw (c.deref.ensures.value, c.as_str.ensures) at c.in-Ok.ensures.at in
-    subst AreNumbers (sym (put_found c.args.rows.now.items c.args.name.now c.args.number c.in-Ok.at c.index_mut.result.now _ at c.index_mut.ensures.value c.in_ok-push-in-Ok.ensures.ok)) (rising_put nat_list_cmp_total row_name _ _ c.requires)
+    subst AreNumbers (sym (put_found c.args.rows.now.items c.args.name.now c.args.number c.in-Ok.at c.index_mut.result.now _ at
+    c.index_mut.ensures.value c.in_ok-push-in-Ok.ensures.ok)) (rising_put nat_list_cmp_total row_name _ _ c.requires)
 
 pub returns-in_ok-insert-in-Err-clause-ok : goal.returns-in_ok-insert-in-Err-clause-ok
 returns-in_ok-insert-in-Err-clause-ok c =
     let gap = rw (c.deref.ensures.value, c.as_str.ensures) at c.in-Err.ensures.gap in
-    c.in_ok-insert-in-Err.ensures.items ∙ put_absent c.args.rows.now.items c.args.name.now c.args.number c.in-Err.at _ c.requires gap c.in_ok-name-in-Err.ensures (rw c.new-numbers.ensures at c.in_ok-push-in-Err.ensures.ok)
+    c.in_ok-insert-in-Err.ensures.items ∙ put_absent c.args.rows.now.items c.args.name.now c.args.number c.in-Err.at _ c.requires gap
+    c.in_ok-name-in-Err.ensures (rw c.new-numbers.ensures at c.in_ok-push-in-Err.ensures.ok)
 
 pub returns-in_ok-insert-in-Err-clause-rising : goal.returns-in_ok-insert-in-Err-clause-rising
 returns-in_ok-insert-in-Err-clause-rising c =
     let gap = rw (c.deref.ensures.value, c.as_str.ensures) at c.in-Err.ensures.gap in
-    subst AreNumbers (sym (c.in_ok-insert-in-Err.ensures.items ∙ put_absent c.args.rows.now.items c.args.name.now c.args.number c.in-Err.at _ c.requires gap c.in_ok-name-in-Err.ensures (rw c.new-numbers.ensures at c.in_ok-push-in-Err.ensures.ok))) (rising_put nat_list_cmp_total row_name _ _ c.requires)
+    subst AreNumbers (sym (c.in_ok-insert-in-Err.ensures.items ∙ put_absent c.args.rows.now.items c.args.name.now c.args.number c.in-Err.at _
+    c.requires gap c.in_ok-name-in-Err.ensures (rw c.new-numbers.ensures at c.in_ok-push-in-Err.ensures.ok))) (rising_put nat_list_cmp_total row_name _ _ c.requires)

@@ -17,5 +17,6 @@ loop-actor-preserved g c =
     record {
       small = omega (arith, i.small, c.in_ok-member.ensures.few);
       joined = subst (λ all. HaveJoined lines c.args.calls first_actor_seat (seat + member.seats) all c.args.crew.now.items c.push.new.self.items) (sym more)
-          (one_joins lines c.args.calls first_actor_seat seat (take index actors) c.actor-item.result member c.args.crew.now.items c.loop-actor.crew.items c.push.new.self.items i.joined c.in_ok-member.ensures.hired c.in_ok-push.ensures.items);
+          (one_joins lines c.args.calls first_actor_seat seat
+          (take index actors) c.actor-item.result member c.args.crew.now.items c.loop-actor.crew.items c.push.new.self.items i.joined c.in_ok-member.ensures.hired c.in_ok-push.ensures.items);
     }

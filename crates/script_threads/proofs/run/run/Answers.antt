@@ -13,20 +13,24 @@ new-requires-2 g c =
 pub drain-requires : goal.drain-requires
 drain-requires g c = record {
   stands = c.in_ok-drainers.ensures.stand c.in_ok-world-2.world.past
-      (none_yet c.args.script.now c.args.workers c.args.calls c.in_ok-world-2.first c.in_ok-world-2.world.past c.in_ok-drainers.drainers c.in_ok-world-2.ensures.work c.in_ok-world-2.ensures.seat c.in_ok-drainers.ensures.are);
+      (none_yet c.args.script.now c.args.workers c.args.calls c.in_ok-world-2.first c.in_ok-world-2.world.past c.in_ok-drainers.drainers
+      c.in_ok-world-2.ensures.work c.in_ok-world-2.ensures.seat c.in_ok-drainers.ensures.are);
 }
 
 pub returns-clause-run : goal.returns-clause-run
 returns-clause-run g c =
     let before = c.in_ok-world-2.world in
     let drainers = c.in_ok-drainers.drainers in
-    let none = none_yet c.args.script.now c.args.workers c.args.calls c.in_ok-world-2.first before.past drainers c.in_ok-world-2.ensures.work c.in_ok-world-2.ensures.seat c.in_ok-drainers.ensures.are in
-    is_run c.args.script.now c.args.workers c.args.calls c.in_ok-world-2.first c.args.option before c.drain.new.world drainers c.drain.new.drainers c.raised-budget.result c.in_ok-ending.ending (record {
+    let none = none_yet c.args.script.now c.args.workers c.args.calls c.in_ok-world-2.first before.past drainers c.in_ok-world-2.ensures.work
+    c.in_ok-world-2.ensures.seat c.in_ok-drainers.ensures.are in
+    is_run c.args.script.now c.args.workers c.args.calls c.in_ok-world-2.first c.args.option before c.drain.new.world drainers c.drain.new.drainers
+    c.raised-budget.result c.in_ok-ending.ending (record {
       setup = c.in_ok-world-2.ensures.setup;
       kept = c.drain.ensures.setup;
       new = c.in_ok-drainers.ensures.are;
       stand = c.in_ok-drainers.ensures.stand before.past none;
-      raises = subst (λ (h : History). c.raised-budget.result ≡ raised c.args.option h.setup h.past c.first_budget.result) c.world.ensures.value c.raised-budget.ensures.value ∙ ap (raised c.args.option before.setup before.past) c.first_budget.ensures;
+      raises = subst (λ (h : History). c.raised-budget.result ≡ raised c.args.option h.setup h.past c.first_budget.result) c.world.ensures.value
+          c.raised-budget.ensures.value ∙ ap (raised c.args.option before.setup before.past) c.first_budget.ensures;
       rounds = c.in_ok-ending.ensures.rounds;
       others = c.drain.ensures.others;
       few = c.in_ok-ending.ensures.few;

@@ -12,5 +12,6 @@ use Rattle.settle_check.proofs.first.first_due.Goals as goal
 pub returns : goal.returns
 returns c =
     let w = c.args.world.now in
-    IfOk-weaker c.scan.result (λ (found : Option FirstDue). IsFirstIn (IsDue w.setup (world_of w)) (world_of w).store.rows (first_pair found)) (λ found. IsFirstDue w.setup (world_of w) (first_key found))
+    IfOk-weaker c.scan.result (λ (found : Option FirstDue). IsFirstIn (IsDue w.setup (world_of w)) (world_of w).store.rows (first_pair found))
+    (λ found. IsFirstDue w.setup (world_of w) (first_key found))
     (λ found first. first_in_rows w.setup (world_of w) (rows_stand_in_order w.setup w.past) found first) c.scan.ensures

@@ -1,8 +1,8 @@
 use Rattle.std.proofs.Common.{◌∙◌, ap, subst, sym, Option}
 use Rattle.std.proofs.lemmas.Result.{IfOk-weaker}
-use Rattle.kube_types.specs.declared.names.Due.{Due}
-use Rattle.kube_types.specs.declared.objects.Object.{Object}
-use Rattle.kube_types.specs.declared.objects.Object.TheVariants.{Claim, Pod, Volume}
+use Rattle.kube_parts.specs.declared.names.Due.{Due}
+use Rattle.kube_objects.specs.declared.objects.Object.{Object}
+use Rattle.kube_objects.specs.declared.objects.Object.TheVariants.{Claim, Pod, Volume}
 use Rattle.binder_model.specs.BinderDue.{volume_due}
 use Rattle.binder_model.specs.Due.{IsDue, or_due, reclaim_due, volume_guard_due}
 use Rattle.binder_model.specs.Store.{State}

@@ -1,7 +1,7 @@
 use Rattle.std.proofs.Common.{◌≡◌, ◌∙◌, List, Some, None, drop, ap, refl, subst, sym, arith}
 use Rattle.std.proofs.lemmas.List.{drop_all}
-use Rattle.kube_types.specs.declared.objects.Object.{Object}
-use Rattle.kube_types.specs.Keys.{AreRows, key_of, row_at}
+use Rattle.kube_objects.specs.declared.objects.Object.{Object}
+use Rattle.kube_objects.specs.Keys.{AreRows, key_of, row_at}
 use Rattle.binder_model.specs.Due.{IsDue}
 use Rattle.binder_model.specs.Store.{State}
 use Rattle.model_laws.proofs.Histories.{rows_stand_in_order}
@@ -36,7 +36,8 @@ loop-object-preserved c = λ answer rest.
     let items = c.objects-objects.result.now in
     let o = c.object-item.result in
     let none = subst (IsDue w.setup (world_of w) o) c.in_default.is c.in_ok-action.ensures in
-    c.loop-object.invariant answer (goes_on (IsDue w.setup (world_of w)) items c.loop-object.object-index o c.loop-object-test.true (subst (λ (x : Object). IsDue w.setup (world_of w) x None) c.object-item.is none) answer rest)
+    c.loop-object.invariant answer (goes_on (IsDue w.setup (world_of w)) items c.loop-object.object-index o c.loop-object-test.true
+    (subst (λ (x : Object). IsDue w.setup (world_of w) x None) c.object-item.is none) answer rest)
 
 pub returns : goal.returns
 returns c =

@@ -1,6 +1,6 @@
 use Rattle.std.proofs.Common.{drop, Option}
-use Rattle.kube_types.specs.declared.names.Due.{Due}
-use Rattle.kube_types.specs.declared.objects.Object.{Object}
+use Rattle.kube_parts.specs.declared.names.Due.{Due}
+use Rattle.kube_objects.specs.declared.objects.Object.{Object}
 use Rattle.binder_model.specs.Due.{IsDue}
 use Rattle.settle_check.specs.WorldOf.{world_of}
 use Rattle.settle_check.specs.Steps.Scan.{IsFirstIn}

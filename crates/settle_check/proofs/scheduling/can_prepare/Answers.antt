@@ -1,6 +1,6 @@
 use Rattle.std.proofs.Common.{◌≡◌, ◌∙◌, true≢false, sym, ap, refl, arith, length}
-use Rattle.kube_types.specs.declared.parts.Kind.TheVariants as kinds
-use Rattle.kube_types.specs.Keys.{rows_of}
+use Rattle.kube_parts.specs.declared.parts.Kind.TheVariants as kinds
+use Rattle.kube_objects.specs.Keys.{rows_of}
 use Rattle.binder_model.specs.Store.{State}
 use Rattle.model_laws.proofs.Histories.{rows_stand_in_order}
 use Rattle.settle_check.specs.WorldOf.{world_of}

@@ -1,7 +1,7 @@
 use Rattle.std.proofs.Common.{Option, None, subst}
 use Rattle.std.proofs.lemmas.Result.{IfOk-weaker}
-use Rattle.kube_types.specs.declared.names.Due.{Due}
-use Rattle.kube_types.specs.declared.objects.Object.TheVariants.{Pod}
+use Rattle.kube_parts.specs.declared.names.Due.{Due}
+use Rattle.kube_objects.specs.declared.objects.Object.TheVariants.{Pod}
 use Rattle.binder_model.specs.Due.{IsDue}
 use Rattle.binder_model.specs.Store.{State}
 use Rattle.model_laws.proofs.Histories.{rows_stand_in_order}

@@ -36,7 +36,8 @@ loop-line-preserved g c =
         of = subst (λ p. IsOf c.args.shared.now p) (sym w.pass-is) inv.of;
         kept = ap (λ p. lasting p) w.pass-is ∙ inv.kept;
         few = omega (arith, w.made-is, inv.few);
-        done = λ end done. inv.done end (here end (no_call pass.number c.line-item.result w.in_default.not-Call) (subst (λ p. HasDone (drop (c.loop-line.line-index + 1) c.args.lines.now) (seat_of p) end) w.pass-is done));
+        done = λ end done. inv.done end (here end (no_call pass.number c.line-item.result w.in_default.not-Call)
+            (subst (λ p. HasDone (drop (c.loop-line.line-index + 1) c.args.lines.now) (seat_of p) end) w.pass-is done));
       }
     ]
 

@@ -9,7 +9,8 @@ use Rattle.shared_work.proofs.users.run_users.Goals as goal
 
 pub run_crew-requires-clause-needs : goal.run_crew-requires-clause-needs
 run_crew-requires-clause-needs g c κs within =
-    four_needs c.user-one.result c.user-two.result c.user-three.result c.user-four.result c.user-one.ensures.seats c.user-two.ensures.seats c.user-three.ensures.seats c.user-four.ensures.seats c.in_ok-users.users.items c.in_ok-users.ensures.items c.args.world.past
+    four_needs c.user-one.result c.user-two.result c.user-three.result c.user-four.result c.user-one.ensures.seats c.user-two.ensures.seats
+    c.user-three.ensures.seats c.user-four.ensures.seats c.in_ok-users.users.items c.in_ok-users.ensures.items c.args.world.past
 
 pub returns-clause-users : goal.returns-clause-users
 returns-clause-users g c =
@@ -19,5 +20,7 @@ returns-clause-users g c =
     (λ after. AddsNoSeats (all_seats users) c.args.world.past after.past)
     (λ after. AreOfUsers c.args.script.now.lines after.past)
     c.run_crew.result c.run_crew.ensures.does c.run_crew.ensures.others
-    (λ after. of_users c.user-one.result c.user-two.result c.user-three.result c.user-four.result c.user-one.ensures.seats c.user-two.ensures.seats c.user-three.ensures.seats c.user-four.ensures.seats users c.in_ok-users.ensures.items
-    (λ user. user.script.now.lines) c.args.script.now.lines (ap (λ s. s.lines) c.user-one.ensures.script) (ap (λ s. s.lines) c.user-two.ensures.script) (ap (λ s. s.lines) c.user-three.ensures.script) (ap (λ s. s.lines) c.user-four.ensures.script) c.args.world.past after.past c.requires)
+    (λ after. of_users c.user-one.result c.user-two.result c.user-three.result c.user-four.result c.user-one.ensures.seats c.user-two.ensures.seats
+    c.user-three.ensures.seats c.user-four.ensures.seats users c.in_ok-users.ensures.items
+    (λ user. user.script.now.lines) c.args.script.now.lines (ap (λ s. s.lines) c.user-one.ensures.script)
+    (ap (λ s. s.lines) c.user-two.ensures.script) (ap (λ s. s.lines) c.user-three.ensures.script) (ap (λ s. s.lines) c.user-four.ensures.script) c.args.world.past after.past c.requires)

@@ -15,4 +15,5 @@ pub returns-then-is-clause-key : goal.returns-then-is-clause-key
 returns-then-is-clause-key c =
     let list = c.args.list.now in
     let lt : c.loop-at.at < list.len = omega (arith, c.len-at-end.ensures) in
-    there_at (keys c.args.stages.now) list.items c.loop-at.at _ (slice_get_read list.items list.len c.loop-at.at _ list.ok.0 lt c.index.ensures) ∙ (sym c.key_at.ensures ∙ (sym c.get.ensures ∙ sym (key_is c.args.key.now _ (sym c.is.ensures ∙ c.if-is.true))))
+    there_at (keys c.args.stages.now) list.items c.loop-at.at _ (slice_get_read list.items list.len c.loop-at.at _ list.ok.0 lt c.index.ensures)
+    ∙ (sym c.key_at.ensures ∙ (sym c.get.ensures ∙ sym (key_is c.args.key.now _ (sym c.is.ensures ∙ c.if-is.true))))

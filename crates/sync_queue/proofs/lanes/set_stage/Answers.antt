@@ -1,6 +1,6 @@
 use Rattle.indexmap.specs.IndexMap.{keys}
 use Rattle.indexmap.proofs.CallerLemmas.{keys-with_value_at, updates-with_value_at}
-use Rattle.kube_types.proofs.SameKeys.{same_key_equivalence}
+use Rattle.kube_objects.proofs.SameKeys.{same_key_equivalence}
 use Rattle.sync_queue.specs.Steps.Places.{key_there}
 use Rattle.sync_queue.proofs.MapPlaces.{entry_there}
 use Rattle.sync_queue.proofs.lanes.set_stage.Goals as goal

@@ -1,5 +1,5 @@
 use Rattle.std.proofs.Common.{sym}
-use Rattle.kube_types.specs.declared.parts.Kind.TheVariants as kinds
+use Rattle.kube_parts.specs.declared.parts.Kind.TheVariants as kinds
 use Rattle.version_store.proofs.Rows.{count_within, none_past}
 use Rattle.version_store.proofs.classes.default_class.Goals as goal
 

@@ -1,5 +1,5 @@
 use Rattle.std.proofs.Common.{◌≡◌, ◌≤◌, drop, length}
-use Rattle.kube_types.specs.Keys.{AreRows}
+use Rattle.kube_objects.specs.Keys.{AreRows}
 use Rattle.binder_model.specs.Imports.{rows_of_imports}
 use Rattle.version_store.proofs.imports.rows_of_imports.Given as goal
 

@@ -12,7 +12,9 @@ returns-in-None g c =
 pub returns-then-not-serves : goal.returns-then-not-serves
 returns-then-not-serves g c =
     let there = sym c.volume_at.ensures ∙ ap option_copied c.in-Some.is in
-    passed_over _ _ _ _ _ _ _ (closed _ _ _ _ _ _ _ there (unserved c.args.claim.now (option_copied c.args.node) c.args.only_own (g.P.Places.places c.args.excluded.now) c.args.place c.in-Some.volume.now (sym c.serves.ensures ∙ c.if-not-serves.true))) c.requires
+    passed_over _ _ _ _ _ _ _ (closed _ _ _ _ _ _ _ there
+    (unserved c.args.claim.now (option_copied c.args.node) c.args.only_own
+    (g.P.Places.places c.args.excluded.now) c.args.place c.in-Some.volume.now (sym c.serves.ensures ∙ c.if-not-serves.true))) c.requires
 
 pub returns-else-is_preferred : goal.returns-else-is_preferred
 returns-else-is_preferred g c =

@@ -3,23 +3,28 @@ use Rattle.std.specs.Option.{option_copied}
 use Rattle.std.specs.Ordering.{is_gt, is_lt}
 use Rattle.std.proofs.lemmas.Cmp.{tied_itself}
 use Rattle.std.proofs.lemmas.List.{get_or_default}
-use Rattle.kube_types.specs.VolumeIndex.{is_free}
-use Rattle.kube_types.specs.VolumeOrders.{name_cmp, size_cmp, size_of}
+use Rattle.volume_index.specs.VolumeIndex.{is_free}
+use Rattle.volume_index.specs.VolumeOrders.{name_cmp, size_cmp, size_of}
 use Rattle.volume_match.specs.Steps.Choices.{is_grouped, wanted}
 use Rattle.volume_match.proofs.Candidates.{alike_itself, at_place, first_best, none_left, none_more, upto_at}
 use Rattle.volume_match.proofs.Fitting.{after_group, before_size, prefers_free}
 use Rattle.volume_match.proofs.Passed.{stands_at}
-use Rattle.kube_types.proofs.VolumeOrders.{by_size_total, first_no_greater, size_total}
+use Rattle.volume_index.proofs.VolumeOrders.{by_size_total, first_no_greater, size_total}
 use Rattle.volume_match.proofs.indexed.best_free.Goals as goal
 
 pub loop-place-init : goal.loop-place-init
-loop-place-init g c =
-    (λ k d low lt place q. before_size c.args.claim.now (option_copied c.args.node) (get_or c.args.free.now k d) q.eligible (c.fitting_start-start.ensures.start.0 k d low lt), omega arith, c.fitting_start-start.ensures.bound)
+loop-place-init g c = (
+  λ k d low lt place q. before_size c.args.claim.now (option_copied c.args.node) (get_or c.args.free.now k d) q.eligible
+      (c.fitting_start-start.ensures.start.0 k d low lt),
+  omega arith,
+  c.fitting_start-start.ensures.bound,
+)
 
 pub open_place-requires-clause-held : goal.open_place-requires-clause-held
 open_place-requires-clause-held g c =
     let lt : c.loop-place.place < length c.args.free.now = omega arith in
-    (c.requires.held c.get-volume.result.now (c.loop-place.place, lt, sym (at_place c.args.free.now c.loop-place.place c.get-volume.result.now c.index-free-place.result c.get-volume.ensures c.index-free-place.is))).0
+    (c.requires.held c.get-volume.result.now
+    (c.loop-place.place, lt, sym (at_place c.args.free.now c.loop-place.place c.get-volume.result.now c.index-free-place.result c.get-volume.ensures c.index-free-place.is))).0
 
 pub next_place-place-requires-clause-group : goal.next_place-place-requires-clause-group
 next_place-place-requires-clause-group g c =
@@ -34,7 +39,8 @@ loop-place-preserved g c =
     let v = c.get-volume.result.now in
     let at = at_place c.args.free.now c.loop-place.place v c.index-free-place.result c.get-volume.ensures c.index-free-place.is in
     let next = c.next_place-place.ensures in (
-      none_more (g.L.Lookup.rows c.args.lookup.now) c.args.claim.now (option_copied c.args.node) false (g.P.Places.places c.args.excluded.now) c.args.free.now c.loop-place.place c.next_place-place.result v lt at c.loop-place.invariant.0 c.in-None.ensures.none next.passed,
+      none_more (g.L.Lookup.rows c.args.lookup.now) c.args.claim.now (option_copied c.args.node) false
+          (g.P.Places.places c.args.excluded.now) c.args.free.now c.loop-place.place c.next_place-place.result v lt at c.loop-place.invariant.0 c.in-None.ensures.none next.passed,
       omega (arith, c.loop-place.invariant.1, next.more),
       next.bound,
     )
@@ -50,7 +56,8 @@ returns-then-not-is_grouped-clause-best g c =
     let claim = c.args.claim.now in
     let v = c.get-volume.result.now in
     let at = at_place c.args.free.now c.loop-place.place v c.index-free-place.result c.get-volume.ensures c.index-free-place.is in
-    let from : is_lt (size_cmp (size_of v) (wanted claim 0)) ≡ false = subst (λ w. is_lt (size_cmp (size_of w) (wanted claim 0)) ≡ false) (sym at) (c.fitting_start-start.ensures.start.1 c.loop-place.place v c.loop-place.invariant.1 lt) in
+    let from : is_lt (size_cmp (size_of v) (wanted claim 0)) ≡ false =
+    subst (λ w. is_lt (size_cmp (size_of w) (wanted claim 0)) ≡ false) (sym at) (c.fitting_start-start.ensures.start.1 c.loop-place.place v c.loop-place.invariant.1 lt) in
     none_left (g.L.Lookup.rows c.args.lookup.now) claim (option_copied c.args.node) false (g.P.Places.places c.args.excluded.now) c.args.free.now c.loop-place.place c.loop-place.invariant.0
     (λ k u le within too place q.
     after_group claim (option_copied c.args.node) v u (sym c.is_grouped.ensures ∙ c.if-not-is_grouped.true) from

@@ -4,12 +4,12 @@ use Rattle.std.specs.Ordering.{is_gt, is_lt}
 use Rattle.std.proofs.lemmas.Cmp.{tied_itself}
 use Rattle.std.proofs.lemmas.List.{get_or_default}
 use Rattle.std.proofs.lemmas.List.Elements.{AllWithin-more}
-use Rattle.kube_types.specs.VolumeIndex.{is_owned}
-use Rattle.kube_types.specs.VolumeOrders.{need_cmp, owner_cmp, owner_of}
+use Rattle.volume_index.specs.VolumeIndex.{is_owned}
+use Rattle.volume_index.specs.VolumeOrders.{need_cmp, owner_cmp, owner_of}
 use Rattle.volume_match.specs.Steps.Choices.{claim_owner}
 use Rattle.volume_match.proofs.Candidates.{IsNone, alike_itself, at_place, first_best, none_left, upto_at}
 use Rattle.volume_match.proofs.Fitting.{after_owner, before_owner, prefers_owned}
-use Rattle.kube_types.proofs.VolumeOrders.{by_owner_total, first_no_greater, owner_total}
+use Rattle.volume_index.proofs.VolumeOrders.{by_owner_total, first_no_greater, owner_total}
 use Rattle.volume_match.proofs.indexed.best_owned.Goals as goal
 
 pub loop-place-init : goal.loop-place-init
@@ -23,7 +23,8 @@ loop-place-init g c =
 pub open_place-requires-clause-held : goal.open_place-requires-clause-held
 open_place-requires-clause-held g c =
     let lt : c.loop-place.place < length c.args.owned.now = omega arith in
-    (c.requires.held c.get-volume.result.now (c.loop-place.place, lt, sym (at_place c.args.owned.now c.loop-place.place c.get-volume.result.now c.index-owned-place.result c.get-volume.ensures c.index-owned-place.is))).0
+    (c.requires.held c.get-volume.result.now
+    (c.loop-place.place, lt, sym (at_place c.args.owned.now c.loop-place.place c.get-volume.result.now c.index-owned-place.result c.get-volume.ensures c.index-owned-place.is))).0
 
 pub loop-place-preserved : goal.loop-place-preserved
 loop-place-preserved g c =
@@ -41,7 +42,8 @@ returns-then-not-is_named g c =
     let v = c.get-volume.result.now in
     let at = at_place c.args.owned.now c.loop-place.place v c.index-owned-place.result c.get-volume.ensures c.index-owned-place.is in
     let owned = (c.requires.held v (c.loop-place.place, lt, sym at)).1 in
-    let from : is_lt (owner_cmp (owner_of v) (claim_owner claim)) ≡ false = subst (λ w. is_lt (owner_cmp (owner_of w) (claim_owner claim)) ≡ false) (sym at) (c.own_start-start.ensures.start.1 c.loop-place.place v ge lt) in
+    let from : is_lt (owner_cmp (owner_of v) (claim_owner claim)) ≡ false =
+    subst (λ w. is_lt (owner_cmp (owner_of w) (claim_owner claim)) ≡ false) (sym at) (c.own_start-start.ensures.start.1 c.loop-place.place v ge lt) in
     none_left (g.L.Lookup.rows c.args.lookup.now) claim (option_copied c.args.node) c.args.only_own (g.P.Places.places c.args.excluded.now) c.args.owned.now c.loop-place.place c.loop-place.invariant
     (λ k u le within too place q.
     after_owner claim (option_copied c.args.node) v u owned (c.requires.held u (k, within, sym too)).1 from (sym c.is_named.ensures ∙ c.if-not-is_named.true)
@@ -62,5 +64,6 @@ returns-in-Some g c =
 pub returns : goal.returns
 returns g c =
     let end : length c.args.owned.now ≤ c.loop-place.place = omega arith in
-    none_left (g.L.Lookup.rows c.args.lookup.now) c.args.claim.now (option_copied c.args.node) c.args.only_own (g.P.Places.places c.args.excluded.now) c.args.owned.now c.loop-place.place c.loop-place.invariant
+    none_left (g.L.Lookup.rows c.args.lookup.now) c.args.claim.now (option_copied c.args.node) c.args.only_own
+    (g.P.Places.places c.args.excluded.now) c.args.owned.now c.loop-place.place c.loop-place.invariant
     (λ k u le within too place q. absurd (omega (arith, end, le, within)))

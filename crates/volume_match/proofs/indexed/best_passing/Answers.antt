@@ -35,4 +35,5 @@ returns-else-only_own-clause-best g c =
     let stands = c.requires.stands in
     let none = rw c.owned.ensures.list at c.in-None.ensures in
     let best = rw c.free.ensures.list at c.best_free.ensures.best in
-    best_free rows c.args.index.now stands c.args.claim.now (option_copied c.args.node) (g.P.Places.places c.args.excluded.now) c.args.only_own c.if-only_own.false none (found_place c.best_free.result) best
+    best_free rows c.args.index.now stands c.args.claim.now (option_copied c.args.node)
+    (g.P.Places.places c.args.excluded.now) c.args.only_own c.if-only_own.false none (found_place c.best_free.result) best

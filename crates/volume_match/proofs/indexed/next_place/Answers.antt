@@ -2,12 +2,12 @@ use Rattle.std.proofs.Common.{◌≡◌, ◌<◌, inl, inr, ◌∙◌, true, tru
 use Rattle.std.specs.Ordering.{is_gt, is_lt}
 use Rattle.std.proofs.lemmas.Cmp.{tied_itself}
 use Rattle.std.proofs.lemmas.List.{get_or_default}
-use Rattle.kube_types.specs.Bindings.{mode_count}
-use Rattle.kube_types.specs.VolumeOrders.{name_cmp, size_cmp, size_of}
+use Rattle.kube_objects.specs.Bindings.{mode_count}
+use Rattle.volume_index.specs.VolumeOrders.{name_cmp, size_cmp, size_of}
 use Rattle.volume_match.specs.Steps.Choices.{is_grouped, wanted}
 use Rattle.volume_match.proofs.Candidates.{at_place, below_or_from, upto_at}
 use Rattle.volume_match.proofs.Fitting.{before_jump, too_small}
-use Rattle.kube_types.proofs.VolumeOrders.{by_size_total, first_no_greater, size_total}
+use Rattle.volume_index.proofs.VolumeOrders.{by_size_total, first_no_greater, size_total}
 use Rattle.volume_match.proofs.indexed.next_place.Goals as goal
 
 pub returns-then-volume-claim : goal.returns-then-volume-claim

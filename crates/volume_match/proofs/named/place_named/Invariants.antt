@@ -1,6 +1,6 @@
 use Rattle.std.proofs.Common.{◌-◌}
 use Rattle.plain_data.proofs.RowFacts.{Parted}
-use Rattle.kube_types.specs.Keys.{key_cmp, key_of, rows_of}
+use Rattle.kube_objects.specs.Keys.{key_cmp, key_of, rows_of}
 use Rattle.volume_match.specs.Named.{key_with_parts}
 use Rattle.volume_match.proofs.named.place_named.Given as goal
 

@@ -11,7 +11,8 @@ loop-place-preserved c =
     let lt : c.loop-place.place < length c.args.owned.now = omega arith in
     let v = c.get-volume.result.now in
     let at = at_place c.args.owned.now c.loop-place.place v c.index-owned-place.result c.get-volume.ensures c.index-owned-place.is in (
-      AllWithin-more (λ w. refers_to_claim c.args.claim.now w ≡ true) c.args.owned.now c.args.start c.loop-place.place c.loop-place.invariant.0 (λ d. subst (λ w. refers_to_claim c.args.claim.now w ≡ true) (at ∙ get_or_default c.args.owned.now c.loop-place.place v d lt) (sym c.is_named.ensures ∙ c.if-not-is_named.false)),
+      AllWithin-more (λ w. refers_to_claim c.args.claim.now w ≡ true) c.args.owned.now c.args.start c.loop-place.place c.loop-place.invariant.0
+          (λ d. subst (λ w. refers_to_claim c.args.claim.now w ≡ true) (at ∙ get_or_default c.args.owned.now c.loop-place.place v d lt) (sym c.is_named.ensures ∙ c.if-not-is_named.false)),
       omega (arith, c.loop-place.invariant.1),
     )
 

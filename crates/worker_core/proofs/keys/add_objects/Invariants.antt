@@ -1,5 +1,5 @@
 use Rattle.std.proofs.Common.{◌≡◌, drop, map}
-use Rattle.kube_types.specs.Keys.{key_of}
+use Rattle.kube_objects.specs.Keys.{key_of}
 use Rattle.worker_core.specs.Absorbs.{all_added}
 use Rattle.worker_core.proofs.keys.add_objects.Given as goal
 

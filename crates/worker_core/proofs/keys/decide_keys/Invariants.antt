@@ -8,7 +8,8 @@ use Rattle.worker_core.proofs.keys.decide_keys.Given as goal
 
 -- what is decided from here on is decided from the start on
 abbrev pub invariant-loop-key : goal.invariant-loop-key
-invariant-loop-key l = (after : Work) (under : Option Under) → Decides l.role l.memory (all_objects l.caches) after under l.queue → Decides l.role l.memory (all_objects l.caches) after under l.initial.queue
+invariant-loop-key l = (after : Work) (under : Option Under) → Decides l.role l.memory (all_objects l.caches) after under l.queue
+    → Decides l.role l.memory (all_objects l.caches) after under l.initial.queue
 
 abbrev pub decreases-loop-key : goal.decreases-loop-key
 decreases-loop-key l = weight l.queue.waiting

@@ -31,7 +31,8 @@ pub returns-in-Some-clause-entries : goal.returns-in-Some-clause-entries
 returns-in-Some-clause-entries c =
     let here = subst (λ (o : Option Drained). EndsHere c.world.result.now.setup c.world.result.now.past c.args.budget c.rounds.left o) c.in-Some.is c.in_ok-drained.ensures in
     let few = ends_few c.world.result.now.setup c.world.result.now.past c.args.budget c.rounds.left c.in-Some.drained here in
-    drained_longer c.args.world.now.setup c.args.drainers.now c.rounds.drainers c.args.world.now.past c.rounds.world.past c.args.budget (made_of c.in-Some.drained) few (returns-in-Some-clause-rounds c)
+    drained_longer c.args.world.now.setup c.args.drainers.now c.rounds.drainers c.args.world.now.past c.rounds.world.past c.args.budget
+    (made_of c.in-Some.drained) few (returns-in-Some-clause-rounds c)
 
 pub returns-in-Some-clause-none : goal.returns-in-Some-clause-none
 returns-in-Some-clause-none c = λ nothing. drains_none _ _ _ _ _ _ _ _ (returns-in-Some-clause-rounds c) nothing
@@ -81,7 +82,8 @@ rounds-preserved c =
     let ends = subst (λ (s : Setup). EndsHere s c.rounds.world.past budget c.rounds.left None) i.setup there in
     record {
       few = omega (arith, i.few);
-      drains = λ after past left more. i.drains after past left (Goes ends.1.0 ends.1.1 ends.0 c.round.new.drainers c.round.new.desk.past (c.rounds.left - made) c.in_ok-rounded-in-None.rounded.whole r.round more);
+      drains = λ after past left more. i.drains after past left
+          (Goes ends.1.0 ends.1.1 ends.0 c.round.new.drainers c.round.new.desk.past (c.rounds.left - made) c.in_ok-rounded-in-None.rounded.whole r.round more);
       stands = r.stands;
       seats = r.seats ∙ i.seats;
       roles = r.roles ∙ i.roles;

@@ -10,7 +10,8 @@ use Rattle.worker_threads.proofs.drain.drain.Given as goal
 abbrev pub invariant-rounds : goal.invariant-rounds
 invariant-rounds l = record {
   few : l.left ≤ l.budget;
-  drains : (after : List Drainer) (past : List Entry) (left : ℕ) → Drains all_pass l.initial.world.setup after past left l.drainers l.world.past l.left → Drains all_pass l.initial.world.setup after past left l.initial.drainers l.initial.world.past l.budget;
+  drains : (after : List Drainer) (past : List Entry) (left : ℕ)
+      → Drains all_pass l.initial.world.setup after past left l.drainers l.world.past l.left → Drains all_pass l.initial.world.setup after past left l.initial.drainers l.initial.world.past l.budget;
   stands : AreStanding l.drainers l.world.past;
   seats : seats_of l.drainers ≡ seats_of l.initial.drainers;
   roles : roles_of l.drainers ≡ roles_of l.initial.drainers;

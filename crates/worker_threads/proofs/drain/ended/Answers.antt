@@ -1,5 +1,5 @@
 use Rattle.std.proofs.Common.{sym, subst, refl, arith, Option, Some}
-use Rattle.kube_types.specs.declared.key.Key.{Key}
+use Rattle.kube_objects.specs.declared.key.Key.{Key}
 use Rattle.settle_check.specs.declared.first.FirstDue.{FirstDue}
 use Rattle.binder_model.specs.Due.{IsFirstDue}
 use Rattle.settle_check.specs.WorldOf.{world_of}

@@ -19,7 +19,8 @@ pub returns-clause-round : goal.returns-clause-round
 returns-clause-round g c =
     let low : c.in_ok-ran.ran.left ≤ c.args.budget = round_left _ _ _ _ _ _ _ _ c.in_ok-ran.ensures.round in
     let rest : c.in_ok-ran.ran.left ≡ c.args.budget - (c.args.budget - c.in_ok-ran.ran.left) = omega arith in
-    subst (λ (n : ℕ). IsRound (g.W.Answers.lets c.args.desk.now) (g.W.Answers.past c.turns.new.desk) n c.args.drainers.now (g.W.Answers.past c.args.desk.now) c.args.budget c.turns.new.drainers c.in_ok-ran.ran.idle) rest
+    subst (λ (n : ℕ). IsRound (g.W.Answers.lets c.args.desk.now) (g.W.Answers.past c.turns.new.desk) n c.args.drainers.now
+    (g.W.Answers.past c.args.desk.now) c.args.budget c.turns.new.drainers c.in_ok-ran.ran.idle) rest
     c.in_ok-ran.ensures.round
 
 pub returns-clause-within : goal.returns-clause-within
@@ -28,7 +29,8 @@ returns-clause-within g c =
 
 pub returns-clause-entries : goal.returns-clause-entries
 returns-clause-entries g c = λ passes.
-    let round = subst (λ (l : Lets). IsRound l (g.W.Answers.past c.turns.new.desk) c.in_ok-ran.ran.left c.args.drainers.now (g.W.Answers.past c.args.desk.now) c.args.budget c.turns.new.drainers c.in_ok-ran.ran.idle) passes c.in_ok-ran.ensures.round in
+    let round = subst (λ (l : Lets). IsRound l (g.W.Answers.past c.turns.new.desk) c.in_ok-ran.ran.left c.args.drainers.now
+    (g.W.Answers.past c.args.desk.now) c.args.budget c.turns.new.drainers c.in_ok-ran.ran.idle) passes c.in_ok-ran.ensures.round in
     round_longer _ _ _ _ _ _ _ round
 
 pub returns-clause-others : goal.returns-clause-others
@@ -43,7 +45,8 @@ returns-clause-rests g c = λ whole. round_rests _ _ _ _ _ _ _ _ c.in_ok-ran.ens
 
 pub returns-clause-lasting : goal.returns-clause-lasting
 returns-clause-lasting g c = λ whole.
-    let round = subst (λ (w : Bool). IsRound (g.W.Answers.lets c.args.desk.now) (g.W.Answers.past c.turns.new.desk) c.in_ok-ran.ran.left c.args.drainers.now (g.W.Answers.past c.args.desk.now) c.args.budget c.turns.new.drainers w) whole c.in_ok-ran.ensures.round in
+    let round = subst (λ (w : Bool). IsRound (g.W.Answers.lets c.args.desk.now)
+    (g.W.Answers.past c.turns.new.desk) c.in_ok-ran.ran.left c.args.drainers.now (g.W.Answers.past c.args.desk.now) c.args.budget c.turns.new.drainers w) whole c.in_ok-ran.ensures.round in
     round_lasts (g.W.Answers.setup c.args.desk.now) _ _ _ _ _ _ _ (subst AreSeats c.turns.ensures.seats c.turns.ensures.differ) c.requires.stands round
 
 pub returns-clause-short : goal.returns-clause-short

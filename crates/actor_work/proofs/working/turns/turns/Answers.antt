@@ -54,7 +54,8 @@ turn-requires-clause-orders g c = λ seat there.
     subst (λ (p : Part). IsLife p seat) (sym i.part) (c.requires.orders seat (i.orders seat there))
 
 -- what the turn made, where all pass
-turned : (lets : Lets) (calls : ℕ) (told : ℕ → List Entry) (before after : List Entry) (old new : Player) → lets ≡ all_pass → HasTurned lets calls told before after old new → HasTurned all_pass calls told before after old new
+turned : (lets : Lets) (calls : ℕ) (told : ℕ → List Entry) (before after : List Entry) (old new : Player) → lets ≡ all_pass
+    → HasTurned lets calls told before after old new → HasTurned all_pass calls told before after old new
 turned lets calls told before after old new all t = subst (λ (l : Lets). HasTurned l calls told before after old new) all t
 
 pub loop-player-preserved : goal.loop-player-preserved
@@ -117,7 +118,8 @@ returns-then-is_stuck-clause-whole g c =
     let reached = subst (λ (w : Bool). HasPlayedTo (c.args.player.now.made + c.args.calls) w old before) stuck.0 i.reached in
     let t = turned (g.W.Answers.lets c.loop-player.desk) calls reached.told before after old new i.passes (r.turned reached.told reached.plays) in
     let kind : c.kind-kind.result ≡ old.part.kind = c.kind-kind.ensures.kind ∙ c.requires.plays.plays.kind ∙ ap (λ (p : Part). p.kind) (sym i.part) in
-    let stale = turn_stale (c.args.player.now.made + c.args.calls) before after old new reached (ap (λ (p : Part). p.named) i.part ∙ c.requires.named) (subst IsBuiltKind kind c.kind-kind.ensures.built) c.loop-player-test.true stuck.1 t in
+    let stale = turn_stale (c.args.player.now.made + c.args.calls) before after old new reached
+    (ap (λ (p : Part). p.named) i.part ∙ c.requires.named) (subst IsBuiltKind kind c.kind-kind.ensures.built) c.loop-player-test.true stuck.1 t in
     subst (λ (p : Part). HasWorked p (c.args.player.now.made + c.args.calls) new.made after) i.part (inr (omega (arith, stuck.1, c.loop-player-test.true, i.end), stale))
 
 pub returns-then-is_stuck-clause-each : goal.returns-then-is_stuck-clause-each
@@ -149,7 +151,8 @@ returns-then-is_stuck-clause-plays g c =
 pub returns-then-is_stuck-clause-lived : goal.returns-then-is_stuck-clause-lived
 returns-then-is_stuck-clause-lived g c = λ role idle lives.
     let i = c.loop-player.invariant in
-    some_lives role ((c.args.player.now.made + c.args.calls) - c.loop-player.player.made) (g.W.Answers.past c.loop-player.desk) (g.W.Answers.past c.turn.new.desk) c.loop-player.player c.turn.new.player c.in_ok-turn.ensures.lives (i.lived role idle lives)
+    some_lives role ((c.args.player.now.made + c.args.calls) - c.loop-player.player.made) (g.W.Answers.past c.loop-player.desk)
+    (g.W.Answers.past c.turn.new.desk) c.loop-player.player c.turn.new.player c.in_ok-turn.ensures.lives (i.lived role idle lives)
 
 pub returns-then-is_stuck-clause-actors : goal.returns-then-is_stuck-clause-actors
 returns-then-is_stuck-clause-actors g c = λ asked. c.in_ok-turn.ensures.actors (c.loop-player.invariant.actors asked)

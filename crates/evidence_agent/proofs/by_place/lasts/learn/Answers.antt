@@ -11,7 +11,8 @@ puts_as a b place was is e = subst (λ (o : Option Topic). Puts o place was is) 
 
 pub returns-then-not-entry-clause-ok : goal.returns-then-not-entry-clause-ok
 returns-then-not-entry-clause-ok c = λ mine at all.
-    lost_lasts c.args.entry.now mine c.args.place c.args.rows.now.items c.put_some.new.rows.items c.if-not-entry.true at (puts_as _ _ c.args.place c.args.rows.now.items c.put_some.new.rows.items c.asked_topic.ensures c.in_ok-put_some.ensures.ok) all
+    lost_lasts c.args.entry.now mine c.args.place c.args.rows.now.items c.put_some.new.rows.items c.if-not-entry.true at
+    (puts_as _ _ c.args.place c.args.rows.now.items c.put_some.new.rows.items c.asked_topic.ensures c.in_ok-put_some.ensures.ok) all
 
 pub returns-clause-ok : goal.returns-clause-ok
 returns-clause-ok c = on_ok_weaker c.put_found.result

@@ -36,4 +36,5 @@ returns-in_ok-insert-in-Err-clause-ok c =
 pub returns-in_ok-insert-in-Err-clause-rising : goal.returns-in_ok-insert-in-Err-clause-rising
 returns-in_ok-insert-in-Err-clause-rising c =
     let gap = rw c.deref.ensures.value at c.in-Err.ensures.gap in
-    rising c.args.rows.now.items _ (topic_by c.args.about.now) c.args.place c.requires (c.in_ok-insert-in-Err.ensures.items ∙ gap_is c.args.rows.now.items (topic_by c.args.about.now) c.args.place c.in-Err.at _ c.in_ok-row.ensures gap)
+    rising c.args.rows.now.items _ (topic_by c.args.about.now) c.args.place c.requires
+    (c.in_ok-insert-in-Err.ensures.items ∙ gap_is c.args.rows.now.items (topic_by c.args.about.now) c.args.place c.in-Err.at _ c.in_ok-row.ensures gap)

@@ -11,6 +11,12 @@ returns-clause-bytes c =
       sym (ap (λ s. s.left) c.self.view_is) ∙ front_taken _ _ _ _ _ within piece,
       λ none some.
           let all : length inside.bytes.items ≤ inside.at + c.min-count.result =
-          omega (arith, c.self.invariant.1, length-append c.copy_from_slice.new.self (drop c.min-count.result c.args.buf.now), length-drop c.min-count.result c.args.buf.now, c.copy_from_slice.ensures.len) in
+          omega (
+            arith,
+            c.self.invariant.1,
+            length-append c.copy_from_slice.new.self (drop c.min-count.result c.args.buf.now),
+            length-drop c.min-count.result c.args.buf.now,
+            c.copy_from_slice.ensures.len,
+          ) in
           drop_all _ _ all,
     )

@@ -1,5 +1,5 @@
 use Rattle.std.proofs.Common.{◌∙◌, sym}
-use Rattle.kube_types.specs.declared.parts.Kind.TheVariants as kinds
+use Rattle.kube_parts.specs.declared.parts.Kind.TheVariants as kinds
 use Rattle.informer_cache.proofs.caches.Caches.cache.Goals as goal
 
 pub returns-in-StorageClass-clause-kind : goal.returns-in-StorageClass-clause-kind

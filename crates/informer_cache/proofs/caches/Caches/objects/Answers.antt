@@ -1,5 +1,5 @@
 use Rattle.std.proofs.Common.{◌∙◌, ap, subst}
-use Rattle.kube_types.specs.Keys.{AreRows}
+use Rattle.kube_objects.specs.Keys.{AreRows}
 use Rattle.informer_cache.specs.Cache.{Known, objects_of}
 use Rattle.informer_cache.specs.Knowledge.{AreOfKind}
 use Rattle.informer_cache.proofs.caches.Caches.objects.Goals as goal

@@ -1,6 +1,6 @@
 use Rattle.std.proofs.Common.{◌≡◌, inl, inr, ◌∙◌, subst, arith}
-use Rattle.kube_types.specs.declared.key.Key.{Key}
-use Rattle.kube_types.specs.Keys.{key_of}
+use Rattle.kube_objects.specs.declared.key.Key.{Key}
+use Rattle.kube_objects.specs.Keys.{key_of}
 use Rattle.informer_cache.specs.Steps.Views.{sight_of}
 use Rattle.informer_cache.specs.Steps.Sights.{Fits}
 use Rattle.informer_cache.proofs.Found.{found-take}

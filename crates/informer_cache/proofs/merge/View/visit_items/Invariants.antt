@@ -1,6 +1,6 @@
 use Rattle.std.proofs.Common.{◌≡◌, true, is_some, take}
-use Rattle.kube_types.specs.declared.key.Key.{Key}
-use Rattle.kube_types.specs.Keys.{row_at}
+use Rattle.kube_objects.specs.declared.key.Key.{Key}
+use Rattle.kube_objects.specs.Keys.{row_at}
 use Rattle.informer_cache.specs.Steps.Views.{sight_of}
 use Rattle.informer_cache.specs.Steps.Sights.{Fits, GoesOn}
 use Rattle.informer_cache.proofs.merge.View.visit_items.Given as goal

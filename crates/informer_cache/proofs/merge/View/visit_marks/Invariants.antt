@@ -1,5 +1,5 @@
 use Rattle.std.proofs.Common.{◌≡◌, true, is_some, take}
-use Rattle.kube_types.specs.declared.key.Key.{Key}
+use Rattle.kube_objects.specs.declared.key.Key.{Key}
 use Rattle.informer_cache.specs.Marks.{mark_at}
 use Rattle.informer_cache.specs.Steps.Views.{sight_of}
 use Rattle.informer_cache.specs.Steps.Sights.{Fits, GoesOn}

@@ -1,6 +1,6 @@
 use Rattle.std.proofs.Common.{◌≡◌, ◌↔◌, IsTrue, get_or, take, reverse, sym, subst, true≢false}
 use Rattle.std.proofs.lemmas.List.{get_or_read}
-use Rattle.kube_types.specs.Sources.{data_id_of}
+use Rattle.kube_objects.specs.Sources.{data_id_of}
 use Rattle.call_types.specs.declared.entry.Entry.{Entry}
 use Rattle.binder_model.specs.OpsLicence.{IsEndedOver, TellsErased}
 use Rattle.binder_model.specs.Told.{IsVolumeWith, ToldVolume}
@@ -21,7 +21,9 @@ returns-in-Some c =
     let id = data_id_of c.args.volume.now.source in
     let last = c.in-Some.ensures in
     let xs = reverse (take c.in-Some.place c.args.mine.now) in
-    let same : last.entry ≡ get_or c.args.mine.now c.in-Some.place c.index-mine-place.result = get_or_read c.args.mine.now c.in-Some.place last.entry last.within last.there c.index-mine-place.result in
-    let asks : IsTrue c.was_ended.result ↔ WasEnded xs c.args.uid last.entry.request = subst (λ (e : Entry). IsTrue c.was_ended.result ↔ WasEnded xs c.args.uid e.request) (sym same) c.was_ended.ensures in
+    let same : last.entry ≡ get_or c.args.mine.now c.in-Some.place c.index-mine-place.result =
+    get_or_read c.args.mine.now c.in-Some.place last.entry last.within last.there c.index-mine-place.result in
+    let asks : IsTrue c.was_ended.result ↔ WasEnded xs c.args.uid last.entry.request =
+    subst (λ (e : Entry). IsTrue c.was_ended.result ↔ WasEnded xs c.args.uid e.request) (sym same) c.was_ended.ensures in
     let is = ended_is id c.args.uid xs last.entry.request last.entry.reply last.is.1 in
     after_last (IsVolumeWith (IsEndedOver c.args.uid id)) (TellsErased id) c.args.mine.now c.in-Some.place c.was_ended.result last ((λ t. is.0 (asks.0 t)), (λ t. asks.1 (is.1 t)))

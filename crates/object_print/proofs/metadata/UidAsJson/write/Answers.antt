@@ -1,5 +1,5 @@
 use Rattle.std.proofs.Common.{ℕ, Ok, refl, ◌∙◌}
-use Rattle.kube_types.proofs.UidTexts.{text_is}
+use Rattle.kube_parts.proofs.UidTexts.{text_is}
 use Rattle.object_print.proofs.metadata.UidAsJson.write.Goals as goal
 
 pub returns : goal.returns

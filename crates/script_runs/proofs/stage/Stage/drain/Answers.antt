@@ -27,7 +27,8 @@ pub overflow_add-self : goal.overflow_add-self
 overflow_add-self c =
     let stands = c.requires.stands.stands in
     let w = c.world.result.now in
-    let room = room_in c.args.option w.setup w.past c.args.self.now.drained c.args.self.now.budget c.raised-budget.result stands.few stands.most c.raised-budget.ensures.value c.raised-budget.ensures.more in
+    let room = room_in c.args.option w.setup w.past c.args.self.now.drained c.args.self.now.budget c.raised-budget.result stands.few stands.most
+    c.raised-budget.ensures.value c.raised-budget.ensures.more in
     omega (arith, room, c.in_ok-drained.ensures.few, c.made_in.ensures)
 
 pub returns-clause-moved : goal.returns-clause-moved

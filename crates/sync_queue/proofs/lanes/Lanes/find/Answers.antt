@@ -1,5 +1,5 @@
 use Rattle.std.proofs.Common.{sym, ◌∙◌}
-use Rattle.kube_types.specs.Keys.{same_key}
+use Rattle.kube_objects.specs.Keys.{same_key}
 use Rattle.sync_queue.proofs.KeyFacts.{key_is}
 use Rattle.sync_queue.proofs.MapPlaces.{entry_key}
 use Rattle.sync_queue.proofs.Places.{stands_at}

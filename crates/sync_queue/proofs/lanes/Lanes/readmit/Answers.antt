@@ -1,6 +1,6 @@
 use Rattle.std.proofs.Common.{◌≡◌, ◌<◌, Some, ap, subst, sym, length, ◌∙◌, arith}
 use Rattle.indexmap.specs.IndexMap.{get, keys}
-use Rattle.kube_types.specs.Keys.{same_key}
+use Rattle.kube_objects.specs.Keys.{same_key}
 use Rattle.sync_queue.specs.Steps.Lanes.{stage_in}
 use Rattle.sync_queue.proofs.PlaceMoves.{readmit-at}
 use Rattle.sync_queue.specs.declared.lanes.Stage.TheVariants.{Gone}
@@ -22,5 +22,20 @@ returns c =
     let kept = c.make_room.ensures.stages in
     let lt : i < length (keys w.stages) = subst (λ l. i < length (keys l)) (sym kept) c.requires.within in
     let gone : stage_in w (key_there (keys w.stages) i) ≡ Some Gone = subst (λ l. get same_key l (key_there (keys l) i) ≡ Some Gone) (sym kept) c.requires.gone in
-    let m = readmit-at (keys w.stages) (stage_in w) (get same_key c.set_stage.new.stages) w.waiting.items w.taken.items w.parked.items i lt s.lanes s.places.waiting s.places.taken s.places.parked _ set.keys set.set (away_gone _ gone) _ p.items in
-    record { sound = record { lanes = m.lanes; places = record { waiting = m.waiting; taken = m.taken; parked = m.parked }; room = record { waiting = omega (arith, p.len, p.capacity, r.waiting, r.taken, r.parked); taken = omega (arith, p.len, p.capacity, r.waiting, r.taken, r.parked); parked = omega (arith, p.len, p.capacity, r.waiting, r.taken, r.parked) } }; ok = m.work ∙ ap (queued (key_there (keys w.stages) i)) c.make_room.ensures.work ∙ ap (λ l. queued (key_there (keys l) i) (work_in c.args.self.now)) kept; err = tt }
+    let m = readmit-at (keys w.stages) (stage_in w)
+    (get same_key c.set_stage.new.stages) w.waiting.items w.taken.items w.parked.items i lt s.lanes s.places.waiting s.places.taken
+    s.places.parked _ set.keys set.set (away_gone _ gone) _ p.items in
+    record {
+      sound = record {
+        lanes = m.lanes;
+        places = record { waiting = m.waiting; taken = m.taken; parked = m.parked };
+        room = record {
+          waiting = omega (arith, p.len, p.capacity, r.waiting, r.taken, r.parked);
+          taken =
+              omega (arith, p.len, p.capacity, r.waiting, r.taken, r.parked);
+          parked = omega (arith, p.len, p.capacity, r.waiting, r.taken, r.parked);
+        };
+      };
+      ok = m.work ∙ ap (queued (key_there (keys w.stages) i)) c.make_room.ensures.work ∙ ap (λ l. queued (key_there (keys l) i) (work_in c.args.self.now)) kept;
+      err = tt;
+    }

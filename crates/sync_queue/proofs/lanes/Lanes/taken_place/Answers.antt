@@ -2,7 +2,7 @@ use Rattle.std.proofs.Common.{◌<◌, ap, subst, sym, ◌∙◌}
 use Rattle.std.specs.List.{list_any}
 use Rattle.std.proofs.lemmas.Option.{slice_get_read}
 use Rattle.indexmap.specs.IndexMap.{keys}
-use Rattle.kube_types.specs.Keys.{same_key}
+use Rattle.kube_objects.specs.Keys.{same_key}
 use Rattle.sync_queue.specs.Steps.Lanes.{is_again, keys_in, stage_in}
 use Rattle.sync_queue.proofs.MapPlaces.{any_there, below_at, length-keys_at, there_at}
 use Rattle.sync_queue.proofs.lanes.Lanes.taken_place.Goals as goal
@@ -23,4 +23,6 @@ returns-clause-taken c =
 pub returns-clause-again : goal.returns-clause-again
 returns-clause-again c =
     let l = c.args.self.now in
-    c.is_marked.ensures ∙ ap is_again (sym c.stage.ensures ∙ ap (stage_in l) (sym (there_at (keys l.stages) l.taken.items c.in_ok-at.at _ (slice_get_read l.taken.items l.taken.len c.in_ok-at.at _ l.taken.ok.0 c.in_ok-at.ensures.within c.index-place.ensures)) ∙ c.in_ok-at.ensures.key))
+    c.is_marked.ensures ∙ ap is_again (sym c.stage.ensures ∙ ap (stage_in l)
+    (sym (there_at (keys l.stages) l.taken.items c.in_ok-at.at _
+    (slice_get_read l.taken.items l.taken.len c.in_ok-at.at _ l.taken.ok.0 c.in_ok-at.ensures.within c.index-place.ensures)) ∙ c.in_ok-at.ensures.key))

@@ -1,6 +1,6 @@
 use Rattle.std.proofs.Common.{◌<◌, ap, arith, subst, ◌∙◌}
 use Rattle.indexmap.specs.IndexMap.{get, keys}
-use Rattle.kube_types.specs.Keys.{same_key}
+use Rattle.kube_objects.specs.Keys.{same_key}
 use Rattle.sync_queue.specs.Steps.Lanes.{stage_in}
 use Rattle.sync_queue.proofs.PlaceMoves.{unpark-at}
 use Rattle.sync_queue.specs.Steps.Lanes.{work_in}
@@ -19,5 +19,20 @@ returns-in-Some c =
     let set = c.set_stage.ensures in
     let p = c.put_last.ensures in
     let r = s.room in
-    let m = unpark-at (keys o.stages) (stage_in o) (get same_key c.set_stage.new.stages) o.waiting.items o.taken.items o.parked.items s.lanes s.places.waiting s.places.taken s.places.parked _ set.keys c.in-Some.at _ t.place (subst (λ n. c.in-Some.at < n) o.parked.ok.0 c.in-Some.ensures.within) set.set _ _ p.items t.items in
-    record { sound = record { lanes = m.lanes; places = record { waiting = m.waiting; taken = m.taken; parked = m.parked }; room = record { waiting = omega (arith, t.len, t.capacity, p.len, p.capacity, r.waiting, r.taken, r.parked); taken = omega (arith, t.len, t.capacity, p.len, p.capacity, r.waiting, r.taken, r.parked); parked = omega (arith, t.len, t.capacity, p.len, p.capacity, r.waiting, r.taken, r.parked) } }; work = m.work ∙ ap (λ k. queued k (unparked k (work_in o))) c.in-Some.ensures.key }
+    let m = unpark-at (keys o.stages) (stage_in o)
+    (get same_key c.set_stage.new.stages) o.waiting.items o.taken.items o.parked.items s.lanes s.places.waiting s.places.taken s.places.parked _
+    set.keys c.in-Some.at _ t.place (subst (λ n. c.in-Some.at < n) o.parked.ok.0 c.in-Some.ensures.within) set.set _ _ p.items t.items in
+    record {
+      sound = record {
+        lanes = m.lanes;
+        places = record { waiting = m.waiting; taken = m.taken; parked = m.parked };
+        room = record {
+          waiting = omega (arith, t.len, t.capacity, p.len, p.capacity, r.waiting, r.taken, r.parked);
+          taken =
+              omega (arith, t.len, t.capacity, p.len, p.capacity, r.waiting, r.taken, r.parked);
+          parked =
+              omega (arith, t.len, t.capacity, p.len, p.capacity, r.waiting, r.taken, r.parked);
+        };
+      };
+      work = m.work ∙ ap (λ k. queued k (unparked k (work_in o))) c.in-Some.ensures.key;
+    }

@@ -1,7 +1,7 @@
 use Rattle.std.proofs.Common.{None, ap, subst, sym, ◌∙◌}
 use Rattle.plain_data.proofs.RowFacts.{find_gap}
-use Rattle.kube_types.specs.Keys.{AreRows, IsRowGap, key_of, put_row}
-use Rattle.kube_types.proofs.KeyOrder.{key_cmp_total}
+use Rattle.kube_objects.specs.Keys.{AreRows, IsRowGap, key_of, put_row}
+use Rattle.kube_objects.proofs.KeyOrder.{key_cmp_total}
 use Rattle.version_store.specs.Steps.Starts.{AreStarts}
 use Rattle.version_store.proofs.RowChanges.{index_put, rows_inserted, rows_rise}
 use Rattle.version_store.proofs.object_map.ObjectMap.insert_at.Goals as goal

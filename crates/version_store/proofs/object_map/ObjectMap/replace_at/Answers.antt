@@ -1,7 +1,7 @@
 use Rattle.std.proofs.Common.{Some, sym, ap, ◌∙◌}
 use Rattle.plain_data.proofs.RowFacts.{find_at}
-use Rattle.kube_types.specs.Keys.{IsRowAt, key_of}
-use Rattle.kube_types.proofs.KeyOrder.{key_cmp_total}
+use Rattle.kube_objects.specs.Keys.{IsRowAt, key_of}
+use Rattle.kube_objects.proofs.KeyOrder.{key_cmp_total}
 use Rattle.version_store.proofs.KindStarts.{starts_replaced}
 use Rattle.version_store.proofs.RowChanges.{index_put, rows_replaced, rows_rise}
 use Rattle.version_store.proofs.object_map.ObjectMap.replace_at.Goals as goal
@@ -16,7 +16,8 @@ invariant_of-self-2 c =
     record {
       order = rows_rise rows _ o c.self.invariant.order put;
       starts = starts_replaced rows c.self.inside.starts o c.args.at at c.self.invariant.starts;
-      index = index_put c.self.inside.index c.follow.new.self rows _ (Some c.index.result.now) o c.in_ok-told.told c.follow.ensures.keeps c.self.invariant.order stood c.in_ok-told.ensures c.self.invariant.index put;
+      index = index_put c.self.inside.index c.follow.new.self rows _
+          (Some c.index.result.now) o c.in_ok-told.told c.follow.ensures.keeps c.self.invariant.order stood c.in_ok-told.ensures c.self.invariant.index put;
     }
 
 pub returns-clause-ok : goal.returns-clause-ok

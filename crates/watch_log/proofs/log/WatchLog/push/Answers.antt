@@ -5,7 +5,8 @@ use Rattle.watch_log.proofs.log.WatchLog.push.Goals as goal
 
 pub invariant_of-self : goal.invariant_of-self
 invariant_of-self c =
-    rw c.put_first.ensures.items (window_of_next c.self.inside.base c.self.inside.version c.args.event c.self.inside.events.items c.self.invariant (c.requires.next ∙ ap (λ l. l.version + 1) (sym c.self.view_is)))
+    rw c.put_first.ensures.items (window_of_next c.self.inside.base c.self.inside.version c.args.event c.self.inside.events.items c.self.invariant
+    (c.requires.next ∙ ap (λ l. l.version + 1) (sym c.self.view_is)))
 
 pub returns-clause-all : goal.returns-clause-all
 returns-clause-all c =

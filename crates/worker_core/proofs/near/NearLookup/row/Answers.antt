@@ -1,7 +1,7 @@
 use Rattle.std.proofs.Common.{ap, sym, ◌∙◌}
-use Rattle.kube_types.specs.Keys.{key_of, row_at}
-use Rattle.kube_types.proofs.RowPlaces.{row_at_place}
-use Rattle.kube_types.proofs.SameKeys.{same_key-Decides}
+use Rattle.kube_objects.specs.Keys.{key_of, row_at}
+use Rattle.kube_objects.proofs.RowPlaces.{row_at_place}
+use Rattle.kube_objects.proofs.SameKeys.{same_key-Decides}
 use Rattle.informer_cache.specs.All.{all_objects}
 use Rattle.worker_core.proofs.near.NearLookup.row.Goals as goal
 

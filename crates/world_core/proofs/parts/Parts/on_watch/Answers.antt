@@ -10,11 +10,13 @@ returns-in_ok-kept-in-Ok-clause-ok c =
 pub returns-in-Err-Ahead-clause-ok : goal.returns-in-Err-Ahead-clause-ok
 returns-in-Err-Ahead-clause-ok c =
     refuses c.args.self.now c.args.kind _ _ c.refuse.result
-    (watch_ahead c.args.self.now c.args.kind c.args.of c.args.from _ c.in-Err-Ahead.field-0 c.in-Err-Ahead.field-0-is (record { gone = c.in-Err-Ahead.ensures.gone; ahead = c.in-Err-Ahead.ensures.ahead; all = c.in-Err-Ahead.ensures.all; memory = c.in-Err-Ahead.ensures.memory }))
+    (watch_ahead c.args.self.now c.args.kind c.args.of c.args.from _ c.in-Err-Ahead.field-0 c.in-Err-Ahead.field-0-is
+    (record { gone = c.in-Err-Ahead.ensures.gone; ahead = c.in-Err-Ahead.ensures.ahead; all = c.in-Err-Ahead.ensures.all; memory = c.in-Err-Ahead.ensures.memory }))
     c.refuse.ensures.told c.refuse.ensures.kept
 
 pub returns-in-Err-Gone-clause-ok : goal.returns-in-Err-Gone-clause-ok
 returns-in-Err-Gone-clause-ok c =
     refuses c.args.self.now c.args.kind _ _ c.refuse-in-Err-Gone.result
-    (watch_gone c.args.self.now c.args.kind c.args.of c.args.from c.in-Err-Gone.oldest c.in-Err-Gone.field-0 c.in-Err-Gone.field-0-is (record { gone = c.in-Err-Gone.ensures.gone; ahead = c.in-Err-Gone.ensures.ahead; all = c.in-Err-Gone.ensures.all; memory = c.in-Err-Gone.ensures.memory }))
+    (watch_gone c.args.self.now c.args.kind c.args.of c.args.from c.in-Err-Gone.oldest c.in-Err-Gone.field-0 c.in-Err-Gone.field-0-is
+    (record { gone = c.in-Err-Gone.ensures.gone; ahead = c.in-Err-Gone.ensures.ahead; all = c.in-Err-Gone.ensures.all; memory = c.in-Err-Gone.ensures.memory }))
     c.refuse-in-Err-Gone.ensures.told c.refuse-in-Err-Gone.ensures.kept

@@ -57,4 +57,5 @@ returns-clause-does g c =
     let new = recursion_from_All (λ p. IsFirst c.args.shared.now c.args.made (number_of p) p) passes c.requires.new in
     let before = unused c.args.shared.now c.args.made x.part.first (lives_of x.part) passes new c.requires.needs.before_is in
     subst (λ (v : _). HasActed x.actor.role x.part c.args.self.calls (seats_of v.items)) (sym c.into_parts-lives.ensures.0)
-    (has_acted c.args.shared.now c.args.made x w.worked.player c.args.self.calls passes w.worked.lives.items c.requires.needs before w.ensures.lives w.ensures.many w.ensures.part w.ensures.held w.ensures.calls w.ensures.whole w.ensures.each w.ensures.actors)
+    (has_acted c.args.shared.now c.args.made x w.worked.player c.args.self.calls passes w.worked.lives.items c.requires.needs before w.ensures.lives
+    w.ensures.many w.ensures.part w.ensures.held w.ensures.calls w.ensures.whole w.ensures.each w.ensures.actors)

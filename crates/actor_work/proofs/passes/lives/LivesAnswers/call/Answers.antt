@@ -29,8 +29,11 @@ returns-clause-answered g c =
     let q = c.call.new.pass in
     let entry_at : ℕ → Entry = λ n. record { seat = n; kind = c.args.ask.now.kind; request = c.args.ask.now.request; reply = c.in_ok-reply.reply; told = c.args.told } in
     let life = life_there l.shared.now l.made l.first c.args.seat (c.args.seat - l.first) l.passes.items c.index_mut.result.now refl c.index_mut.ensures.value c.requires.serves in
-    let called = subst (λ n. HasCalled (setup_of l.shared.now) (entry_at n) p q) life.number c.in_ok-reply.ensures.called in
-    (refl, more_there l.shared.now l.made l.first c.args.seat (c.args.seat - l.first) l.passes.items c.index_mut.result.now refl c.index_mut.ensures.value c.requires.serves q (entry_at c.args.seat) c.requires.latest called.mine)
+    let called = subst (λ n. HasCalled (setup_of l.shared.now) (entry_at n) p q) life.number c.in_ok-reply.ensures.called in (
+      refl,
+      more_there l.shared.now l.made l.first c.args.seat
+          (c.args.seat - l.first) l.passes.items c.index_mut.result.now refl c.index_mut.ensures.value c.requires.serves q (entry_at c.args.seat) c.requires.latest called.mine,
+    )
 
 pub returns-clause-own : goal.returns-clause-own
 returns-clause-own g c =
@@ -40,7 +43,8 @@ returns-clause-own g c =
     let entry_at : ℕ → Entry = λ n. record { seat = n; kind = c.args.ask.now.kind; request = c.args.ask.now.request; reply = c.in_ok-reply.reply; told = c.args.told } in
     let life = life_there l.shared.now l.made l.first c.args.seat (c.args.seat - l.first) l.passes.items c.index_mut.result.now refl c.index_mut.ensures.value c.requires.serves in
     let called = subst (λ n. HasCalled (setup_of l.shared.now) (entry_at n) p q) life.number c.in_ok-reply.ensures.called in
-    own_after l.shared.now l.made l.first c.args.seat (c.args.seat - l.first) l.passes.items c.index_mut.result.now refl c.index_mut.ensures.value c.requires.serves q (entry_at c.args.seat) refl c.requires.latest called
+    own_after l.shared.now l.made l.first c.args.seat
+    (c.args.seat - l.first) l.passes.items c.index_mut.result.now refl c.index_mut.ensures.value c.requires.serves q (entry_at c.args.seat) refl c.requires.latest called
 
 pub returns-clause-serves : goal.returns-clause-serves
 returns-clause-serves g c =
@@ -50,7 +54,9 @@ returns-clause-serves g c =
     let entry_at : ℕ → Entry = λ n. record { seat = n; kind = c.args.ask.now.kind; request = c.args.ask.now.request; reply = c.in_ok-reply.reply; told = c.args.told } in
     let life = life_there l.shared.now l.made l.first c.args.seat (c.args.seat - l.first) l.passes.items c.index_mut.result.now refl c.index_mut.ensures.value c.requires.serves in
     let called = subst (λ n. HasCalled (setup_of l.shared.now) (entry_at n) p q) life.number c.in_ok-reply.ensures.called in
-    served_after l.shared.now l.made l.first c.args.seat (c.args.seat - l.first) l.passes.items c.index_mut.result.now refl c.index_mut.ensures.value c.requires.serves q (entry_at c.args.seat) refl c.in_ok-reply.ensures.pass c.in_ok-reply.ensures.numbers called
+    served_after l.shared.now l.made l.first c.args.seat
+    (c.args.seat - l.first) l.passes.items c.index_mut.result.now refl c.index_mut.ensures.value c.requires.serves q
+    (entry_at c.args.seat) refl c.in_ok-reply.ensures.pass c.in_ok-reply.ensures.numbers called
 
 pub returns-clause-orders : goal.returns-clause-orders
 returns-clause-orders g c =
@@ -66,4 +72,6 @@ pub returns-in_err-reply-clause-err : goal.returns-in_err-reply-clause-err
 returns-in_err-reply-clause-err g c =
     let l = c.args.self.now in
     on_err _ c.from_residual.result
-    (none_there l.shared.now l.made l.first c.args.seat (c.args.seat - l.first) l.passes.items c.index_mut.result.now refl c.index_mut.ensures.value c.requires.serves c.call.new.pass (ap (λ (w : Known Ask Reply Setup). entries w.own) c.in_err-reply.ensures.err))
+    (none_there l.shared.now l.made l.first c.args.seat
+    (c.args.seat - l.first) l.passes.items c.index_mut.result.now refl c.index_mut.ensures.value c.requires.serves c.call.new.pass
+    (ap (λ (w : Known Ask Reply Setup). entries w.own) c.in_err-reply.ensures.err))

@@ -1,0 +1,5 @@
+pub mod EmptyTexts
+pub mod KeyOrder
+pub mod KindRows
+pub mod RowPlaces
+pub mod SameKeys

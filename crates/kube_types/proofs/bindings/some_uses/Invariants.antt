@@ -1,8 +1,0 @@
-use Rattle.std.proofs.Common.{◌≡◌, drop}
-use Rattle.std.specs.List.{list_any}
-use Rattle.kube_types.specs.Bindings.{uses}
-use Rattle.kube_types.proofs.bindings.some_uses.Given as goal
-
--- what is to be found is still ahead
-abbrev pub invariant-loop-object : goal.invariant-loop-object
-invariant-loop-object l = list_any (uses l.claim) l.objects ≡ list_any (uses l.claim) (drop l.object-index l.objects)

@@ -1,5 +1,0 @@
-use Rattle.kube_types.proofs.PlacesBehind.{first_nth}
-use Rattle.kube_types.proofs.volume_places.nth.first_place.Goals as goal
-
-pub returns : goal.returns
-returns g c = first_nth (g.W.Wanted.test c.args.wanted.now) c.args.objects.now c.next_place.result c.next_place.ensures

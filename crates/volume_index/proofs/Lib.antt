@@ -1,0 +1,14 @@
+pub mod Follows
+pub mod HeldValues
+pub mod IndexRows
+pub mod IndexStands
+pub mod IndexStarts
+pub mod PlacesAlike
+pub mod PlacesBehind
+pub mod PlacesCounted
+pub mod PlacesKept
+pub mod PlacesOwned
+pub mod PlacesSized
+pub mod RowVolumes
+pub mod Scans
+pub mod VolumeOrders

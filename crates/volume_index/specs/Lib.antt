@@ -1,0 +1,6 @@
+pub mod IndexPlaces
+pub mod Keeping
+pub mod Steps
+pub mod VolumeIndex
+pub mod VolumeOrders
+pub mod VolumePlaces

@@ -1,0 +1,4 @@
+pub mod Edits
+pub mod IndexEdits
+pub mod Scan
+pub mod VolumePlaces
