@@ -6,6 +6,7 @@ use Rattle.call_types.specs.declared.reply.Change.TheVariants.{Added, Modified, 
 use Rattle.call_types.specs.declared.request.SeatKind.{SeatKind}
 use Rattle.call_types.specs.declared.request.SeatKind.TheVariants.{User, Binder, Ops, Scheduler, ClaimProtect, VolumeProtect, Agent}
 
+-- the word by which a kind of client is printed
 abbrev pub seat_word : SeatKind → List ℕ
 seat_word User = codes "User"
 seat_word Binder = codes "Binder"
@@ -15,6 +16,7 @@ seat_word ClaimProtect = codes "ClaimProtect"
 seat_word VolumeProtect = codes "VolumeProtect"
 seat_word Agent = codes "Agent"
 
+-- the word by which the change of an event is printed, as in a watch of Kubernetes
 abbrev pub change_word : Change → List ℕ
 change_word Added = codes "ADDED"
 change_word Modified = codes "MODIFIED"

@@ -20,23 +20,29 @@ pub record State : Type 0 where
   pub setup : Setup
   pub devices : Devices
 
+-- data as the definitions have them
 abbrev pub stored_data : StoredData → Data
 stored_data x = record { id = x.id; name = x.name; pool = x.pool; bytes = x.bytes; there = x.there }
 
 -- the nodes in the order of their names, none twice
 
+-- the name of a node that has mounts
 abbrev pub node_name : NodeRows → List ℕ
 node_name n = n.node
 
+-- nodes in the order of their names, each once
 abbrev pub AreNodes : List NodeRows → Type 0
 AreNodes ns = IsRising text_cmp node_name ns
 
+-- the node stands at this place
 abbrev pub IsNodeAt : List NodeRows → List ℕ → ℕ → Type 0
 IsNodeAt ns node i = IsAt text_cmp node_name node ns i
 
+-- the node is not there, and would stand at this place
 abbrev pub IsNodeGap : List NodeRows → List ℕ → ℕ → Type 0
 IsNodeGap ns node i = IsGap text_cmp node_name node ns i
 
+-- a mount of this node
 abbrev pub mount_at : List ℕ → MountRow → MountAt
 mount_at node row = record { node = node; row = row }
 
@@ -55,11 +61,13 @@ is_for_devices (Mount node epoch pod claims) = true
 is_for_devices (Unmount node epoch pod) = true
 is_for_devices _ = false
 
+-- the request goes to the back end that keeps data
 abbrev pub is_for_back_end : Request → Bool
 is_for_back_end (Provision name provisioner bytes labels) = true
 is_for_back_end (Erase id) = true
 is_for_back_end _ = false
 
+-- the request goes to the mounts of a node
 abbrev pub is_for_mounts : Request → Bool
 is_for_mounts (Mounts node epoch) = true
 is_for_mounts (Mount node epoch pod claims) = true
@@ -76,9 +84,11 @@ abbrev pub count_there : List Data → ℕ
 count_there [] = 0
 count_there (x ∷ xs) = if x.there then 1 + count_there xs else count_there xs
 
+-- how many mounts, data and calls there are
 abbrev pub counts : Devices → DeviceCounts
 counts d = record { mounted = length d.mounts; stored = count_there d.stored; calls = d.calls }
 
+-- the devices after one more call
 abbrev pub counted : Devices → Devices
 counted d = record d { calls = d.calls + 1 }
 

@@ -12,6 +12,7 @@ abbrev pub AreTold : List ToldPod → List Entry → Type 0
 AreTold [] mine = ⊤
 AreTold (t ∷ ts) mine = TellsAt mine t.place (Pod t.pod) × AreTold ts mine
 
+-- what the pages of pods were told of is what the entries told
 abbrev pub ArePods : List PodPage → List Entry → Type 0
 ArePods [] mine = ⊤
 ArePods (p ∷ ps) mine = AreTold p.told mine × ArePods ps mine

@@ -3,5 +3,6 @@
 use Rattle.kube_objects.specs.declared.key.Key.{Key}
 use Rattle.evidence_pages.specs.declared.parts.Parts.{Parts}
 
+-- the key that these parts make
 abbrev pub key_by : Parts → Key
 key_by p = record { kind = p.kind; namespace = p.namespace.now; name = p.name.now }

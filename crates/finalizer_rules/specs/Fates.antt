@@ -9,6 +9,7 @@ use Rattle.binder_model.specs.Fields.{adds_finalizer}
 use Rattle.finalizer_rules.specs.declared.Fate.{Fate}
 use Rattle.finalizer_rules.specs.declared.Fate.TheVariants.{Keep, Leave, AddedWhileDeleting}
 
+-- the object leaves, or is kept
 abbrev pub leave_if : Bool → Fate
 leave_if gone = if gone then Leave else Keep
 
@@ -16,6 +17,7 @@ leave_if gone = if gone then Leave else Keep
 unfoldable pub fate_on_delete : Object → ℕ → List ℕ → Fate
 fate_on_delete o version moment = leave_if (leaves_at_once o || leaves (marked_object o version moment))
 
+-- the object with these finalizers
 unfoldable pub with_finalizers : Object → List (List ℕ) → Object
 with_finalizers o finalizers = with_meta o (record (meta_of o) { finalizers = finalizers })
 

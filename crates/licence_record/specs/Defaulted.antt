@@ -20,6 +20,7 @@ pub record IsFirstMarked (mine : List Entry) (class : ClassData) : Type 0 where
   pub marked : is_default class ≡ true
   pub first : (other : ClassData) → IsToldClass mine other → is_default other ≡ true → class_cmp class other ≢ Greater
 
+-- the object is a class with this property
 abbrev pub IsClassWith : (ClassData → Type 0) → Object → Type 0
 IsClassWith P (Class x) = P x
 IsClassWith P _ = ⊥

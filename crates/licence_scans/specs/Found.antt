@@ -5,10 +5,12 @@ use Rattle.kube_objects.specs.declared.objects.Object.{Object}
 use Rattle.call_types.specs.declared.entry.Entry.{Entry}
 use Rattle.binder_model.specs.Told.{SomeOf, ToldObject}
 
+-- the object is among these, and the property holds of it
 pub record IsFound (P : Object → Type 0) (objects : List Object) (found : Object) : Type 0 where
   pub holds : P found
   pub among : SomeOf (λ x. x ≡ found) objects
 
+-- the client was told this object, and the property holds of it
 pub record IsToldFound (P : Object → Type 0) (mine : List Entry) (found : Object) : Type 0 where
   pub holds : P found
   pub told : ToldObject (λ x. x ≡ found) mine

@@ -8,6 +8,7 @@ use Rattle.kube_objects.specs.declared.key.Key.{Key}
 use Rattle.kube_objects.specs.declared.objects.Object.{Object}
 use Rattle.binder_model.specs.Told.{Telling}
 
+-- the key of this kind, namespace and name
 abbrev pub key_at : Kind → List ℕ → List ℕ → Key
 key_at kind namespace name = record { kind = kind; namespace = namespace; name = name }
 

@@ -7,6 +7,7 @@ use Rattle.kube_objects.specs.Keys.{AreRows}
 use Rattle.kube_types.specs.Defaults.{IsDefault, IsDefaultOf, StandsIn}
 use Rattle.binder_model.specs.Store.{default_class}
 
+-- the default class that is computed is the default of the rows that stand
 abbrev pub DefaultIsFound : Type 0
 DefaultIsFound = (rows : List Object) → AreRows rows → IsDefault (StandsIn rows) (default_class rows)
 

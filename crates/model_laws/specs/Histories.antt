@@ -44,6 +44,7 @@ abbrev pub given_by : Effect → Option Uid
 given_by (OnStore (Stores Added o)) = (meta_of o).uid
 given_by x = None
 
+-- the UID that an entry gave, if it created an object
 abbrev pub given_uid : Setup → Entry → List Entry → Option Uid
 given_uid setup e past = given_by (effect setup (world setup past) e.kind e.request)
 

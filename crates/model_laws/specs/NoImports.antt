@@ -13,9 +13,11 @@ use Rattle.binder_model.specs.Watching.{window, oldest}
 use Rattle.binder_model.specs.World.{World, base, world}
 use Rattle.binder_model.specs.Safe.{Counts, was_imported_as_lost}
 
+-- the world before the first call where nothing was imported
 abbrev pub empty_world : World
 empty_world = record { store = record { rows = []; version = 0 }; moment = first_moment; log = []; devices = no_devices }
 
+-- with no imports the first world is empty, watches reach as far back as the window, and no claim was imported as Lost
 pub record SaysAsBefore (setup : Setup) : Type 0 where
   pub passes : ImportsPass setup.imports
   pub begins : world setup [] ≡ empty_world
@@ -24,5 +26,6 @@ pub record SaysAsBefore (setup : Setup) : Type 0 where
   pub none_lost : (uid : Option Uid) → was_imported_as_lost setup uid ≡ false
   pub counts : (past : List Entry) (claim : ClaimData) → is_completed claim ≡ true → Counts setup past claim
 
+-- so it is of each setup without imports
 abbrev pub NoImportsSayAsBefore : Type 0
 NoImportsSayAsBefore = (setup : Setup) → setup.imports ≡ [] → SaysAsBefore setup

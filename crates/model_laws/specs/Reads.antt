@@ -30,6 +30,7 @@ found (Some o) = Found o
 abbrev pub GetsTellWhatStands : Type 0
 GetsTellWhatStands = (setup : Setup) (w : World) (kind : SeatKind) (key : Key) → reply_to (effect setup w kind (Get key)) ≡ found (row_at key w.store.rows)
 
+-- the object is in the namespace, or none was asked for
 abbrev pub fits_namespace : Option (List ℕ) → Object → Bool
 fits_namespace None o = true
 fits_namespace (Some namespace) o = is_in_namespace namespace o
@@ -40,6 +41,7 @@ pub record TellsRows (w : World) (of_kind : Kind) (namespace : Option (List ℕ)
   pub stands : (o : Object) → SomeOf (λ x. x ≡ o) items → row_at (key_of o) w.store.rows ≡ Some o
   pub listed : (o : Object) → row_at (key_of o) w.store.rows ≡ Some o → is_of_kind of_kind o ≡ true → fits_namespace namespace o ≡ true → SomeOf (λ x. x ≡ o) items
 
+-- a List is answered with the objects of its kind and namespace that stand, and with the store's version
 abbrev pub ListsTellWhatStands : Type 0
 ListsTellWhatStands =
     (setup : Setup) (w : World) (kind : SeatKind) (of_kind : Kind) (namespace : Option (List ℕ)) → AreRows w.store.rows
@@ -66,6 +68,7 @@ pub record GivesData (w : World) (x : Effect) (id : DataId) : Type 0 where
   pub named : given.id ≡ id
   pub added : (world_after w x).devices.stored ≡ given ∷ w.devices.stored
 
+-- what an entry's request comes to after the entries before it
 abbrev pub effect_of : Setup → Entry → List Entry → Effect
 effect_of setup e past = effect setup (world setup past) e.kind e.request
 

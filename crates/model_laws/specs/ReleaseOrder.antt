@@ -15,6 +15,7 @@ use Rattle.binder_model.specs.ObjectKeys.{claim_key, volume_key}
 use Rattle.binder_model.specs.Licence.{Licensed}
 use Rattle.model_laws.specs.Worked.{bound_a}
 
+-- the binder read a claim and was told that it is not there
 abbrev pub read_gone : Entry
 read_gone = record {
   seat = 5;
@@ -24,6 +25,7 @@ read_gone = record {
   told = true;
 }
 
+-- then the binder listed the volumes, among them the one bound to that claim
 abbrev pub told_volume : Entry
 told_volume = record {
   seat = 5;
@@ -33,6 +35,7 @@ told_volume = record {
   told = true;
 }
 
+-- the binder writes the phase Released
 abbrev pub release : Request
 release = requests.UpdateStatus (volume_key (codes "a")) (statuses.Volume volumes.Released) (Some 5)
 

@@ -25,6 +25,7 @@ pub record IsSameButCalls (old new : World) : Type 0 where
   pub log : new.log ≡ old.log
   pub devices : AreSameButCalls old.devices new.devices
 
+-- a refused request leaves the world as it was, but for the count of calls
 abbrev pub RefusalsChangeNothing : Type 0
 RefusalsChangeNothing =
     (setup : Setup) (w : World) (kind : SeatKind) (request : Request) (refusal : Refusal)
@@ -45,6 +46,7 @@ pub record WritesOnce (old new : World) (reply : Reply) : Type 0 where
   pub next : (meta_of event.object).version ≡ old.store.version + 1
   pub told : (reply ≡ Done event.object) ⊎ (reply ≡ Left event.object)
 
+-- each request leaves the store as it was, or is one write that raises its version by one
 abbrev pub VersionsCountWrites : Type 0
 VersionsCountWrites =
     (setup : Setup) (w : World) (kind : SeatKind) (request : Request)

@@ -37,13 +37,16 @@ use Rattle.binder_model.specs.BinderDue.{binder_due}
 use Rattle.binder_model.specs.Matching.{eligible, match_cmp}
 use Rattle.binder_model.specs.World.{World, first_world, effect, reply_to, world_after}
 
+-- a setup with no pools, no planned faults and no imports
 abbrev pub no_setup : Setup
 no_setup = record { pools = []; faults = []; imports = [] }
 
+-- a request and the kind of client that makes it
 pub record Call : Type 0 where
   pub kind : SeatKind
   pub request : Request
 
+-- this kind of client makes this request
 abbrev pub by : SeatKind → Request → Call
 by kind request = record { kind = kind; request = request }
 
@@ -52,21 +55,26 @@ abbrev pub world_of : World → List Call → World
 world_of w [] = w
 world_of w (c ∷ cs) = world_of (world_after w (effect no_setup w c.kind c.request)) cs
 
+-- the replies to some calls, one after the other
 abbrev pub answers : World → List Call → List Reply
 answers w [] = []
 answers w (c ∷ cs) = reply_to (effect no_setup w c.kind c.request) ∷ answers (world_after w (effect no_setup w c.kind c.request)) cs
 
 -- manifests
 
+-- the metadata of an object before it was created: a namespace and a name
 abbrev pub named : List ℕ → List ℕ → Meta
 named namespace name = record { namespace = namespace; name = name; uid = None; version = 0; created = []; deleted = None; labels = []; annotations = []; finalizers = [] }
 
+-- the access modes with ReadWriteOnce alone
 abbrev pub once : Modes
 once = record no_modes { rwo = true }
 
+-- so many gibibytes
 abbrev pub amount : ℕ → Amount
 amount gibibytes = record { text = codes "n"; bytes = gibibytes * 2 ^ 30 }
 
+-- a volume of this name and size, as a user creates it
 abbrev pub volume : List ℕ → ℕ → VolumeData
 volume name size = record {
   meta = named [] name;
@@ -82,6 +90,7 @@ volume name size = record {
   phase = volumes.Pending;
 }
 
+-- a claim of this name and size, as a user creates it
 abbrev pub claim : List ℕ → ℕ → ClaimData
 claim name size = record {
   meta = named (codes "default") name;
@@ -99,14 +108,17 @@ claim name size = record {
 
 -- as the store keeps them
 
+-- the metadata of an object that was created: its UID, version and finalizer
 abbrev pub stands : Meta → ℕ → ℕ → List ℕ → List Pair → Meta
 stands m serial version finalizer annotations =
     record m { uid = Some (uid_of_serial serial); version = version; created = first_moment; annotations = annotations; finalizers = finalizer ∷ [] }
 
+-- a volume that stands: its name, size, serial number, version and phase
 abbrev pub volume_at : List ℕ → ℕ → ℕ → ℕ → VolumePhase → VolumeData
 volume_at name size serial version phase =
     let v = volume name size in record v { meta = stands v.meta serial version pv_protection []; phase = phase }
 
+-- a claim that stands: its name, size, serial number and version
 abbrev pub claim_at : List ℕ → ℕ → ℕ → ℕ → ClaimData
 claim_at name size serial version = let c = claim name size in record c { meta = stands c.meta serial version pvc_protection [] }
 
@@ -122,15 +134,18 @@ volume_for v c version phase = record v {
 abbrev pub a : ℕ → VolumePhase → VolumeData
 a version phase = volume_at (codes "a") 5 1 version phase
 
+-- the claim of this example at a version
 abbrev pub c : ℕ → ClaimData
 c version = claim_at (codes "c") 3 2 version
 
+-- that claim after its binding was completed
 abbrev pub completed_c : ℕ → ClaimData
 completed_c version = let old = c 2 in record old {
   meta = record old.meta { version = version; annotations = (bind_completed, yes) ∷ (bound_by_controller, yes) ∷ [] };
   volume_name = codes "a";
 }
 
+-- a user creates the volume and then the claim
 abbrev pub creates : List Call
 creates = by seats.User (requests.Create (Volume (volume (codes "a") 5))) ∷ by seats.User (requests.Create (Claim (claim (codes "c") 3))) ∷ []
 
@@ -141,12 +156,15 @@ binding_of_volume =
     ∷ by seats.Binder (write_reference (a 3 volumes.Available) (c 2))
     ∷ by seats.Binder (write_bound (volume_for (a 1 volumes.Pending) (c 2) 4 volumes.Available)) ∷ []
 
+-- the volume, Bound to the claim
 abbrev pub bound_a : VolumeData
 bound_a = volume_for (a 1 volumes.Pending) (c 2) 5 volumes.Bound
 
+-- the two writes of the binder that complete the claim
 abbrev pub binding_of_claim : List Call
 binding_of_claim = by seats.Binder (write_completion bound_a (c 2)) ∷ by seats.Binder (write_claim_status bound_a (completed_c 6)) ∷ []
 
+-- the claim, Bound
 abbrev pub bound_c : ClaimData
 bound_c = let done = completed_c 7 in record done { phase = claims.Bound; got_modes = once; got = Some (amount 5) }
 
@@ -157,6 +175,7 @@ pub record IsFirstRun (w : World) : Type 0 where
   pub volume_due : binder_due w.store.rows (Volume bound_a) ≡ None
   pub claim_due : binder_due w.store.rows (Claim bound_c) ≡ None
 
+-- what a first run comes to: two creations and a binding
 abbrev pub FirstRun : Type 0
 FirstRun = IsFirstRun (world_of (first_world no_setup) (creates ++ binding_of_volume ++ binding_of_claim))
 
@@ -164,12 +183,15 @@ FirstRun = IsFirstRun (world_of (first_world no_setup) (creates ++ binding_of_vo
 abbrev pub leaving_c : ClaimData
 leaving_c = let old = c 2 in record old { meta = record old.meta { version = 6; deleted = Some first_moment; finalizers = [] } }
 
+-- the claim without its finalizer
 abbrev pub left_c : ClaimData
 left_c = record leaving_c { meta = record leaving_c.meta { version = 7 } }
 
+-- the claim, marked for deletion
 abbrev pub deleted_c : ClaimData
 deleted_c = let old = c 2 in record old { meta = record old.meta { version = 6; deleted = Some first_moment } }
 
+-- where the claim leaves between two writes of the binder, the next write is answered NotFound
 abbrev pub ClaimGoneBetweenWrites : Type 0
 ClaimGoneBetweenWrites =
     answers (world_of (first_world no_setup) (creates ++ binding_of_volume))
@@ -189,9 +211,11 @@ TwoClaimsOneVolume =
 abbrev pub key_a : Key
 key_a = volume_key (codes "a")
 
+-- the volume, marked for deletion
 abbrev pub deleted_a : ℕ → List (List ℕ) → VolumeData
 deleted_a version finalizers = let old = a 1 volumes.Pending in record old { meta = record old.meta { version = version; deleted = Some first_moment; finalizers = finalizers } }
 
+-- a volume that is marked for deletion may be deleted again, and takes no new owner
 abbrev pub DeletedVolumeRefuses : Type 0
 DeletedVolumeRefuses =
     answers (first_world no_setup)
@@ -224,9 +248,11 @@ GuardOnAnnotations =
 abbrev pub at_600 : World
 at_600 = record (first_world no_setup) { store = record { rows = []; version = 600 } }
 
+-- the binder watches volumes from a version on
 abbrev pub watching : ℕ → Call
 watching from = by seats.Binder (requests.Watch kinds.PersistentVolume from)
 
+-- a watch from before the window is Gone, one from the last version has no events, one from a later version is refused
 abbrev pub Watches : Type 0
 Watches =
     answers at_600 (watching 3 ∷ watching 87 ∷ watching 88 ∷ watching 601 ∷ [])
@@ -244,9 +270,11 @@ pub record IsTieByName : Type 0 where
 abbrev pub m1 : VolumeData
 m1 = let v = volume_at (codes "m1") 1 1 1 volumes.Available in record v { modes = record once { rox = true; rwx = true } }
 
+-- a second volume, with fewer access modes and more bytes
 abbrev pub m2 : VolumeData
 m2 = volume_at (codes "m2") 5 2 2 volumes.Available
 
+-- of two volumes that serve a claim, fewer access modes come before fewer bytes
 pub record IsModesBeforeSize : Type 0 where
   pub both : eligible m1 (claim (codes "c") 1) None ≡ true
   pub modes_first : match_cmp (claim (codes "c") 1) m2 m1 ≡ Less

@@ -39,6 +39,7 @@ pub record IsWindow (base version : ℕ) (events : List Event) : Type 0 where
   pub last : AreLast version events
   pub count : length events ≡ min window (version - base)
 
+-- the event is about an object of this kind
 abbrev pub is_event_of : Kind → Event → Bool
 is_event_of kind e = is_of_kind kind e.object
 

@@ -12,6 +12,7 @@ use Rattle.binder_model.specs.Promises.{most_entries}
 use Rattle.world_core.specs.declared.parts.Parts.{Parts}
 use Rattle.world_core.specs.Moves.{AreOf}
 
+-- the setup and the entries of a history, and the room for more
 pub record History : Type 0 where
   pub setup : Setup
   -- the entries, the newest first

@@ -48,6 +48,7 @@ event_of (Says reply) = None
 event_of (Stores change o) = Some (record { change = change; object = o; version = (meta_of o).version })
 event_of (Removes o) = Some (record { change = Deleted; object = o; version = (meta_of o).version })
 
+-- the events, with one more if there is one
 abbrev pub with_event : Option Event → List Event → List Event
 with_event None events = events
 with_event (Some e) events = e ∷ events

@@ -41,6 +41,7 @@ topic_cmp a b = ordering_then (ordering_then (nat_cmp (matter_index a.matter) (m
 abbrev pub about_key : Matter → Key → Topic
 about_key matter key = record { matter = matter; key = key; uid = record { 0 = 0 } }
 
+-- the topic of an object by its kind, namespace and name
 abbrev pub about_object : Matter → Kind → List ℕ → List ℕ → Topic
 about_object matter kind namespace name = about_key matter (record { kind = kind; namespace = namespace; name = name })
 
@@ -60,17 +61,21 @@ about_data matter id = about_object matter kinds.PersistentVolume id.driver id.i
 abbrev pub about_all : Matter → Topic
 about_all matter = about_object matter kinds.Pod [] []
 
+-- the topic that these parts make
 abbrev pub topic_by : About → Topic
 topic_by a = record { matter = a.matter; key = record { kind = a.kind; namespace = a.namespace.now; name = a.name.now }; uid = a.uid }
 
+-- the topic of an answer that gave the node's epoch
 abbrev pub taken_topic : List ℕ → Reply → Option Topic
 taken_topic node (replies.Epoch epoch) = Some (about_name matters.Taken node)
 taken_topic node reply = None
 
+-- the topic of an answer to a List
 abbrev pub listed_topic : Reply → Option Topic
 listed_topic (replies.Listed items version) = Some (about_all matters.Listed)
 listed_topic reply = None
 
+-- the topic of an answer that told the node's mounts
 abbrev pub rows_topic : List ℕ → Reply → Option Topic
 rows_topic node (replies.Mounted rows) = Some (about_name matters.Rows node)
 rows_topic node reply = None
@@ -102,10 +107,12 @@ abbrev pub found_topic : Reply → Option Topic
 found_topic (replies.Found o) = object_topic o
 found_topic reply = None
 
+-- the entry's topic is this one
 abbrev pub is_about : Topic → Option Topic → Bool
 is_about t None = false
 is_about t (Some u) = is_eq (topic_cmp u t)
 
+-- the topic, where the answer was told
 abbrev pub if_told : Bool → Option Topic → Option Topic
 if_told told topic = if told then topic else None
 

@@ -20,6 +20,7 @@ use Rattle.binder_model.specs.Reading.{FoundNaming}
 use Rattle.evidence_agent.specs.declared.pods.ToldPod.{ToldPod}
 use Rattle.evidence_agent.specs.Places.Steps.Since.{Above, IsPodList, IsQuietBehind, Since, StandsAt, gets, mounts, takes, tells_unmounted}
 
+-- the key of this kind, namespace and name
 abbrev pub key_with_parts : Kind → List ℕ → List ℕ → Key
 key_with_parts kind namespace name = record { kind = kind; namespace = namespace; name = name }
 

@@ -11,6 +11,7 @@ abbrev pub list_version : Following → Option ℕ
 list_version Unlisted = None
 list_version (ListedAt version reached) = Some version
 
+-- the version of the last list of a kind, if there is one
 abbrev pub version_in : Lists → Kind → Option ℕ
 version_in x kinds.StorageClass = x.classes
 version_in x kinds.Node = x.nodes
@@ -18,5 +19,6 @@ version_in x kinds.PersistentVolume = x.volumes
 version_in x kinds.PersistentVolumeClaim = x.claims
 version_in x kinds.Pod = x.pods
 
+-- these are the versions of the last lists among the entries
 abbrev pub AreListsOf : Lists → List Entry → Type 0
 AreListsOf x mine = (kind : Kind) → version_in x kind ≡ list_version (following_of mine kind)

@@ -15,6 +15,7 @@ use Rattle.binder_model.specs.World.{effect}
 use Rattle.kube_parts.specs.declared.uid.Uid.{Uid}
 use Rattle.binder_model.specs.AgentLicence.{is_of_epoch, lacks_pod, has_row}
 
+-- the mount is among these
 abbrev pub MountIn : MountAt → List MountAt → Type 0
 MountIn m ms = SomeOf (λ x. x ≡ m) ms
 

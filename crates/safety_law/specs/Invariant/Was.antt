@@ -86,6 +86,7 @@ pub record VolumeStep (setup : Setup) (past : List Entry) (old new : VolumeData)
   -- what is ended with policy Delete keeps its reference with a UID, and both
   pub lasts : (r : Ref) (uid : Uid) → Refers old r uid → is_ended old.phase ≡ true → is_delete old.policy ≡ true → IsFinal r new
 
+-- what holds of a volume that is created
 pub record VolumeStart (setup : Setup) (past : List Entry) (new : VolumeData) : Type 0 where
   pub pending : new.phase ≡ volumes.Pending
   pub refers : (r : Ref) (uid : Uid) → Refers new r uid → WasNamed setup past r uid
@@ -102,22 +103,26 @@ pub record PodStep (old new : PodData) : Type 0 where
   pub placed : is_scheduled old ≡ true → new.node ≡ old.node
   pub claims : new.claims ≡ old.claims
 
+-- how a claim may change in one write
 pub record ClaimStep (setup : Setup) (past : List Entry) (old new : ClaimData) : Type 0 where
   -- what is completed was so, or a Bound volume carried it
   pub completed : is_completed new ≡ true → (is_completed old ≡ true) ⊎ WasBound setup past new
   -- what is without its guard was so, or a seat has the evidence to drop it
   pub loose : is_protected_claim new ≡ false → (is_protected_claim old ≡ false) ⊎ Unguards past old
 
+-- what holds of a claim that is created
 pub record ClaimStart (setup : Setup) (past : List Entry) (new : ClaimData) : Type 0 where
   pub fresh : is_completed new ≡ false
   pub guarded : is_protected_claim new ≡ true
 
+-- how an object of each kind may change in one write
 abbrev pub KindStep : Setup → List Entry → Object → Object → Type 0
 KindStep setup past (Volume a) (Volume b) = VolumeStep setup past a b
 KindStep setup past (Claim a) (Claim b) = ClaimStep setup past a b
 KindStep setup past (Pod a) (Pod b) = PodStep a b
 KindStep setup past a b = ⊤
 
+-- what holds of an object of each kind that is created
 abbrev pub KindStart : Setup → List Entry → Object → Type 0
 KindStart setup past (Volume v) = VolumeStart setup past v
 KindStart setup past (Claim c) = ClaimStart setup past c
@@ -129,6 +134,7 @@ pub record Starts (setup : Setup) (past : List Entry) (new : Object) : Type 0 wh
   pub first : IsFirst (world setup past).store new
   pub start : KindStart setup past new
 
+-- the object stood before the write, and changed as its kind may
 pub record Follows (setup : Setup) (past : List Entry) (new : Object) : Type 0 where
   pub old : Object
   pub next : IsNext (world setup past).store old new

@@ -12,6 +12,7 @@ use Rattle.call_types.specs.declared.request.SeatKind.{SeatKind}
 use Rattle.call_types.specs.declared.request.Request.{Request}
 use Rattle.safety_law.specs.Invariant.Writes.{WriteOf}
 
+-- the object was created by this write: its key was free, and its UID and version are new
 pub record IsFirst (s : State) (o : Object) : Type 0 where
   pub free : row_at (key_of o) s.rows ≡ None
   pub uid : (meta_of o).uid ≡ Some (uid_of_serial (s.version + 1))
@@ -23,16 +24,19 @@ pub record Keeps (old new : Object) : Type 0 where
   pub named : NamesOnce old new
   pub deleting : is_deleting (meta_of old) ≡ true → is_deleting (meta_of new) ≡ true
 
+-- the object is what an older one became by this write
 pub record IsNext (s : State) (old o : Object) : Type 0 where
   pub there : row_at (key_of o) s.rows ≡ Some old
   pub key : key_of o ≡ key_of old
   pub keeps : Keeps old o
   pub version : (meta_of o).version ≡ s.version + 1
 
+-- some older object became it
 pub record HasOld (s : State) (o : Object) : Type 0 where
   pub old : Object
   pub next : IsNext s old o
 
+-- an object that was written was created, or was another before
 abbrev pub Whence : State → Object → Type 0
 Whence s o = IsFirst s o ⊎ HasOld s o
 

@@ -28,6 +28,7 @@ pub record IsCreate (s : State) (kind : SeatKind) (moment : List ℕ) (new o : O
   pub fault : create_fault (lacks_node new s.rows) new ≡ None
   pub is : o ≡ created_object (class_name (default_class s.rows)) new (s.version + 1) moment
 
+-- an Update that was done: version, guard and fields passed
 pub record IsUpdate (s : State) (kind : SeatKind) (new : Object) (given : Option ℕ) (o : Object) : Type 0 where
   pub old : Object
   pub there : row_at (key_of new) s.rows ≡ Some old
@@ -41,6 +42,7 @@ pub record IsEdit (s : State) (kind : SeatKind) (o : Object) : Type 0 where
   pub new : Object
   pub update : IsUpdate s kind new None o
 
+-- a write of a status that was done
 pub record IsStatus (s : State) (kind : SeatKind) (key : Key) (status : NewStatus) (given : Option ℕ) (o : Object) : Type 0 where
   pub old : Object
   pub there : row_at key s.rows ≡ Some old
@@ -50,6 +52,7 @@ pub record IsStatus (s : State) (kind : SeatKind) (key : Key) (status : NewStatu
   pub fits : with_status status old ≡ Some new
   pub is : o ≡ at_version new (s.version + 1)
 
+-- a Delete that marked an object
 pub record IsMark (s : State) (moment : List ℕ) (key : Key) (given : Option Uid) (o : Object) : Type 0 where
   pub old : Object
   pub there : row_at key s.rows ≡ Some old
@@ -57,6 +60,7 @@ pub record IsMark (s : State) (moment : List ℕ) (key : Key) (given : Option Ui
   pub first : (leaves_at_once old ≡ true) ⊎ (is_deleting (meta_of old) ≡ false)
   pub is : o ≡ marked_object old (s.version + 1) moment
 
+-- a pod was given its node
 pub record IsBind (s : State) (kind : SeatKind) (key : Key) (uid : Uid) (node : List ℕ) (o : Object) : Type 0 where
   pub pod : PodData
   pub there : row_at key s.rows ≡ Some (Pod pod)
@@ -65,6 +69,7 @@ pub record IsBind (s : State) (kind : SeatKind) (key : Key) (uid : Uid) (node : 
   pub unscheduled : is_scheduled pod ≡ false
   pub is : o ≡ at_version (Pod (record pod { node = node })) (s.version + 1)
 
+-- an agent finished a pod of its node
 pub record IsFinish (s : State) (kind : SeatKind) (key : Key) (uid : Uid) (node : List ℕ) (stale : Option ℕ) (o : Object) : Type 0 where
   pub pod : PodData
   pub there : row_at key s.rows ≡ Some (Pod pod)
@@ -106,6 +111,7 @@ abbrev pub is_watch : Request → Bool
 is_watch (requests.Watch k from) = true
 is_watch request = false
 
+-- the object is among these
 abbrev pub IsIn : Object → List Object → Type 0
 IsIn o os = SomeOf (λ x. x ≡ o) os
 

@@ -40,6 +40,7 @@ pub record StandsOn (w : World) (p : PodData) : Type 0 where
   pub node : pod.node ≡ p.node
   pub claims : pod.claims ≡ p.claims
 
+-- the UID is among these
 abbrev pub UidIn : Uid → List Uid → Type 0
 UidIn u us = SomeOf (λ x. x ≡ u) us
 

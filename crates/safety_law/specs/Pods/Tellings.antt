@@ -15,6 +15,7 @@ use Rattle.binder_model.specs.Licence.{Licensed}
 use Rattle.binder_model.specs.Told.{objects_in}
 use Rattle.binder_model.specs.World.{effect, reply_to, world}
 
+-- the object is a pod
 abbrev pub is_pod : Object → Bool
 is_pod (Pod p) = true
 is_pod o = false

@@ -11,11 +11,13 @@ use Rattle.binder_model.specs.Answers.{Outcome, Says, Stores, Removes, is_in_nam
 use Rattle.version_store.specs.declared.outcome.Made.{Made}
 use Rattle.version_store.specs.declared.outcome.Made.TheVariants as made
 
+-- what a verb made, as the definitions name it
 abbrev pub outcome_of : Made → Outcome
 outcome_of (made.Says reply) = Says reply
 outcome_of (made.Stores change o) = Stores change o
 outcome_of (made.Removes o) = Removes o
 
+-- the store with these objects at this version
 abbrev pub state_of : List Object → ℕ → State
 state_of rows version = record { rows = rows; version = version }
 

@@ -4,6 +4,7 @@ use Rattle.kube_objects.specs.declared.objects.Meta.{Meta}
 use Rattle.version_store.specs.declared.metadata.MetaChange.{MetaChange}
 use Rattle.version_store.specs.declared.metadata.MetaChange.TheVariants as changes
 
+-- the metadata after one change of it
 abbrev pub changed_meta : MetaChange → Meta → Meta
 changed_meta (changes.Version version) m = record m { version = version }
 changed_meta (changes.Deletion version moment) m = record m { version = version; deleted = Some moment }

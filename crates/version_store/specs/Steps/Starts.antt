@@ -11,6 +11,7 @@ pub record BeginsAt (index : ℕ) (rows : List Object) (start : ℕ) : Type 0 wh
   pub within : start ≤ length rows
   pub begins : IsKindStart index rows start
 
+-- where the objects of each kind begin
 pub record AreStarts (rows : List Object) (s : Starts) : Type 0 where
   pub nodes : BeginsAt 1 rows s.nodes
   pub volumes : BeginsAt 2 rows s.volumes

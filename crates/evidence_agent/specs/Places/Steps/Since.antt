@@ -49,6 +49,7 @@ gets key e = e.told && is_get_of key e.request
 abbrev pub finishes : Uid → Entry → Bool
 finishes pod e = is_finish_of pod e.request
 
+-- the entry is a Mount of this pod
 abbrev pub mounts : Uid → Entry → Bool
 mounts pod e = is_mount_of pod e.request
 

@@ -1,7 +1,7 @@
 use Rattle.std.proofs.Common.{◌∙◌, sym}
 use Rattle.std.specs.Option.{option_copied}
 use Rattle.volume_index.proofs.Follows.{keeps_on}
-use Rattle.volume_index.proofs.KeptIndex.follow.Goals as goal
+use Rattle.volume_index.proofs.kept.KeptIndex.follow.Goals as goal
 
 pub returns-in-Ok-clause-keeps : goal.returns-in-Ok-clause-keeps
 returns-in-Ok-clause-keeps c =
