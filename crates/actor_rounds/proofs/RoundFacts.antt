@@ -156,7 +156,7 @@ EachBelow n Q ds past = (place : ℕ) (d : Drainer) → place < n → slice_get 
 abbrev pub IsIdleAt : ActorState → List Entry → Type 0
 IsIdleAt s mine = MayBeIdle s.role s.memory mine
 
-seat_at : (ds : List Drainer) (i : ℕ) (d : Drainer) → slice_get ds i ≡ Some d → slice_get (seats_of ds) i ≡ Some d.seat
+pub seat_at : (ds : List Drainer) (i : ℕ) (d : Drainer) → slice_get ds i ≡ Some d → slice_get (seats_of ds) i ≡ Some d.seat
 seat_at ds i d at = slice_get-map (λ (x : Drainer). x.seat) ds i ∙ ap (option_map (λ (x : Drainer). x.seat)) at
 
 some_is : {X : Type 0} (a b : X) → Some a ≡ Some b → a ≡ b

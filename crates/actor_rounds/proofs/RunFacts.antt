@@ -34,6 +34,7 @@ use Rattle.actor_rounds.specs.Calling.{CameTo}
 use Rattle.actor_rounds.specs.Longer.{GrowsWithin, HasGrown, IsLonger, users_of}
 use Rattle.actor_rounds.specs.Rounds.{Asks, IsHeld, IsIdle, IsReady, IsSpent, Lets, Runs, all_pass, told_entry}
 use Rattle.actor_rounds.proofs.Entries.{grown_more, longer_then, not_longer, not_within, one_longer, one_within, users_as_before, within_more, within_then}
+use Rattle.worker_core.proofs.Answered.{turn_role}
 
 -- a turn leaves the actor what it is, and what it remembers
 
@@ -59,9 +60,6 @@ kept_by s new answer false None None None None x = kept_after_keys s new answer 
 
 turn_keeps : (s new : ActorState) (answer : Next) → IsTurn s new answer → kept new ≡ kept s
 turn_keeps s new answer turn = kept_by s new answer s.memory.stale s.under (start_call s.role s.memory) (unlisted s) (passing s) turn
-
-pub turn_role : (s new : ActorState) (answer : Next) → IsTurn s new answer → new.role ≡ s.role
-turn_role s new answer turn = ap (λ (k : Kept). k.0) (turn_keeps s new answer turn)
 
 pub turn_memory : (s new : ActorState) (answer : Next) → IsTurn s new answer → new.memory ≡ s.memory
 turn_memory s new answer turn = ap (λ (k : Kept). k.1) (turn_keeps s new answer turn)

@@ -148,7 +148,7 @@ follow_due role key built s before since (Resumes old turned earlier made played
 
 -- keys that a list or a watch brought since
 
-never_empty : (later earlier : List Call) (e : Entry) → [] ≡ later ++ (Some e ∷ earlier) → ⊥
+pub never_empty : (later earlier : List Call) (e : Entry) → [] ≡ later ++ (Some e ∷ earlier) → ⊥
 never_empty [] earlier e is = no_list (Some e) earlier is
 never_empty (c ∷ later) earlier e is = no_list c (later ++ (Some e ∷ earlier)) is
 

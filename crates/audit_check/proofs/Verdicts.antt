@@ -14,12 +14,9 @@ use Rattle.audit_check.specs.declared.verdict.Verdict.TheVariants.{Yes, No}
 use Rattle.audit_check.specs.Verdicts.{Breaks, IsFirstBreak, IsVerdict}
 use Rattle.audit_check.specs.Laws.{OneVerdict, YesIsRun, YesIsSafe}
 use Rattle.audit_check.proofs.OneRule.{one_rule}
+use Rattle.model_laws.proofs.OlderRuns.{run_back}
 
 -- ---- what stands in a run
-
-run_back : (setup : Setup) (newer past : List Entry) → Run setup (newer ++ past) → Run setup past
-run_back setup [] past run = run
-run_back setup (e ∷ newer) past run = run_back setup newer past run.0
 
 turned : (before : List Entry) (e : Entry) (later : List Entry) → reverse (before ++ e ∷ later) ≡ reverse later ++ e ∷ reverse before
 turned before e later = reverse-append before (e ∷ later) ∙ ap (λ xs. xs ++ reverse before) (reverse-append (e ∷ []) later) ∙ append_assoc (reverse later) (e ∷ []) (reverse before)

@@ -3,7 +3,6 @@ use Rattle.std.proofs.Common.{◌≡◌, ℕ, List, [], ◌∷◌, Bool, true, f
 use Rattle.std.specs.Prelude.{◌&&◌, ◌||◌, not, bytes_eq, is_none, is_some, slice_get}
 use Rattle.std.proofs.lemmas.Bool.{and_parts, and_from, not-true, or_cases, or_left, or_right}
 use Rattle.std.proofs.lemmas.Slice.Eq.{bytes_eq-Decides}
-use Rattle.kube_parts.specs.declared.uid.Uid.{Uid}
 use Rattle.kube_objects.specs.declared.key.Key.{Key}
 use Rattle.kube_parts.specs.declared.parts.Kind.TheVariants as kinds
 use Rattle.kube_parts.specs.declared.parts.VolumePhase.{VolumePhase}
@@ -16,7 +15,7 @@ use Rattle.kube_objects.specs.declared.objects.Claim.{Claim as ClaimData}
 use Rattle.kube_objects.specs.declared.objects.Object.{Object}
 use Rattle.kube_objects.specs.declared.objects.Object.TheVariants.{Class, Node, Volume, Claim, Pod}
 use Rattle.kube_objects.specs.Keys.{key_of, row_at, rows_of}
-use Rattle.kube_objects.specs.Bindings.{carries, is_available, is_bound, is_completed, is_deleting, is_empty, is_ended, is_for, is_lost, is_protected_volume, names_claim, uid_carries, uid_fits}
+use Rattle.kube_objects.specs.Bindings.{carries, is_available, is_bound, is_completed, is_deleting, is_empty, is_ended, is_for, is_lost, is_protected_volume}
 use Rattle.kube_objects.proofs.KeyOrder.{row_at_key}
 use Rattle.kube_objects.proofs.RowPlaces.{row_at_place}
 use Rattle.call_types.specs.declared.request.Request.{Request}
@@ -43,6 +42,8 @@ use Rattle.binder_machines.specs.FirstSteps.{IsClaimFirst, IsFirst, lost_for, qu
 use Rattle.binder_machines.specs.Machines.{call_of, claim_read, confirmed_for, moved, volume_read, machine_for, may_bind, phase_call, read_of, write_class, write_phase}
 use Rattle.binder_machines.proofs.Begun.{first_back, known_of, machine_in}
 use Rattle.binder_machines.proofs.Shown.{free_reads_none}
+use Rattle.model_laws.proofs.References.{carries_for}
+use Rattle.model_laws.proofs.References.{available_lives as available_live}
 
 calls : (a b : Machine) → Some a ≡ Some b → is_some (call_of a) ≡ true → is_some (call_of b) ≡ true
 calls a b e is = subst (λ m. is_some (call_of m) ≡ true) (one a b e) is
@@ -114,13 +115,6 @@ next_is v c open_one live guarded = by (carries v c) (is_bound v.phase) (is_ende
     by true false false true false l g d = refl
     by true true false true false l g d = refl
 
-available_live : (p : VolumePhase) → is_available p ≡ true → is_ended p ≡ false
-available_live phases.Pending e = refl
-available_live phases.Available e = refl
-available_live phases.Bound e = refl
-available_live phases.Released e = sym e
-available_live phases.Failed e = sym e
-
 served_live : (v : VolumeData) (c : ClaimData) → may_serve v c ≡ true → is_ended v.phase ≡ false
 served_live v c e = elim (or_cases (is_for v c && not (is_ended v.phase)) (is_available v.phase && is_none v.claim_ref) e) [
   | inl own ↦ not-true (is_ended v.phase) (and_parts (is_for v c) (not (is_ended v.phase)) own).1
@@ -142,18 +136,7 @@ best_bindable v c open_one e =
     let g = and_parts _ _ f.0 in
     record { reference = served_reference v c a.1; write = next_is v c open_one (served_live v c a.1) g.1 }
 
-carries_for : (v : VolumeData) (c : ClaimData) → carries v c ≡ true → is_for v c ≡ true
-carries_for v c = by v.claim_ref
-  where
-    by_uid : (r : Ref) (u : Option Uid) → (names_claim r c && uid_carries u c) ≡ true → (names_claim r c && uid_fits u c) ≡ true
-    by_uid r None e = absurd (true≢false (sym (and_parts _ _ e).1))
-    by_uid r (Some u) e = e
-
-    by : (x : Option Ref) → carries (record v { claim_ref = x }) c ≡ true → is_for (record v { claim_ref = x }) c ≡ true
-    by None e = e
-    by (Some r) e = by_uid r r.uid e
-
-written_reference : (v : VolumeData) (c : ClaimData) → (is_none v.claim_ref || carries v c) ≡ true → (is_none v.claim_ref || is_for v c) ≡ true
+pub written_reference : (v : VolumeData) (c : ClaimData) → (is_none v.claim_ref || carries v c) ≡ true → (is_none v.claim_ref || is_for v c) ≡ true
 written_reference v c e = elim (or_cases (is_none v.claim_ref) (carries v c) e) [
   | inl none ↦ or_left (is_none v.claim_ref) (is_for v c) none
   | inr own ↦ or_right (is_none v.claim_ref) (is_for v c) (carries_for v c own)

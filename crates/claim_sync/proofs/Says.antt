@@ -22,6 +22,7 @@ use Rattle.claim_sync.specs.ClaimDecision.{IsVolumeFor, IsVolumeAt, claim_decisi
 use Rattle.claim_sync.specs.Conditions.{claim_conditions, conditions_on, has_best, lacks_claim, live_volume, on_volume, reads_live}
 use Rattle.claim_sync.proofs.Matches.{best_matches}
 use Rattle.claim_sync.proofs.Rows.{chosen, rows_say}
+use Rattle.volume_index.proofs.PlacesBehind.{as_volume_some as volume_seen}
 
 numbered_back : (s : ClaimStep) → step_numbered (step_number s) ≡ s
 numbered_back steps.Nothing = refl
@@ -145,7 +146,7 @@ choice_matches rows c answer choice = by_name (is_empty c.volume_name) choice
 
 -- what is to be bound: a match, or the volume that the claim names, which is seen
 
-lost_binds_none : (b : Bool) → (if b then steps.Nothing else steps.Lost) ≡ steps.Bind → ⊥
+pub lost_binds_none : (b : Bool) → (if b then steps.Nothing else steps.Lost) ≡ steps.Bind → ⊥
 lost_binds_none true e = cc
 lost_binds_none false e = cc
 
@@ -174,11 +175,6 @@ matched_binds c false true matched assignable live v e = cc
 matched_binds c false false true assignable live v e = refl
 matched_binds c false false false true live v e = cc
 matched_binds c false false false false live v e = cc
-
-volume_seen : (row : Option Object) (v : VolumeData) → as_volume row ≡ Some v → row ≡ Some (Volume v)
-volume_seen None v e = cc
-volume_seen (Some (Volume u)) v e = cc
-volume_seen (Some _) v e = cc
 
 -- the step of a claim, with what it names laid open
 abbrev decided_for : List Object → ClaimData → Live → Bool → Option VolumeData → ClaimStep

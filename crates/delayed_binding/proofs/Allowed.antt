@@ -40,7 +40,6 @@ use Rattle.kube_parts.specs.declared.uid.Uid.{Uid}
 use Rattle.kube_objects.specs.declared.key.Key.{Key}
 use Rattle.kube_parts.specs.declared.parts.Kind.TheVariants as kinds
 use Rattle.kube_parts.specs.declared.parts.VolumePhase.{VolumePhase}
-use Rattle.kube_parts.specs.declared.parts.VolumePhase.TheVariants as phases
 use Rattle.kube_objects.specs.declared.objects.Class.{Class as ClassData}
 use Rattle.kube_objects.specs.declared.objects.Claim.{Claim as ClaimData}
 use Rattle.kube_objects.specs.declared.objects.Node.{Node as NodeData}
@@ -138,18 +137,12 @@ use Rattle.delayed_binding.specs.Writes.{bind_write, joined, node_write, placed_
 use Rattle.delayed_binding.proofs.Known.{Each, IsSome, IsSought, claim_of_row, others_apart, others_sought, others_stored, some_others, and_right}
 use Rattle.delayed_binding.proofs.Scanning.{carriers_are_volumes}
 use Rattle.delayed_binding.proofs.Written.{IsBound, IsOf, IsToProvision, OfFirst, OfSecond, bound_at, item_of, one_bind, one_provision, provided_at, some_write}
+use Rattle.model_laws.proofs.References.{available_lives}
 
 -- a reference, on an eligible volume for a claim that no volume carries
 
 serves_of : (v : VolumeData) (c : ClaimData) (n : NodeData) → eligible v c (Some n) ≡ true → may_serve v c ≡ true
 serves_of v c n e = and_right (not (is_deleting v.meta) && is_protected_volume v && fits v c && is_selected c.selector v.meta.labels && is_admitted_on v (Some n)) (may_serve v c) e
-
-available_lives : (phase : VolumePhase) → is_available phase ≡ true → is_ended phase ≡ false
-available_lives phases.Available e = refl
-available_lives phases.Pending e = refl
-available_lives phases.Bound e = refl
-available_lives phases.Released e = absurd (true≢false (sym e))
-available_lives phases.Failed e = absurd (true≢false (sym e))
 
 lives : (own ended available none : Bool) → (available ≡ true → ended ≡ false) → ((own && not ended) || (available && none)) ≡ true → ended ≡ false
 lives own false available none h e = refl

@@ -30,7 +30,7 @@ pub each_map : {X : Type 0} {P Q : X → Type 0} → ((x : X) → P x → Q x) �
 each_map f [] h = tt
 each_map f (x ∷ xs) h = (f x h.0, each_map f xs h.1)
 
-each_filter : {X : Type 0} (P : X → Type 0) (p : X → Bool) (xs : List X) → Each P xs → Each P (filter p xs)
+pub each_filter : {X : Type 0} (P : X → Type 0) (p : X → Bool) (xs : List X) → Each P xs → Each P (filter p xs)
 each_filter P p [] h = tt
 each_filter P p (x ∷ xs) h = by (p x) (each_filter P p xs h.1)
   where

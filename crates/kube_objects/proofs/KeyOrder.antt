@@ -15,18 +15,20 @@ use Rattle.kube_objects.specs.declared.objects.Object.{Object}
 use Rattle.kube_objects.specs.Keys.{key_cmp, key_of, kind_index, AreRows, row_at, put_row, without_row}
 
 pub key_cmp_total : IsTotalOrder key_cmp
-key_cmp_total = then_total (then_total (on_total (λ (k : Key). kind_index k.kind) nat_cmp_total) (on_total (λ (k : Key). k.namespace) nat_list_cmp_total)) (on_total (λ (k : Key). k.name) nat_list_cmp_total)
+key_cmp_total = then_total (then_total (on_total (λ (k : Key). kind_index k.kind) nat_cmp_total)
+    (on_total (λ (k : Key). k.namespace) nat_list_cmp_total)) (on_total (λ (k : Key). k.name) nat_list_cmp_total)
 
 -- a key of an earlier or the same kind
 pub kinds_up : (a b : Key) → key_cmp a b ≡ Less → kind_index a.kind ≤ kind_index b.kind
 kinds_up a b = by (nat_cmp (kind_index a.kind) (kind_index b.kind)) (text_cmp a.namespace b.namespace) (text_cmp a.name b.name) (ranked (kind_index a.kind) (kind_index b.kind) _ refl)
   where
-    by : (r s t : Ordering) → MatchOrdering r (kind_index a.kind < kind_index b.kind) (kind_index a.kind ≡ kind_index b.kind) (kind_index b.kind < kind_index a.kind) → ordering_then (ordering_then r s) t ≡ Less → kind_index a.kind ≤ kind_index b.kind
+    by : (r s t : Ordering) → MatchOrdering r (kind_index a.kind < kind_index b.kind) (kind_index a.kind ≡ kind_index b.kind) (kind_index b.kind <
+        kind_index a.kind) → ordering_then (ordering_then r s) t ≡ Less → kind_index a.kind ≤ kind_index b.kind
     by Less s t h e = omega arith
     by Equal s t h e = omega arith
     by Greater s t h e = absurd (true≢false (sym (ap is_lt e)))
 
-both_equal : (r s : Ordering) → ordering_then r s ≡ Equal → (r ≡ Equal) × (s ≡ Equal)
+pub both_equal : (r s : Ordering) → ordering_then r s ≡ Equal → (r ≡ Equal) × (s ≡ Equal)
 both_equal Less s e = absurd (true≢false (sym (ap is_eq e)))
 both_equal Equal s e = (refl, e)
 both_equal Greater s e = absurd (true≢false (sym (ap is_eq e)))

@@ -12,7 +12,23 @@ use Rattle.kube_parts.specs.declared.parts.ClaimPhase.TheVariants as claim_phase
 use Rattle.kube_parts.specs.declared.parts.Op.{Op}
 use Rattle.kube_parts.specs.declared.parts.Op.TheVariants as ops
 use Rattle.kube_parts.specs.Words.{kind_word, policy_word, volume_mode, binding_mode, volume_phase_word, claim_phase_word, op_word}
-use Rattle.kube_parts.specs.Named.{value_named, all_kinds, all_policies, both, all_volume_phases, all_claim_phases, all_operators, kind_named, policy_named, block_named, delayed_named, volume_phase_named, claim_phase_named, op_named, AreInverse}
+use Rattle.kube_parts.specs.Named.{
+  value_named,
+  all_kinds,
+  all_policies,
+  both,
+  all_volume_phases,
+  all_claim_phases,
+  all_operators,
+  kind_named,
+  policy_named,
+  block_named,
+  delayed_named,
+  volume_phase_named,
+  claim_phase_named,
+  op_named,
+  AreInverse,
+}
 
 -- whatever the values are, the one that is named has the word
 named_has : {X : Type 0} (word : X → List ℕ) (xs : List X) (text : List ℕ) (x : X) → value_named word xs text ≡ Some x → text ≡ word x

@@ -28,7 +28,25 @@ byte_small hex i long all within =
 
 bytes_fit : (bytes : List ℕ) → ((i : ℕ) → i < 16 → slice_index bytes i < 256) → FitsUid bytes
 bytes_fit bytes h =
-    omega (arith, h 0 (omega arith), h 1 (omega arith), h 2 (omega arith), h 3 (omega arith), h 4 (omega arith), h 5 (omega arith), h 6 (omega arith), h 7 (omega arith), h 8 (omega arith), h 9 (omega arith), h 10 (omega arith), h 11 (omega arith), h 12 (omega arith), h 13 (omega arith), h 14 (omega arith), h 15 (omega arith))
+    omega (
+      arith,
+      h 0 (omega arith),
+      h 1 (omega arith),
+      h 2 (omega arith),
+      h 3 (omega arith),
+      h 4 (omega arith),
+      h 5 (omega arith),
+      h 6 (omega arith),
+      h 7 (omega arith),
+      h 8 (omega arith),
+      h 9 (omega arith),
+      h 10 (omega arith),
+      h 11 (omega arith),
+      h 12 (omega arith),
+      h 13 (omega arith),
+      h 14 (omega arith),
+      h 15 (omega arith),
+    )
 
 simple_fits : (hex : List ℕ) → IfSome (parsed_simple hex) FitsUid
 simple_fits hex =

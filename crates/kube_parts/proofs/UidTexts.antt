@@ -32,7 +32,8 @@ read_none (Err x) e text is ok = by (parsed text) refl
     by (Some u) some = absurd (true≢false (sym (ok.1 (u, some))))
 
 -- the text that is written
-pub text_is : {E : Type 0} (r : Result (List ℕ) E) (u : Uid) (written bytes : List ℕ) → IfOk r (λ t. t ≡ written) → written ≡ hyphenated_text lower bytes → bytes ≡ to_be_bytes w128 u.0 → IfOk r (λ t. t ≡ uid_text u)
+pub text_is : {E : Type 0} (r : Result (List ℕ) E) (u : Uid) (written bytes : List ℕ) → IfOk r (λ t. t ≡ written)
+    → written ≡ hyphenated_text lower bytes → bytes ≡ to_be_bytes w128 u.0 → IfOk r (λ t. t ≡ uid_text u)
 unfolding uid_text
 text_is (Ok t) u written bytes copied is of = copied ∙ is ∙ ap (hyphenated_text lower) of
 text_is (Err x) u written bytes copied is of = tt

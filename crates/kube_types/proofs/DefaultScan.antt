@@ -39,17 +39,21 @@ pub absent : (rows : List Object) (place : ℕ) (before : Option ℕ) → class_
 absent rows place before gone first = scans.passed_over class_cmp_total (one rows) place before (λ x c. none_is x (sym gone ∙ ap as_class c.0)) first
 
 -- the class at the place is not marked
-pub unmarked : (rows : List Object) (place : ℕ) (before : Option ℕ) (x : ClassData) → class_at rows place ≡ Some x → is_default x ≡ false → IsDefaultBelow rows place before → IsDefaultBelow rows (place + 1) before
+pub unmarked : (rows : List Object) (place : ℕ) (before : Option ℕ) (x : ClassData) → class_at rows place ≡ Some x → is_default x ≡ false
+    → IsDefaultBelow rows place before → IsDefaultBelow rows (place + 1) before
 unmarked rows place before x there unset first =
     scans.passed_over class_cmp_total (one rows) place before (λ y c. true≢false (sym c.1 ∙ ap is_default (some_class y x (sym c.0 ∙ as_class_some _ x there)) ∙ unset)) first
 
 -- the class at the place is marked, and comes before the first one
-pub first_now : (rows : List Object) (place : ℕ) (before : Option ℕ) (x : ClassData) → class_at rows place ≡ Some x → is_default x ≡ true → comes_first rows x before ≡ true → IsDefaultBelow rows place before → IsDefaultBelow rows (place + 1) (Some place)
+pub first_now : (rows : List Object) (place : ℕ) (before : Option ℕ) (x : ClassData) → class_at rows place ≡ Some x → is_default x ≡ true
+    → comes_first rows x before ≡ true → IsDefaultBelow rows place before → IsDefaultBelow rows (place + 1) (Some place)
 first_now rows place before x there marked less first =
-    scans.taken class_cmp_total (one rows) place before x (as_class_some _ x there, marked) (λ at y is c. subst (λ o. class_is_before x o ≡ true) (ap as_class c.0) (subst (λ b. comes_first rows x b ≡ true) is less)) first
+    scans.taken class_cmp_total (one rows) place before x (as_class_some _ x there, marked)
+    (λ at y is c. subst (λ o. class_is_before x o ≡ true) (ap as_class c.0) (subst (λ b. comes_first rows x b ≡ true) is less)) first
 
 -- it does not come before the first one
-pub not_first : (rows : List Object) (place : ℕ) (before : Option ℕ) (x : ClassData) → class_at rows place ≡ Some x → is_default x ≡ true → comes_first rows x before ≡ false → IsDefaultBelow rows place before → IsDefaultBelow rows (place + 1) before
+pub not_first : (rows : List Object) (place : ℕ) (before : Option ℕ) (x : ClassData) → class_at rows place ≡ Some x → is_default x ≡ true
+    → comes_first rows x before ≡ false → IsDefaultBelow rows place before → IsDefaultBelow rows (place + 1) before
 not_first rows place None x there marked more first = absurd (true≢false more)
 not_first rows place (Some at) x there marked more first =
     scans.kept class_cmp_total (one rows) place at x (as_class_some _ x there, marked) (λ y c. subst (λ o. class_is_before x o ≡ false) (ap as_class c.0) more) first

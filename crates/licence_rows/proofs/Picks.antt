@@ -1,9 +1,7 @@
 -- The scheduler's rows, as the code tests them; what stands newest under a key is one object.
-use Rattle.std.proofs.Common.{◌≡◌, ◌↔◌, IsTrue, ℕ, Bool, true≢false, List, Option, Some, None, refl, sym, ◌∙◌, ap, subst}
+use Rattle.std.proofs.Common.{◌≡◌, ◌↔◌, IsTrue, ℕ, Bool, true≢false, List, Option, Some, None, sym, ◌∙◌, ap, subst}
 use Rattle.std.specs.Prelude.{is_some}
-use Rattle.std.proofs.lemmas.Cmp.{nat_list_cmp_total}
-use Rattle.plain_data.specs.Pairs.{Pair, pair_key, put_pair, value_at}
-use Rattle.plain_data.proofs.RowLookups.{find-put}
+use Rattle.plain_data.specs.Pairs.{value_at}
 use Rattle.kube_parts.specs.declared.uid.Uid.{Uid}
 use Rattle.kube_objects.specs.declared.key.Key.{Key}
 use Rattle.kube_objects.specs.declared.objects.Meta.{Meta}
@@ -19,14 +17,13 @@ use Rattle.binder_model.specs.ObjectKeys.{node_key}
 use Rattle.binder_model.specs.SchedulerLicence.{MayAssign, MaySelectNode}
 use Rattle.binder_model.specs.Told.{IsNewest}
 use Rattle.licence_rows.specs.Scheduling.{IsAssignable, SelectsNode, with_node}
+use Rattle.model_laws.proofs.NewestRows.{newest_pod as pod_is}
+use Rattle.model_laws.proofs.NewestRows.{newest_node as node_is}
+use Rattle.plain_data.proofs.PairValues.{value_put}
 
 -- a claim that differs in metadata alone
 pub meta_is : (o new : ClaimData) (m : Meta) (b : Bool) → new ≡ record o { meta = new.meta } → (IsTrue b ↔ (new.meta ≡ m)) → (IsTrue b ↔ (new ≡ record o { meta = m }))
 meta_is o new m b rest is = ((λ t. rest ∙ ap (λ x. record o { meta = x }) (is.0 t)), (λ e. is.1 (ap (λ (c : ClaimData). c.meta) e)))
-
--- the pair that was put is found
-pub value_put : (key value : List ℕ) (pairs : List Pair) → value_at key (put_pair key value pairs) ≡ Some value
-value_put key value pairs = rw (find-put nat_list_cmp_total pair_key (key, value) pairs) refl
 
 pub selected_name : (mine : List Entry) (o new : ClaimData) (row : MaySelectNode mine o new) → value_at selected_node new.meta.annotations ≡ Some row.node.meta.name
 selected_name mine o new row = ap (λ (c : ClaimData). value_at selected_node c.meta.annotations) row.change ∙ value_put selected_node row.node.meta.name o.meta.annotations
@@ -71,17 +68,9 @@ pod_or : PodData → Option Object → PodData
 pod_or d (Some (Pod p)) = p
 pod_or d o = d
 
-pub pod_is : (mine : List Entry) (key : Key) (a b : PodData) → IsNewest mine key (Pod a) → IsNewest mine key (Pod b) → a ≡ b
-unfolding pod_or
-pod_is mine key a b p q = ap (pod_or a) (sym p ∙ q)
-
 node_or : NodeData → Option Object → NodeData
 node_or d (Some (Node n)) = n
 node_or d o = d
-
-pub node_is : (mine : List Entry) (key : Key) (a b : NodeData) → IsNewest mine key (Node a) → IsNewest mine key (Node b) → a ≡ b
-unfolding node_or
-node_is mine key a b p q = ap (node_or a) (sym p ∙ q)
 
 class_or : ClassData → Option Object → ClassData
 class_or d (Some (Class x)) = x
@@ -94,10 +83,6 @@ class_is mine key a b p q = ap (class_or a) (sym p ∙ q)
 claim_or : ClaimData → Option Object → ClaimData
 claim_or d (Some (Claim x)) = x
 claim_or d o = d
-
-pub claim_is : (mine : List Entry) (key : Key) (a b : ClaimData) → IsNewest mine key (Claim a) → IsNewest mine key (Claim b) → a ≡ b
-unfolding claim_or
-claim_is mine key a b p q = ap (claim_or a) (sym p ∙ q)
 
 pub assign_row : (mine : List Entry) (key : Key) (uid : Uid) (node : List ℕ) (pod : PodData) (on : NodeData) (b : Bool) → IsNewest mine key (Pod pod) → IsNewest mine (node_key node) (Node on)
     → (IsTrue b ↔ IsAssignable mine pod uid on) → (IsTrue b ↔ MayAssign mine key uid node)

@@ -1,23 +1,19 @@
 -- The newest told volume, as ops asks for it.
-use Rattle.std.proofs.Common.{◌≡◌, ◌↔◌, IsTrue, Bool, List, Some, sym, subst}
+use Rattle.std.proofs.Common.{◌↔◌, IsTrue, Bool, List, Some, subst}
 use Rattle.kube_objects.specs.declared.key.Key.{Key}
 use Rattle.kube_objects.specs.declared.objects.Volume.{Volume as VolumeData}
 use Rattle.kube_objects.specs.declared.objects.Object.{Object}
 use Rattle.kube_objects.specs.declared.objects.Object.TheVariants.{Volume}
 use Rattle.std.specs.Prelude.{Option}
-use Rattle.std.proofs.Common.{◌∙◌, ap}
 use Rattle.call_types.specs.declared.entry.Entry.{Entry}
 use Rattle.binder_model.specs.OpsLicence.{IsToErase}
 use Rattle.binder_model.specs.Reading.{AsksForEnded}
 use Rattle.binder_model.specs.Told.{IsNewest}
+use Rattle.model_laws.proofs.NewestRows.{newest_volume as volume_is}
 
 volume_or : VolumeData → Option Object → VolumeData
 volume_or d (Some (Volume v)) = v
 volume_or d o = d
-
-volume_is : (mine : List Entry) (key : Key) (a b : VolumeData) → IsNewest mine key (Volume a) → IsNewest mine key (Volume b) → a ≡ b
-unfolding volume_or
-volume_is mine key a b p q = ap (volume_or a) (sym p ∙ q)
 
 pub ended_row : (mine : List Entry) (key : Key) (v : VolumeData) (b : Bool) → IsNewest mine key (Volume v) → (IsTrue b ↔ IsToErase v) → (IsTrue b ↔ AsksForEnded mine key)
 ended_row mine key v b new is = (

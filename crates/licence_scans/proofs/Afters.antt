@@ -6,11 +6,6 @@ use Rattle.binder_model.specs.Told.{After, SomeOf, TellsObject, ToldObject, obje
 use Rattle.licence_scans.specs.Last.{IsLast}
 use Rattle.licence_scans.proofs.Fronts.{cut_at, some_reverse}
 
-pub after_some : (P : List Entry → Type 0) (Q : Entry → Type 0) (xs : List Entry) → After P Q xs → SomeOf Q xs
-after_some P Q [] h = elim h [ ]
-after_some P Q (x ∷ xs) (inl p) = inl p.0
-after_some P Q (x ∷ xs) (inr h) = inr (after_some P Q xs h)
-
 pub after_told : (R : Object → Type 0) (Q : Entry → Type 0) (xs : List Entry) → After (ToldObject R) Q xs → ToldObject R xs
 after_told R Q [] h = elim h [ ]
 after_told R Q (x ∷ xs) (inl p) = inr p.1

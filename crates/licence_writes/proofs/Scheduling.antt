@@ -10,7 +10,9 @@ use Rattle.binder_model.specs.ObjectKeys.{class_key, claim_key, node_key}
 use Rattle.binder_model.specs.SchedulerLicence.{IsReadyOn}
 use Rattle.binder_model.specs.Told.{IsNewest}
 use Rattle.licence_rows.specs.Scheduling.{IsAdmitted, IsDelayed, IsNodeTold}
-use Rattle.licence_rows.proofs.Picks.{class_is, claim_is, node_is}
+use Rattle.licence_rows.proofs.Picks.{class_is}
+use Rattle.model_laws.proofs.NewestRows.{newest_claim as claim_is}
+use Rattle.model_laws.proofs.NewestRows.{newest_node as node_is}
 
 pub delayed_row : (mine : List Entry) (o : ClaimData) (class : ClassData) → IsNewest mine (class_key (class_of_claim o)) (Class class) → (IsTrue class.delayed ↔ IsDelayed mine o)
 delayed_row mine o class new = (

@@ -81,7 +81,6 @@ use Rattle.model_examples.proofs.Tellings.{
   volumes_in,
   claims_in,
   told_objects,
-  after_tells,
   never_read,
   has_get,
   key_read,
@@ -89,6 +88,7 @@ use Rattle.model_examples.proofs.Tellings.{
   is_version,
   name_of,
 }
+use Rattle.model_laws.proofs.AfterEntries.{after_some as after_tells}
 
 abbrev mine : List Exchange → List Entry
 mine xs = seat_of seats.Binder xs

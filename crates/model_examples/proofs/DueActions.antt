@@ -56,7 +56,8 @@ use Rattle.model_examples.specs.DueActions.{
   PrepareDueExamples,
   SettledExamples,
 }
-use Rattle.model_examples.proofs.Tellings.{IsIn, one, differ, sole, found_in, node_in, nodes_in}
+use Rattle.model_examples.proofs.Tellings.{IsIn, one, differ, sole, node_in, nodes_in}
+use Rattle.model_laws.proofs.Readings.{found_stands as found_in}
 use Rattle.model_examples.proofs.Eligible.{same_at}
 
 pub volume_due_examples : VolumeDueExamples

@@ -66,23 +66,8 @@ use Rattle.model_examples.specs.ReadingRows.{
   elsewhere_p,
   OtherGetExamples,
 }
-use Rattle.model_examples.proofs.Tellings.{
-  differ,
-  neither,
-  sole,
-  own_kind,
-  told_claims,
-  told_pods,
-  newest_volume,
-  newest_claim,
-  same_volume,
-  volumes_in,
-  claims_in,
-  pods_in,
-  told_objects,
-  has_version,
-  name_of,
-}
+use Rattle.model_examples.proofs.Tellings.{differ, neither, sole, own_kind, told_claims, told_pods, newest_volume, newest_claim, volumes_in, claims_in, pods_in, told_objects, has_version, name_of}
+use Rattle.model_laws.proofs.NewestRows.{newest_volume as same_volume}
 
 pub follows_examples : FollowsExamples
 follows_examples = record {

@@ -61,11 +61,13 @@ use Rattle.model_examples.specs.SafePoints.{
   ErasedExamples,
   SafeExamples,
   loosens,
+  erases_imported,
   erases_read,
   leaving_free_a,
   WholeExamples,
 }
-use Rattle.model_examples.proofs.Tellings.{one, differ, sole, found_in, claims_in, claim_in, volumes_in, volume_in, volume_of}
+use Rattle.model_examples.proofs.Tellings.{one, differ, sole, claims_in, claim_in, volumes_in, volume_in, volume_of}
+use Rattle.model_laws.proofs.Readings.{found_stands as found_in}
 
 -- the claims, and the volumes, that stand in literal rows
 claims_at : (key : Key) (x : ClaimData) (rows : List Object) → row_at key rows ≡ Some (Claim x) → SomeOf (λ y. y ≡ x) (claims_in rows)
@@ -126,7 +128,17 @@ erased_examples = record {
     since = λ key v e known. absurd
         (differ (λ u. is_uid u (uid_of_serial 12)) (ap (λ u. u.meta.uid) (sole (volumes_at key v (Volume next_a ∷ []) e)) ∙ known) refl refl);
   };
-  nothing_erased = tt;
+  imported_data_of_an_ended_volume = record {
+    volume = ended_a;
+    last = refl;
+    uid = uid_of_serial 1;
+    known = refl;
+    since = λ key v e known. subst
+        (λ u. IsEndedForDelete u) (sole (volumes_at key v (Volume ended_a ∷ []) e)) (record { ended = refl; policy = refl });
+  };
+  imported_data_never_read_are_unsafe = λ h. differ is_none h.last refl refl;
+  imported_data_of_a_bound_volume_are_unsafe = λ h. true≢false (sym (h.since key_a (in_phase volumes.Bound ended_a) refl (ap (λ v. v.meta.uid) (one ended_a h.volume h.last) ∙ h.known)).ended);
+  failed_erase = tt;
   never_read_is_unsafe = λ h. differ is_none h.last refl refl;
   listed_alone_is_unsafe = λ h. differ is_none h.last refl refl;
   read_without_answer_is_unsafe = λ h. differ is_none h.last refl refl;
@@ -359,6 +371,12 @@ unfolding effect on_devices device_answer outcome update update_status with_stat
     with_meta reply_to world_after reply_of after log_after imported_object get erase unless_planned
 bound_erased s = true≢false (sym (s.0.erased.since key_a still_bound_a refl (ap (λ v. v.meta.uid) (one still_bound_a s.0.erased.volume s.0.erased.last) ∙ s.0.erased.known)).ended)
 
+imported_erased : Safe (setup_of (Volume still_bound_a ∷ [])) (erases_imported still_bound_a) → ⊥
+unfolding effect on_devices device_answer outcome update update_status with_status written_if_fits refuse refuse_field refuse_rule guard_on
+    update_fault changed_field create_fault kind_fault volume_fault claim_fault faulty lacks_node with_status_of updated_object at_version leaves
+    with_meta reply_to world_after reply_of after log_after imported_object get erase unless_planned
+imported_erased s = true≢false (sym (s.0.erased.since key_a still_bound_a refl (ap (λ v. v.meta.uid) (one still_bound_a s.0.erased.volume s.0.erased.last) ∙ s.0.erased.known)).ended)
+
 retained_erased : Safe (setup_of (Volume released_a ∷ [])) (erases_read released_a) → ⊥
 unfolding effect on_devices device_answer outcome update update_status with_status written_if_fits refuse refuse_field refuse_rule guard_on
     update_fault changed_field create_fault kind_fault volume_fault claim_fault faulty lacks_node with_status_of updated_object at_version leaves
@@ -388,6 +406,7 @@ whole_examples = record {
   bound_volume_leaves_is_unsafe = bound_leaves;
   ended_volume_is_erased = ended_erased;
   bound_volume_is_erased_is_unsafe = bound_erased;
+  imported_bound_volume_is_erased_is_unsafe = imported_erased;
   retained_volume_is_erased_is_unsafe = retained_erased;
   lost_import_excuses_itself = lost_itself;
   lost_import_excuses_another_is_unsafe = lost_another;

@@ -86,13 +86,13 @@ use Rattle.model_examples.proofs.Tellings.{
   told_objects,
   newest_class,
   newest_node,
-  same_pod,
-  same_node,
-  same_claim,
-  same_volume,
   is_version,
   has_version,
 }
+use Rattle.model_laws.proofs.NewestRows.{newest_volume as same_volume}
+use Rattle.model_laws.proofs.NewestRows.{newest_claim as same_claim}
+use Rattle.model_laws.proofs.NewestRows.{newest_node as same_node}
+use Rattle.model_laws.proofs.NewestRows.{newest_pod as same_pod}
 
 abbrev mine : List Exchange → List Entry
 mine xs = seat_of seats.Scheduler xs

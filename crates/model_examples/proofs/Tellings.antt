@@ -1,7 +1,6 @@
 -- What a literal list of entries tells, computed: so that a case can be refused by looking at each object told.
 use Rattle.std.proofs.Common.{sym, refl, ap, inl, inr, true≢false, ◌∙◌}
 use Rattle.std.specs.Prelude.{ℕ, ◌≡◌, ◌⊎◌, Bool, true, false, List, [], ◌∷◌, ◌++◌, Option, Some, None, if◌then◌else◌, is_some, unwrap_or, ◌==◌}
-use Rattle.std.specs.Ordering.{is_eq}
 use Rattle.kube_objects.specs.declared.objects.Ref.{Ref}
 use Rattle.kube_objects.specs.declared.key.Key.{Key}
 use Rattle.kube_objects.specs.declared.objects.Class.{Class as ClassData}
@@ -12,7 +11,7 @@ use Rattle.kube_objects.specs.declared.objects.Claim.{Claim as ClaimData}
 use Rattle.kube_objects.specs.declared.objects.Object.{Object}
 use Rattle.kube_objects.specs.declared.objects.Object.TheVariants.{Class, Node, Volume, Claim, Pod}
 use Rattle.call_types.specs.declared.entry.Entry.{Entry}
-use Rattle.kube_objects.specs.Keys.{meta_of, key_of, key_cmp, row_at}
+use Rattle.kube_objects.specs.Keys.{meta_of}
 use Rattle.call_types.specs.declared.request.SeatKind.{SeatKind}
 use Rattle.call_types.specs.declared.request.Request.{Request}
 use Rattle.call_types.specs.declared.request.Request.TheVariants as requests
@@ -140,12 +139,6 @@ after_told P Q [] h = absurd h
 after_told P Q (e ∷ mine) (inl h) = inr h.1
 after_told P Q (e ∷ mine) (inr h) = inr (after_told P Q mine h)
 
--- the later entry is one of them
-pub after_tells : (P : List Entry → Type 0) (Q : Entry → Type 0) (mine : List Entry) → After P Q mine → SomeOf Q mine
-after_tells P Q [] h = h
-after_tells P Q (e ∷ mine) (inl h) = inl h.0
-after_tells P Q (e ∷ mine) (inr h) = inr (after_tells P Q mine h)
-
 abbrev pub is_get : Request → Bool
 is_get (requests.Get key) = true
 is_get request = false
@@ -183,14 +176,6 @@ none_some e = true≢false (sym (ap is_some e))
 
 pub one : {X : Type 0} (a b : X) → Some a ≡ Some b → a ≡ b
 one a b e = ap (λ o. unwrap_or o a) e
-
-pub found_in : (key : Key) (x : Object) (xs : List Object) → row_at key xs ≡ Some x → IsIn x xs
-found_in key x [] e = absurd (none_some e)
-found_in key x (y ∷ ys) e = by (is_eq (key_cmp (key_of y) key)) refl (found_in key x ys)
-  where
-    by : (b : Bool) → is_eq (key_cmp (key_of y) key) ≡ b → (row_at key ys ≡ Some x → IsIn x ys) → IsIn x (y ∷ ys)
-    by true is more = let f : Some y ≡ Some x = rw is at e in inl (one y x f)
-    by false is more = let f : row_at key ys ≡ Some x = rw is at e in inr (more f)
 
 -- the newest told object of a key is one that was told
 pub newest_in : (mine : List Entry) (key : Key) (o : Object) → IsNewest mine key o → IsIn o (told_objects mine)
@@ -331,15 +316,3 @@ claim_of x (Some o) = claim_or x o
 abbrev pub volume_of : VolumeData → Option Object → VolumeData
 volume_of x None = x
 volume_of x (Some o) = volume_or x o
-
-pub same_pod : (mine : List Entry) (key : Key) (x y : PodData) → IsNewest mine key (Pod x) → IsNewest mine key (Pod y) → x ≡ y
-same_pod mine key x y e f = ap (pod_of x) (sym e ∙ f)
-
-pub same_node : (mine : List Entry) (key : Key) (x y : NodeData) → IsNewest mine key (Node x) → IsNewest mine key (Node y) → x ≡ y
-same_node mine key x y e f = ap (node_of x) (sym e ∙ f)
-
-pub same_claim : (mine : List Entry) (key : Key) (x y : ClaimData) → IsNewest mine key (Claim x) → IsNewest mine key (Claim y) → x ≡ y
-same_claim mine key x y e f = ap (claim_of x) (sym e ∙ f)
-
-pub same_volume : (mine : List Entry) (key : Key) (x y : VolumeData) → IsNewest mine key (Volume x) → IsNewest mine key (Volume y) → x ≡ y
-same_volume mine key x y e f = ap (volume_of x) (sym e ∙ f)

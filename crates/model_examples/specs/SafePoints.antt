@@ -16,6 +16,7 @@ use Rattle.call_types.specs.declared.request.NewStatus.TheVariants as statuses
 use Rattle.call_types.specs.declared.request.SeatKind.TheVariants as seats
 use Rattle.call_types.specs.declared.request.Request.{Request}
 use Rattle.call_types.specs.declared.request.Request.TheVariants as requests
+use Rattle.call_types.specs.declared.reply.Refusal.TheVariants as refusals
 use Rattle.call_types.specs.declared.reply.Reply.TheVariants as replies
 use Rattle.binder_model.specs.Devices.{no_devices}
 use Rattle.binder_model.specs.World.{World, first_world}
@@ -133,12 +134,19 @@ no_uid_a = let old = ended_a in record old { meta = record old.meta { uid = None
 abbrev pub ErasedAfter : List Object → List Exchange → Type 0
 ErasedAfter rows xs = ErasesWell rows (seat_of seats.Ops xs) (requests.Erase id_a) (replies.Erased true)
 
+-- the same of data that the back end never had, as those of an imported volume
+abbrev pub ErasesImported : List Object → List Exchange → Type 0
+ErasesImported rows xs = ErasesWell rows (seat_of seats.Ops xs) (requests.Erase id_a) (replies.Erased false)
+
 pub record ErasedExamples : Type 0 where
   pub erased_while_released : ErasedAfter (Volume ended_a ∷ []) (finds key_a (Volume ended_a) ∷ [])
   pub erased_while_failed : ErasedAfter (Volume failed_a ∷ []) (finds key_a (Volume ended_a) ∷ [])
   pub erased_after_it_left : ErasedAfter [] (finds key_a (Volume ended_a) ∷ [])
   pub erased_beside_next_volume : ErasedAfter (Volume next_a ∷ []) (finds key_a (Volume ended_a) ∷ [])
-  pub nothing_erased : ErasesWell (Volume bound_a ∷ []) [] (requests.Erase id_a) (replies.Erased false)
+  pub imported_data_of_an_ended_volume : ErasesImported (Volume ended_a ∷ []) (finds key_a (Volume ended_a) ∷ [])
+  pub imported_data_never_read_are_unsafe : ErasesImported (Volume bound_a ∷ []) [] → ⊥
+  pub imported_data_of_a_bound_volume_are_unsafe : ErasesImported (Volume (in_phase volumes.Bound ended_a) ∷ []) (finds key_a (Volume ended_a) ∷ []) → ⊥
+  pub failed_erase : ErasesWell (Volume bound_a ∷ []) [] (requests.Erase id_a) (replies.Refused (refusals.BackFault 1))
   pub never_read_is_unsafe : ErasedAfter [] [] → ⊥
   pub listed_alone_is_unsafe : ErasedAfter [] (tells_volume ended_a ∷ []) → ⊥
   pub read_without_answer_is_unsafe : ErasedAfter [] (unheard (finds key_a (Volume ended_a)) ∷ []) → ⊥
@@ -163,6 +171,10 @@ loosens v = step (requests.Update (Volume (record v { meta = record v.meta { fin
 abbrev pub erases_read : VolumeData → List Entry
 erases_read v = seat_of seats.Ops (heard (requests.Erase id_a) (replies.Erased true) ∷ finds key_a (Volume v) ∷ [])
 
+-- the same of data that the back end never had
+abbrev pub erases_imported : VolumeData → List Entry
+erases_imported v = seat_of seats.Ops (heard (requests.Erase id_a) (replies.Erased false) ∷ finds key_a (Volume v) ∷ [])
+
 abbrev pub leaving_free_a : VolumeData
 leaving_free_a = record a { meta = deleting a.meta }
 
@@ -172,6 +184,7 @@ pub record WholeExamples : Type 0 where
   pub bound_volume_leaves_is_unsafe : Safe (setup_of (Volume leaving_bound_a ∷ [])) (loosens leaving_bound_a ∷ []) → ⊥
   pub ended_volume_is_erased : Safe (setup_of (Volume ended_a ∷ [])) (erases_read ended_a)
   pub bound_volume_is_erased_is_unsafe : Safe (setup_of (Volume still_bound_a ∷ [])) (erases_read still_bound_a) → ⊥
+  pub imported_bound_volume_is_erased_is_unsafe : Safe (setup_of (Volume still_bound_a ∷ [])) (erases_imported still_bound_a) → ⊥
   pub retained_volume_is_erased_is_unsafe : Safe (setup_of (Volume released_a ∷ [])) (erases_read released_a) → ⊥
   pub lost_import_excuses_itself : Safe (setup_of (Claim bound_c ∷ [])) []
   pub lost_import_excuses_another_is_unsafe : Safe (setup_of (Claim bound_c ∷ Claim d ∷ [])) (completes d ∷ []) → ⊥

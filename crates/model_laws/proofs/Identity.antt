@@ -94,7 +94,7 @@ pub key-marked : (o : Object) (n : ℕ) (moment : List ℕ) → key_of (marked_o
 unfolding marked_object
 key-marked o n moment = key-with_meta o _ refl refl
 
-faulty_none : (b : Bool) (f : Field) (next : Option Field) → faulty b f next ≡ None → (b ≡ false) × (next ≡ None)
+pub faulty_none : (b : Bool) (f : Field) (next : Option Field) → faulty b f next ≡ None → (b ≡ false) × (next ≡ None)
 unfolding faulty
 faulty_none true f next e = absurd (true≢false (ap is_some e))
 faulty_none false f next e = (refl, e)

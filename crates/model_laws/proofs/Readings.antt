@@ -54,7 +54,7 @@ filter_stands p x (y ∷ ys) h = by (p y) h (filter_stands p x ys)
     by true (inr in_rest) more = inr (more in_rest)
     by false in_rest more = inr (more in_rest)
 
-filter_keeps : (p : Object → Bool) (x : Object) (xs : List Object) → IsIn x xs → p x ≡ true → IsIn x (filter p xs)
+pub filter_keeps : (p : Object → Bool) (x : Object) (xs : List Object) → IsIn x xs → p x ≡ true → IsIn x (filter p xs)
 filter_keeps p x [] h e = elim h [ ]
 filter_keeps p x (y ∷ ys) (inl is) e =
     let passes : p y ≡ true = ap p is ∙ e in

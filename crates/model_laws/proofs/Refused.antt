@@ -76,7 +76,7 @@ abbrev AreCounted : Devices → Option DeviceAnswer → Type 0
 AreCounted d None = ⊤
 AreCounted d (Some a) = Counts d a
 
-devices_count : (setup : Setup) (d : Devices) (request : Request) → AreCounted d (device_answer setup d request)
+pub devices_count : (setup : Setup) (d : Devices) (request : Request) → AreCounted d (device_answer setup d request)
 unfolding device_answer erase take_node with_mounts
 devices_count setup d (requests.Provision name provisioner bytes labels) = planned setup d _ (provision_counts setup d name provisioner bytes labels (data_named name d.stored))
 devices_count setup d (requests.Erase id) = planned setup d _ (other d _ _ tt)

@@ -73,7 +73,7 @@ unfolding provision
 provision_grown pools d name provisioner bytes labels (Some x) = stays _ _ refl
 provision_grown pools d name provisioner bytes labels None = new_grown pools d name provisioner bytes labels _
 
-erased_length : (id : DataId) (stored : List Data) → length (data_after_erase id stored) ≡ length stored
+pub erased_length : (id : DataId) (stored : List Data) → length (data_after_erase id stored) ≡ length stored
 erased_length id [] = refl
 erased_length id (x ∷ xs) = ap (λ n. suc n) (erased_length id xs)
 

@@ -32,7 +32,7 @@ use Rattle.node_agent.specs.StartLaw.{LicensedHasStarted, TakenBy, TookFirst, Un
 
 -- a pod is finished only where it was told deleting
 
-pod_map : {P Q : PodData → Type 0} → ((p : PodData) → P p → Q p) → (o : Object) → IsPodWith P o → IsPodWith Q o
+pub pod_map : {P Q : PodData → Type 0} → ((p : PodData) → P p → Q p) → (o : Object) → IsPodWith P o → IsPodWith Q o
 pod_map f (Pod p) h = f p h
 pod_map f (Class x) h = absurd h
 pod_map f (Node x) h = absurd h

@@ -106,7 +106,7 @@ all_refused (o ∷ os) m t h = elim (all_refused os (see o m) t h) [
 
 -- a write selects
 
-select_refused : (request : Request) (reply : Reply) (m : Tries) → (select_if request reply m).refused ≡ m.refused
+pub select_refused : (request : Request) (reply : Reply) (m : Tries) → (select_if request reply m).refused ≡ m.refused
 select_refused (Update (Claim asked) given) (Done (Claim c)) m = by c.meta.uid (node_selected_for c)
   where
     by : (u : Option Uid) (n : Option (List ℕ)) → (select u n c m).refused ≡ m.refused

@@ -1,21 +1,16 @@
 -- The next call of a machine is allowed by its evidence; and it reads no whole kind.
-use Rattle.std.proofs.Common.{◌≡◌, ◌∙◌, List, [], ◌∷◌, Bool, true, false, Some, None, refl, sym, ap, subst, if◌then◌else◌}
-use Rattle.std.specs.Prelude.{◌++◌, ◌||◌, not, IfSome, bytes_eq, cond, is_some}
-use Rattle.std.specs.List.{list_any}
-use Rattle.std.proofs.Common.{ℕ}
-use Rattle.std.proofs.lemmas.List.Folds.{list_any-append}
-use Rattle.std.proofs.lemmas.Slice.Eq.{bytes_eq-Decides}
+use Rattle.std.proofs.Common.{◌≡◌, List, Bool, true, false, Some, None, refl, sym, subst, if◌then◌else◌}
+use Rattle.std.specs.Prelude.{◌||◌, not, IfSome, is_some}
 use Rattle.kube_parts.specs.declared.parts.Kind.TheVariants as kinds
 use Rattle.kube_objects.specs.declared.objects.Volume.{Volume as VolumeData}
 use Rattle.kube_objects.specs.declared.objects.Claim.{Claim as ClaimData}
-use Rattle.kube_objects.specs.Bindings.{has_name, is_protected_claim, is_protected_volume, pv_protection, pvc_protection}
+use Rattle.kube_objects.specs.Bindings.{is_protected_claim, is_protected_volume, pv_protection, pvc_protection}
 use Rattle.call_types.specs.declared.entry.Entry.{Entry}
 use Rattle.call_types.specs.declared.request.Request.{Request}
 use Rattle.call_types.specs.declared.request.Request.TheVariants.{List as ListOf}
 use Rattle.call_types.specs.declared.request.SeatKind.TheVariants.{ClaimProtect, VolumeProtect}
 use Rattle.call_types.proofs.WholeKinds.{ReadsNone, call_reads_none, reads_no_kind}
 use Rattle.binder_model.specs.At.{IsWrittenAt}
-use Rattle.binder_model.specs.Edits.{without_name}
 use Rattle.binder_model.specs.GuardLicence.{MayUnguardClaim, MayUnguardVolume}
 use Rattle.call_types.specs.declared.request.SeatKind.TheVariants as seats
 use Rattle.binder_model.specs.Licence.{AreOfKind, GuardsClaim, GuardsVolume, Licensed, RowAllows, ClaimMay, VolumeMay, claim_guard, volume_guard}
@@ -35,6 +30,8 @@ use Rattle.protect_sync.specs.ClaimGuards.{claim_guard_call, guarded_claim, list
 use Rattle.protect_sync.specs.Evidence.{ClaimKeeps, ClaimStepKeeps, MayAdd, MayAddVolume, MayDrop, MayDropVolume, MayList, VolumeKeeps, VolumeStepKeeps}
 use Rattle.protect_sync.specs.VolumeGuards as on_volumes
 use Rattle.protect_sync.specs.VolumeGuards.{guarded_volume, unguarded_volume, volume_guard_call}
+use Rattle.model_laws.proofs.FinalizerNames.{without_lacks as without_it}
+use Rattle.model_laws.proofs.FinalizerNames.{has_appended as with_it}
 
 -- the finalizer stands in what is written, or it does not
 
@@ -42,17 +39,6 @@ or_last : (a b : Bool) → b ≡ true → (a || (b || false)) ≡ true
 or_last true b e = refl
 or_last false true e = refl
 or_last false false e = e
-
-with_it : (name : List ℕ) (names : List (List ℕ)) → has_name name (names ++ name ∷ []) ≡ true
-with_it name names = list_any-append (λ n. bytes_eq n name) names (name ∷ []) ∙ or_last (list_any (λ n. bytes_eq n name) names) (bytes_eq name name) ((bytes_eq-Decides name name).1 refl)
-
-without_it : (name : List ℕ) (names : List (List ℕ)) → has_name name (without_name name names) ≡ false
-without_it name [] = refl
-without_it name (n ∷ names) = by (bytes_eq n name) refl (without_it name names)
-  where
-    by : (b : Bool) → bytes_eq n name ≡ b → has_name name (without_name name names) ≡ false → has_name name (cond (not b) (n ∷ without_name name names) (without_name name names)) ≡ false
-    by true e rest = rest
-    by false e rest = ap (λ x. x || has_name name (without_name name names)) e ∙ rest
 
 -- a claim
 

@@ -15,7 +15,8 @@ use Rattle.kube_objects.proofs.KeyOrder.{key_cmp_total, row_at-put_row, row_at-p
 use Rattle.kube_objects.proofs.SameKeys.{key_tells, same_key-Decides, same_key_itself}
 use Rattle.volume_index.specs.Keeping.{Keeps, rows_with}
 use Rattle.volume_index.specs.Steps.Edits.{CanEdit, edit_of, left_of}
-use Rattle.volume_index.proofs.RowVolumes.{are_apart, held_row, row_held, volume_there}
+use Rattle.volume_index.proofs.RowVolumes.{are_apart, held_row, row_held}
+use Rattle.volume_index.proofs.PlacesBehind.{as_volume_some as volume_there}
 
 -- an index stands for whatever holds the same volumes
 abbrev pub AreAlike : List VolumeData → List VolumeData → Type 0

@@ -1,5 +1,36 @@
 -- What an index of the volumes among rows stands for, a row more at a time.
-use Rattle.std.proofs.Common.{ℕ, zero, suc, ◌≡◌, ◌≤◌, ◌<◌, ◌+◌, ◌-◌, ◌⊎◌, inl, inr, Bool, true, false, true≢false, List, [], ◌∷◌, length, get_or, drop, if◌then◌else◌, Some, None, arith, ◌∙◌, refl, sym, ap, subst}
+use Rattle.std.proofs.Common.{
+  ℕ,
+  zero,
+  suc,
+  ◌≡◌,
+  ◌≤◌,
+  ◌<◌,
+  ◌+◌,
+  ◌-◌,
+  ◌⊎◌,
+  inl,
+  inr,
+  Bool,
+  true,
+  false,
+  true≢false,
+  List,
+  [],
+  ◌∷◌,
+  length,
+  get_or,
+  drop,
+  if◌then◌else◌,
+  Some,
+  None,
+  arith,
+  ◌∙◌,
+  refl,
+  sym,
+  ap,
+  subst,
+}
 use Rattle.std.specs.List.{Contains, sum_by}
 use Rattle.std.specs.List.Sorted.{IsPermutation}
 use Rattle.std.specs.declared.cmp.Ordering.TheVariants.{Less}

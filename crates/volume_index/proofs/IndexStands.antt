@@ -75,7 +75,8 @@ module _ {cmp : VolumeData → VolumeData → Ordering} (o : IsTotalOrder cmp) (
       by false e = λ u. (λ c. let old = (h u).0 c in (left u old.0 (named_apart u old.0 (λ is. true≢false (sym old.1 ∙ ap test is ∙ e))), old.1), λ c. (h u).1 ((was u c.0).0, c.1))
 
   -- a volume in place of an earlier one of its name
-  pub replace_stands : (v w : VolumeData) (vs xs : List VolumeData) → AreInOrder cmp xs → AreInOrder cmp (put_if cmp test w xs) → AreApart vs → Contains vs v → same_name v w ≡ true → HoldsThose test vs xs
+  pub replace_stands : (v w : VolumeData) (vs xs : List VolumeData) → AreInOrder cmp xs → AreInOrder cmp (put_if cmp test w xs) → AreApart vs
+      → Contains vs v → same_name v w ≡ true → HoldsThose test vs xs
       → HoldsThose test (w ∷ others v vs) (without_unless cmp test v w (put_if cmp test w xs))
   replace_stands v w vs xs order order_put one held name h = by (test w) refl order_put
     where
@@ -159,7 +160,8 @@ module _ {cmp : VolumeData → VolumeData → Ordering} (o : IsTotalOrder cmp) (
           left u (inr c) t = ((take_stands v vs xs order one held h) u).1 (c, t)
 
 -- all lists together
-put_lists : (v : VolumeData) (old : Index) (all free owned : List VolumeData) → IsOrdered old → all ≡ put_if by_size is_any v old.all → free ≡ put_if by_size is_free v old.free → owned ≡ put_if by_owner is_owned v old.owned
+put_lists : (v : VolumeData) (old : Index) (all free owned : List VolumeData) → IsOrdered old → all ≡ put_if by_size is_any v old.all
+    → free ≡ put_if by_size is_free v old.free → owned ≡ put_if by_owner is_owned v old.owned
     → (vs : List VolumeData) → IsNew v vs → StandsFor old vs → StandsFor (record { all = all; free = free; owned = owned }) (v ∷ vs)
 put_lists v old all free owned order a e f vs new stands = record {
   all = subst (HoldsThose is_any (v ∷ vs)) (sym a) (put_stands by_size_total sizes_alike is_any v vs old.all order.0 new stands.all);
@@ -167,11 +169,13 @@ put_lists v old all free owned order a e f vs new stands = record {
   owned = subst (HoldsThose is_owned (v ∷ vs)) (sym f) (put_stands by_owner_total owners_alike is_owned v vs old.owned order.1.1 new stands.owned);
 }
 
-pub inserted : (v : VolumeData) (old self : Index) (all free owned : List VolumeData) → old ≡ self → IsOrdered old → all ≡ put_if by_size is_any v old.all → free ≡ put_if by_size is_free v old.free → owned ≡ put_if by_owner is_owned v old.owned
+pub inserted : (v : VolumeData) (old self : Index) (all free owned : List VolumeData) → old ≡ self → IsOrdered old
+    → all ≡ put_if by_size is_any v old.all → free ≡ put_if by_size is_free v old.free → owned ≡ put_if by_owner is_owned v old.owned
     → (vs : List VolumeData) → IsNew v vs → StandsFor self vs → StandsFor (record { all = all; free = free; owned = owned }) (v ∷ vs)
 inserted v old self all free owned is order a e f = λ vs new stands. put_lists v old all free owned order a e f vs new (subst (λ i. StandsFor i vs) (sym is) stands)
 
-pub removed : (v : VolumeData) (old self : Index) (all free owned : List VolumeData) → old ≡ self → IsOrdered old → all ≡ without by_size (λ u. u) v old.all → free ≡ without_if by_size is_free v old.free → owned ≡ without_if by_owner is_owned v old.owned
+pub removed : (v : VolumeData) (old self : Index) (all free owned : List VolumeData) → old ≡ self → IsOrdered old
+    → all ≡ without by_size (λ u. u) v old.all → free ≡ without_if by_size is_free v old.free → owned ≡ without_if by_owner is_owned v old.owned
     → (vs : List VolumeData) → AreApart vs → Contains vs v → StandsFor self vs → StandsFor (record { all = all; free = free; owned = owned }) (others v vs)
 removed v old self all free owned is order a e f vs apart held stands =
     let was = subst (λ i. StandsFor i vs) (sym is) stands in
@@ -181,7 +185,8 @@ removed v old self all free owned is order a e f vs apart held stands =
       owned = subst (HoldsThose is_owned (others v vs)) (sym f) (take_stands by_owner_total owners_alike is_owned v vs old.owned order.1.1 apart held was.owned);
     }
 
-pub replaced : (v w : VolumeData) (old self : Index) (put_any put_in put_own all free owned : List VolumeData) → old ≡ self → IsOrdered old → AreInOrder by_size put_any → AreInOrder by_size put_in → AreInOrder by_owner put_own
+pub replaced : (v w : VolumeData) (old self : Index) (put_any put_in put_own all free owned : List VolumeData) → old ≡ self → IsOrdered old
+    → AreInOrder by_size put_any → AreInOrder by_size put_in → AreInOrder by_owner put_own
     → put_any ≡ put_if by_size is_any w old.all → put_in ≡ put_if by_size is_free w old.free → put_own ≡ put_if by_owner is_owned w old.owned
     → all ≡ without_unless by_size is_any v w put_any → free ≡ without_unless by_size is_free v w put_in → owned ≡ without_unless by_owner is_owned v w put_own
     → (vs : List VolumeData) → AreApart vs → Contains vs v → same_name v w ≡ true → StandsFor self vs → StandsFor (record { all = all; free = free; owned = owned }) (w ∷ others v vs)

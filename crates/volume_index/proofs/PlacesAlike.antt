@@ -20,7 +20,8 @@ module _ {K X : Type 0} {cmp : K → K → Ordering} (o : IsTotalOrder cmp) (key
       | inr h ↦ absurd (true≢false (sym e ∙ ap (λ w. is_eq (cmp (key w) (key x))) (sym is) ∙ ap is_eq (after_has o key y x ys r.0 h)))
     ]
     | inr g ↦ elim (split y x ys b) [
-      | inl too ↦ absurd (true≢false (sym e ∙ ap (λ w. is_eq (cmp (key u) (key w))) (sym too) ∙ ap is_eq (o.antisymm (key u) (key y)) ∙ ap (λ a. is_eq (ordering_reverse a)) (after_has o key y u ys r.0 g)))
+      | inl too ↦ absurd (true≢false (sym e ∙ ap (λ w. is_eq (cmp (key u) (key w))) (sym too) ∙ ap is_eq (o.antisymm (key u) (key y)) ∙ ap
+          (λ a. is_eq (ordering_reverse a)) (after_has o key y u ys r.0 g)))
       | inr h ↦ one_row u x ys r.1 g h e
     ]
   ]

@@ -22,10 +22,10 @@ use Rattle.volume_index.specs.VolumePlaces.{IsNth, IsNthAt, count_before, those_
 use Rattle.volume_index.specs.Steps.VolumePlaces.{IsBehindAt, IsNextVolume, IsNextVolumeBelow, IsNthOf, IsThenNthOf, is_before_place, is_before, is_behind}
 use Rattle.volume_index.proofs.PlacesCounted.{before_first, before_next, before_within, none_behind, nothing_held, key_of_volume}
 
-some_volume : (x y : VolumeData) → Some (Volume x) ≡ Some (Volume y) → x ≡ y
+pub some_volume : (x y : VolumeData) → Some (Volume x) ≡ Some (Volume y) → x ≡ y
 some_volume x y e = cc
 
-as_volume_some : (o : Option Object) (x : VolumeData) → as_volume o ≡ Some x → o ≡ Some (Volume x)
+pub as_volume_some : (o : Option Object) (x : VolumeData) → as_volume o ≡ Some x → o ≡ Some (Volume x)
 as_volume_some None x e = cc
 as_volume_some (Some (Volume y)) x e = cc
 as_volume_some (Some (Class y)) x e = cc
@@ -60,26 +60,32 @@ module _ (test : VolumeData → Bool) (os : List Object) (other : Option VolumeD
   absent gone first = scans.passed_over need_total one place before (λ x c. none_is x (sym gone ∙ ap as_volume c.there)) first
 
   -- the volume at the place is not wanted
-  pub unwanted : (v : VolumeData) → as_volume (slice_get os place) ≡ Some v → (test v && is_behind other v) ≡ false → IsNextVolumeBelow test os other place before → IsNextVolumeBelow test os other (place + 1) before
+  pub unwanted : (v : VolumeData) → as_volume (slice_get os place) ≡ Some v → (test v && is_behind other v) ≡ false
+      → IsNextVolumeBelow test os other place before → IsNextVolumeBelow test os other (place + 1) before
   unwanted v at refused first = scans.passed_over need_total one place before (λ x c. none x c (some_volume x v (sym c.there ∙ as_volume_some _ v at))) first
     where
       none : (x : VolumeData) → IsBehindAt test os other place x → x ≡ v → ⊥
       none x c is = true≢false (sym (all_true (test x) (is_behind other x) c.passes c.behind) ∙ ap (λ w. test w && is_behind other w) is ∙ refused)
 
   -- it is wanted, and comes before the first one
-  pub first_now : (v : VolumeData) → as_volume (slice_get os place) ≡ Some v → (test v && is_behind other v) ≡ true → is_before_place os v before ≡ true → IsNextVolumeBelow test os other place before → IsNextVolumeBelow test os other (place + 1) (Some place)
+  pub first_now : (v : VolumeData) → as_volume (slice_get os place) ≡ Some v → (test v && is_behind other v) ≡ true
+      → is_before_place os v before ≡ true → IsNextVolumeBelow test os other place before → IsNextVolumeBelow test os other (place + 1) (Some place)
   first_now v at wanted less first =
-      scans.taken need_total one place before v (candidate v at wanted) (λ k y is c. subst (λ o. is_before v o ≡ true) (ap as_volume c.there) (subst (λ b. is_before_place os v b ≡ true) is less)) first
+      scans.taken need_total one place before v (candidate v at wanted)
+      (λ k y is c. subst (λ o. is_before v o ≡ true) (ap as_volume c.there) (subst (λ b. is_before_place os v b ≡ true) is less)) first
 
 -- it does not come before the first one
-pub not_first : (test : VolumeData → Bool) (os : List Object) (other : Option VolumeData) (place : ℕ) (before : Option ℕ) (v : VolumeData) → as_volume (slice_get os place) ≡ Some v → (test v && is_behind other v) ≡ true
+pub not_first : (test : VolumeData → Bool) (os : List Object) (other : Option VolumeData) (place : ℕ) (before : Option ℕ) (v : VolumeData)
+    → as_volume (slice_get os place) ≡ Some v → (test v && is_behind other v) ≡ true
     → is_before_place os v before ≡ false → IsNextVolumeBelow test os other place before → IsNextVolumeBelow test os other (place + 1) before
 not_first test os other place None v at wanted more first = absurd (true≢false more)
 not_first test os other place (Some k) v at wanted more first =
-    scans.kept need_total (one test os other place (Some k)) place k v (candidate test os other place (Some k) v at wanted) (λ y c. subst (λ o. is_before v o ≡ false) (ap as_volume c.there) more) first
+    scans.kept need_total (one test os other place (Some k)) place k v (candidate test os other place (Some k) v at wanted)
+    (λ y c. subst (λ o. is_before v o ≡ false) (ap as_volume c.there) more) first
 
 -- all places were looked at
-pub all_seen : (test : VolumeData → Bool) (os : List Object) (other : Option VolumeData) (count : ℕ) (r : Option ℕ) → count ≡ length os → IsNextVolumeBelow test os other count r → IsNextVolume test os other r
+pub all_seen : (test : VolumeData → Bool) (os : List Object) (other : Option VolumeData) (count : ℕ) (r : Option ℕ) → count ≡ length os
+    → IsNextVolumeBelow test os other count r → IsNextVolume test os other r
 all_seen test os other count r e next = subst (λ n. IsNextVolumeBelow test os other n r) e next
 
 -- ---- volumes among rows, in the order of their keys
@@ -106,7 +112,8 @@ module _ (test : VolumeData → Bool) (rows : List Object) (order : AreRows rows
 
   pub held_those : (place : ℕ) (v : VolumeData) → slice_get (rows_of kinds.PersistentVolume rows) place ≡ Some (Volume v) → test v ≡ true → Contains (those_in test rows) v
   held_those place v there passes =
-      filter_held test v (volumes_in rows) (held_volume v rows (held_filter (is_of_kind kinds.PersistentVolume) (Volume v) rows (held_at (rows_of kinds.PersistentVolume rows) place (Volume v) there)).0) passes
+      filter_held test v (volumes_in rows) (held_volume v rows
+      (held_filter (is_of_kind kinds.PersistentVolume) (Volume v) rows (held_at (rows_of kinds.PersistentVolume rows) place (Volume v) there)).0) passes
 
   -- a volume of those has a place
   placed : (u : VolumeData) → Contains (those_in test rows) u → (place : ℕ) × (slice_get (rows_of kinds.PersistentVolume rows) place ≡ Some (Volume u))
@@ -115,7 +122,9 @@ module _ (test : VolumeData → Bool) (rows : List Object) (order : AreRows rows
       (h.0, slice_get-get_or (rows_of kinds.PersistentVolume rows) h.0 (Volume u) h.1 ∙ ap Some h.2)
 
   -- so the next one is before each of those behind the other
-  ahead : (other : Option VolumeData) (at : ℕ) (first : IsFirstAt need_cmp (IsBehindAt test (rows_of kinds.PersistentVolume rows) other) (length (rows_of kinds.PersistentVolume rows)) at) (u : VolumeData) → Contains (those_in test rows) u → is_behind other u ≡ true → need_cmp first.it u ≢ Greater
+  ahead : (other : Option VolumeData) (at : ℕ)
+      (first : IsFirstAt need_cmp (IsBehindAt test (rows_of kinds.PersistentVolume rows) other) (length (rows_of kinds.PersistentVolume rows)) at)
+      (u : VolumeData) → Contains (those_in test rows) u → is_behind other u ≡ true → need_cmp first.it u ≢ Greater
   ahead other at first u c behind =
       let p = placed u c in
       first.first p.0 (slice_get_within (rows_of kinds.PersistentVolume rows) p.0 (Volume u) p.1) u (record { there = p.1; passes = (held_filter test u (volumes_in rows) c).1; behind = behind })
@@ -137,7 +146,8 @@ module _ (test : VolumeData → Bool) (rows : List Object) (order : AreRows rows
   first_of (Some at) first = numbered 0 at first.it first.candidate.there first.candidate.passes (before_first (those_in test rows) first.it (λ u c. ahead None at first u c refl))
 
   -- the first one behind that of a number is that of the next number
-  pub next_of : (n at : ℕ) (w : VolumeData) → as_volume (slice_get (rows_of kinds.PersistentVolume rows) at) ≡ Some w → IsNthAt test rows n at → (r : Option ℕ) → IsNextVolume test (rows_of kinds.PersistentVolume rows) (Some w) r → IsNth test rows (n + 1) r
+  pub next_of : (n at : ℕ) (w : VolumeData) → as_volume (slice_get (rows_of kinds.PersistentVolume rows) at) ≡ Some w → IsNthAt test rows n at
+      → (r : Option ℕ) → IsNextVolume test (rows_of kinds.PersistentVolume rows) (Some w) r → IsNth test rows (n + 1) r
   next_of n at w there nth r next = by r next
     where
       same : nth.volume ≡ w

@@ -128,7 +128,8 @@ module _ (xs : List VolumeData) (r : IsRising key_cmp key_of_volume xs) (w : Vol
       omega (arith, le, is)
 
   -- before the next one stands one more
-  pub before_next : (v : VolumeData) → is_lt (need_cmp w v) ≡ true → ((u : VolumeData) → Contains xs u → is_lt (need_cmp w u) ≡ true → need_cmp v u ≢ Greater) → count_before v xs ≡ count_before w xs + 1
+  pub before_next : (v : VolumeData) → is_lt (need_cmp w v) ≡ true
+      → ((u : VolumeData) → Contains xs u → is_lt (need_cmp w u) ≡ true → need_cmp v u ≢ Greater) → count_before v xs ≡ count_before w xs + 1
   before_next v less first = count_alike (below v) (upto w) xs (λ u c. same u c) ∙ upto_is
     where
       same : (u : VolumeData) → Contains xs u → below v u ≡ upto w u

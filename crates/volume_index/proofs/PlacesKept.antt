@@ -1,5 +1,39 @@
 -- The wanted volumes of a list in which they stand together, by their places from where they begin.
-use Rattle.std.proofs.Common.{ℕ, zero, suc, ◌≡◌, ◌<◌, ◌≤◌, ◌+◌, ◌⊎◌, inl, inr, Bool, true, false, true≢false, List, [], ◌∷◌, length, filter, cond, get_or, Option, Some, None, Ok, Err, slice_get, arith, ◌∙◌, refl, sym, ap, subst}
+use Rattle.std.proofs.Common.{
+  ℕ,
+  zero,
+  suc,
+  ◌≡◌,
+  ◌<◌,
+  ◌≤◌,
+  ◌+◌,
+  ◌⊎◌,
+  inl,
+  inr,
+  Bool,
+  true,
+  false,
+  true≢false,
+  List,
+  [],
+  ◌∷◌,
+  length,
+  filter,
+  cond,
+  get_or,
+  Option,
+  Some,
+  None,
+  Ok,
+  Err,
+  slice_get,
+  arith,
+  ◌∙◌,
+  refl,
+  sym,
+  ap,
+  subst,
+}
 use Rattle.std.specs.List.{Contains}
 use Rattle.std.specs.List.Sorted.{IsBinarySearchResult, IsPartitionPoint, IsSearchInRange}
 use Rattle.std.specs.Cmp.{IsTotalOrder}
@@ -105,7 +139,8 @@ module _ (is_of is_held is_early : VolumeData → Bool) {cmp : VolumeData → Vo
       mine = here y y ys refl
 
   -- from where they begin on
-  from_start : (os : List VolumeData) (s n : ℕ) → AreInOrder cmp os → ((u : VolumeData) → Contains os u → is_held u ≡ true) → IsPartitionPoint (λ v. is_early v ≡ true) (λ v. is_early v ≡ false) os s → s ≤ length os
+  from_start : (os : List VolumeData) (s n : ℕ) → AreInOrder cmp os → ((u : VolumeData) → Contains os u → is_held u ≡ true)
+      → IsPartitionPoint (λ v. is_early v ≡ true) (λ v. is_early v ≡ false) os s → s ≤ length os
       → IsCounted is_of (filter is_of os) n (slice_get os (s + n))
   from_start os zero n r held start le =
       let none : n ≡ zero + n = omega arith in
@@ -115,10 +150,12 @@ module _ (is_of is_held is_early : VolumeData → Bool) {cmp : VolumeData → Vo
   from_start (y ∷ ys) (suc s) n r held start le =
       let next : suc s + n ≡ suc (s + n) = omega arith in
       let skip = passed is_of y ys (early_is y (start.0 0 y (omega arith) (omega arith))) in
-      let rest = from_start ys s n r.1 (λ u c. held u (there y u ys c)) (λ j d ge lt. start.0 (suc j) d (omega arith) (omega arith), λ j d ge lt. start.1 (suc j) d (omega arith) (omega arith)) (omega (arith, le)) in
+      let rest = from_start ys s n r.1 (λ u c. held u (there y u ys c))
+      (λ j d ge lt. start.0 (suc j) d (omega arith) (omega arith), λ j d ge lt. start.1 (suc j) d (omega arith) (omega arith)) (omega (arith, le)) in
       subst (λ m. IsCounted is_of (filter is_of (y ∷ ys)) n (slice_get (y ∷ ys) m)) (sym next) (subst (λ zs. IsCounted is_of zs n (slice_get ys (s + n))) (sym skip) rest)
 
-  pub counted_from : (os : List VolumeData) (s : ℕ) → AreInOrder cmp os → ((u : VolumeData) → Contains os u → is_held u ≡ true) → IsPartitionPoint (λ v. is_early v ≡ true) (λ v. is_early v ≡ false) os s → s ≤ length os → AreCountedFrom is_of os s
+  pub counted_from : (os : List VolumeData) (s : ℕ) → AreInOrder cmp os → ((u : VolumeData) → Contains os u → is_held u ≡ true)
+      → IsPartitionPoint (λ v. is_early v ≡ true) (λ v. is_early v ≡ false) os s → s ≤ length os → AreCountedFrom is_of os s
   counted_from os s r held start le = λ n. from_start os s n r held start le
 
 -- ---- the volume at a place of such a list
@@ -132,7 +169,8 @@ module _ (is_of : VolumeData → Bool) (os : List VolumeData) (s n : ℕ) (count
 
 -- ---- a list in an order, and the volumes of the rows
 
-module _ (is_of : VolumeData → Bool) {cmp : VolumeData → VolumeData → Ordering} (total : IsTotalOrder cmp) (rows : List Object) (order : AreRows rows) (kept : List VolumeData) (sorted : AreInOrder cmp kept)
+module _ (is_of : VolumeData → Bool) {cmp : VolumeData → VolumeData → Ordering} (total : IsTotalOrder cmp) (rows : List Object)
+    (order : AreRows rows) (kept : List VolumeData) (sorted : AreInOrder cmp kept)
     (to : (u : VolumeData) → Contains kept u → Contains (volumes_in rows) u) (back : (u : VolumeData) → Contains (volumes_in rows) u → is_of u ≡ true → Contains kept u) where
   to_rows : (u : VolumeData) → Contains (filter is_of kept) u → Contains (those_in is_of rows) u
   to_rows u c = let h = held_filter is_of u kept c in filter_held is_of u (volumes_in rows) (to u h.0) h.1

@@ -80,7 +80,8 @@ module _ (namespace name : List ℕ) where
       by Equal is ge k = (owner_ref y.claim_ref owned (same_owner (owner_of y) owner is), ap (λ a. ordering_then a (need_cmp y v)) (sym is) ∙ k)
       by Greater is ge k = absurd (true≢false (sym (ap is_lt k) ∙ ap (λ a. is_lt (ordering_then a (need_cmp y v))) is))
 
-  pub owned_counted : (os : List VolumeData) (s : ℕ) → AreInOrder by_owner os → ((u : VolumeData) → Contains os u → is_owned u ≡ true) → IsOwnerStart owner os s → s ≤ length os → AreCountedFrom is_of os s
+  pub owned_counted : (os : List VolumeData) (s : ℕ) → AreInOrder by_owner os → ((u : VolumeData) → Contains os u → is_owned u ≡ true)
+      → IsOwnerStart owner os s → s ≤ length os → AreCountedFrom is_of os s
   owned_counted os s r owned start le = counted_from is_of is_owned (λ v. is_lt (owner_cmp (owner_of v) owner)) by_owner_total earlier_is between os s r owned start le
 
   pub owned_kept : (rows : List Object) → AreRows rows → (i : Index) → StandsFor i (volumes_in rows) → AreInOrder by_owner i.owned → IsKept is_of rows i.owned

@@ -102,7 +102,8 @@ module _ (block : Bool) (class : List ℕ) where
       from_least : Ordering → Ordering
       from_least g = ordering_then (ordering_then g (nat_cmp (mode_count y.modes) 0)) (nat_cmp y.amount.bytes 0)
 
-      by : (g : Ordering) → group_cmp (size_of y) least ≡ g → is_lt (from_least (group_cmp (size_of y) least)) ≡ false → rest (group_cmp (size_of y) least) ≡ Less → (is_of y ≡ true) × (need_cmp y v ≡ Less)
+      by : (g : Ordering) → group_cmp (size_of y) least ≡ g → is_lt (from_least (group_cmp (size_of y) least)) ≡ false
+          → rest (group_cmp (size_of y) least) ≡ Less → (is_of y ≡ true) × (need_cmp y v ≡ Less)
       by Less is ge k = absurd (true≢false (sym (ap (λ g. is_lt (from_least g)) is) ∙ ge))
       by Equal is ge k = (group_of y is, ap rest (sym is) ∙ k)
       by Greater is ge k = absurd (true≢false (sym (ap is_lt k) ∙ ap (λ g. is_lt (rest g)) is))

@@ -1,5 +1,5 @@
 -- Volumes of rows in order: each is the row of its key.
-use Rattle.std.proofs.Common.{◌≡◌, inl, inr, Bool, true, false, List, [], ◌∷◌, Option, Some, None, ◌∙◌, refl, sym, ap, subst, if◌then◌else◌}
+use Rattle.std.proofs.Common.{◌≡◌, inl, inr, Bool, true, false, List, [], ◌∷◌, Some, ◌∙◌, refl, sym, ap, subst, if◌then◌else◌}
 use Rattle.std.specs.List.{Contains}
 use Rattle.std.specs.Cmp.{IsTotalOrder}
 use Rattle.std.specs.declared.cmp.Ordering.{Ordering}
@@ -12,11 +12,12 @@ use Rattle.kube_objects.specs.declared.objects.Volume.{Volume as VolumeData}
 use Rattle.kube_objects.specs.declared.objects.Object.{Object}
 use Rattle.kube_objects.specs.declared.objects.Object.TheVariants.{Class, Node, Volume, Claim, Pod}
 use Rattle.kube_objects.specs.Keys.{AreRows, key_of, row_at, rows_of}
-use Rattle.volume_index.specs.VolumeIndex.{AreApart, as_volume, volumes_in}
+use Rattle.volume_index.specs.VolumeIndex.{AreApart, volumes_in}
 use Rattle.volume_index.proofs.HeldValues.{after_has, here, nothing, split, there}
 use Rattle.volume_index.proofs.IndexRows.{held_volume, volume_held}
 use Rattle.kube_objects.proofs.KeyOrder.{key_cmp_total}
 use Rattle.kube_objects.proofs.SameKeys.{same_key-Decides}
+use Rattle.volume_index.proofs.PlacesBehind.{some_volume as volume_is}
 
 module _ {K X : Type 0} {cmp : K → K → Ordering} (o : IsTotalOrder cmp) (key : X → K) where
   -- what rows hold is found under its key
@@ -47,9 +48,6 @@ row_held v rows order c = found_held key_cmp_total key_of (Volume v) rows order 
 pub held_row : (k : Key) (v : VolumeData) (rows : List Object) → row_at k rows ≡ Some (Volume v) → Contains (volumes_in rows) v
 held_row k v rows e = held_volume v rows (held_found key_cmp_total key_of k (Volume v) rows e)
 
-volume_is : (x v : VolumeData) → Some (Volume x) ≡ Some (Volume v) → x ≡ v
-volume_is x v e = cc
-
 pub are_apart : (rows : List Object) → AreRows rows → AreApart (volumes_in rows)
 are_apart rows order v u c d e =
     let is : key_of (Volume v) ≡ key_of (Volume u) = (same_key-Decides (key_of (Volume v)) (key_of (Volume u))).0 e in
@@ -57,14 +55,6 @@ are_apart rows order v u c d e =
 
 value_is : (x v : VolumeData) → Some x ≡ Some v → x ≡ v
 value_is x v e = cc
-
-pub volume_there : (o : Option Object) (v : VolumeData) → as_volume o ≡ Some v → o ≡ Some (Volume v)
-volume_there None v e = absurd cc
-volume_there (Some (Volume x)) v e = ap (λ w. Some (Volume w)) (value_is x v e)
-volume_there (Some (Class x)) v e = absurd cc
-volume_there (Some (Node x)) v e = absurd cc
-volume_there (Some (Claim x)) v e = absurd cc
-volume_there (Some (Pod x)) v e = absurd cc
 
 -- the volumes among rows are those among the rows of their kind
 pub volumes_of_kind : (os : List Object) → volumes_in (rows_of kinds.PersistentVolume os) ≡ volumes_in os

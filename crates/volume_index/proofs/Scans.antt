@@ -21,7 +21,7 @@ less_is_no_greater Less h = refl
 less_is_no_greater Equal h = refl
 less_is_no_greater Greater h = cc
 
-reversed_is_no_greater : (o : Ordering) → is_lt o ≡ false → is_gt (ordering_reverse o) ≡ false
+pub reversed_is_no_greater : (o : Ordering) → is_lt o ≡ false → is_gt (ordering_reverse o) ≡ false
 reversed_is_no_greater Less h = cc
 reversed_is_no_greater Equal h = refl
 reversed_is_no_greater Greater h = refl
@@ -47,7 +47,8 @@ module _ {X : Type 0} {cmp : X → X → Ordering} (total : IsTotalOrder cmp) {C
       }
 
   -- a candidate that comes before the first one is the first
-  pub taken : (place : ℕ) (before : Option ℕ) (x : X) → Candidate place x → ((at : ℕ) (y : X) → before ≡ Some at → Candidate at y → is_lt (cmp x y) ≡ true) → IsFirstBelow cmp Candidate place before → IsFirstBelow cmp Candidate (place + 1) (Some place)
+  pub taken : (place : ℕ) (before : Option ℕ) (x : X) → Candidate place x
+      → ((at : ℕ) (y : X) → before ≡ Some at → Candidate at y → is_lt (cmp x y) ≡ true) → IsFirstBelow cmp Candidate place before → IsFirstBelow cmp Candidate (place + 1) (Some place)
   taken place None x c less first =
       record {
         it = x;

@@ -57,8 +57,9 @@ use Rattle.volume_index.specs.VolumeIndex.{volumes_in}
 use Rattle.volume_index.specs.VolumeOrders.{AreInOrder}
 use Rattle.volume_match.specs.Steps.Choices.{AreOf, HasNone, IsBestOfAt, IsUnfit}
 use Rattle.volume_index.proofs.HeldValues.{after_has, held_at, held_filter, nothing, split}
-use Rattle.volume_index.proofs.IndexRows.{held_volume, volume_held}
+use Rattle.volume_index.proofs.IndexRows.{held_volume}
 use Rattle.kube_objects.proofs.RowPlaces.{rising_filter}
+use Rattle.volume_index.proofs.RowVolumes.{row_held}
 
 pub below_or_from : (k n : ℕ) → (k < n) ⊎ (n ≤ k)
 below_or_from zero zero = inr (omega arith)
@@ -128,10 +129,6 @@ module _ {K X : Type 0} {cmp : K → K → Ordering} (o : IsTotalOrder cmp) (key
 -- a volume is not after itself
 pub alike_itself : (c : ClaimData) (v : VolumeData) → match_cmp c v v ≢ Greater
 alike_itself c v e = true≢false (sym (ap is_gt e) ∙ ap is_gt (tied_itself (match_total c) v))
-
--- a volume of the rows is the row of its key
-pub row_held : (v : VolumeData) (rows : List Object) → AreRows rows → Contains (volumes_in rows) v → row_at (key_of (Volume v)) rows ≡ Some (Volume v)
-row_held v rows order c = found_held key_cmp_total key_of (Volume v) rows order (volume_held v rows c)
 
 -- a search for the names of a volume of the rows finds its place
 pub located : (rows : List Object) (v : VolumeData) → AreRows rows → Contains (volumes_in rows) v → (r : Option ℕ) (namespace name : List ℕ) → namespace ≡ v.meta.namespace → name ≡ v.meta.name

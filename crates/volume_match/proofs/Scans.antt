@@ -14,7 +14,7 @@ use Rattle.kube_objects.specs.declared.objects.Node.{Node as NodeData}
 use Rattle.kube_objects.specs.declared.objects.Volume.{Volume as VolumeData}
 use Rattle.kube_objects.specs.declared.objects.Claim.{Claim as ClaimData}
 use Rattle.kube_objects.specs.declared.objects.Object.{Object}
-use Rattle.kube_objects.specs.declared.objects.Object.TheVariants.{Class, Node, Volume, Claim, Pod}
+use Rattle.kube_objects.specs.declared.objects.Object.TheVariants.{Volume}
 use Rattle.kube_objects.specs.Keys.{rows_of}
 use Rattle.kube_objects.specs.Bindings.{class_of_claim, class_of_volume, is_deleting, is_protected_volume}
 use Rattle.binder_model.specs.Matching.{IsBest, IsCandidate, covers, eligible, for_last, is_admitted_on, is_excluded, is_selected, match_cmp, may_serve, only_own_passes}
@@ -22,6 +22,8 @@ use Rattle.kube_objects.specs.Bindings.{mode_count}
 use Rattle.volume_match.specs.Steps.Scan.{IsBestBelow, comes_before, is_open, is_preferred, serves}
 use Rattle.volume_index.specs.VolumeIndex.{as_volume}
 use Rattle.volume_match.specs.Volumes.{volume_at}
+use Rattle.volume_index.proofs.PlacesBehind.{as_volume_some}
+use Rattle.volume_index.proofs.Scans.{reversed_is_no_greater}
 
 pub match_total : (c : ClaimData) → IsTotalOrder (match_cmp c)
 match_total c =
@@ -46,11 +48,6 @@ less_is_no_greater Less h = refl
 less_is_no_greater Equal h = refl
 less_is_no_greater Greater h = cc
 
-reversed_is_no_greater : (o : Ordering) → is_lt o ≡ false → is_gt (ordering_reverse o) ≡ false
-reversed_is_no_greater Less h = cc
-reversed_is_no_greater Equal h = refl
-reversed_is_no_greater Greater h = refl
-
 -- what is not after the middle one, which is not after the last, is not after the last
 between : (c : ClaimData) (v u w : VolumeData) → is_gt (match_cmp c v u) ≡ false → match_cmp c u w ≢ Greater → match_cmp c v w ≢ Greater
 between c v u w h k = not_greater (match_cmp c v w) (upto (match_total c) v u w h (no_greater (match_cmp c u w) k))
@@ -62,14 +59,6 @@ itself c v = not_greater (match_cmp c v v) (of_reverse (match_cmp c v v) ((match
     of_reverse Less e = refl
     of_reverse Equal e = refl
     of_reverse Greater e = cc
-
-as_volume_some : (o : Option Object) (v : VolumeData) → as_volume o ≡ Some v → o ≡ Some (Volume v)
-as_volume_some None v e = cc
-as_volume_some (Some (Volume u)) v e = cc
-as_volume_some (Some (Class x)) v e = cc
-as_volume_some (Some (Node x)) v e = cc
-as_volume_some (Some (Claim x)) v e = cc
-as_volume_some (Some (Pod x)) v e = cc
 
 pub open_candidate : (rows : List Object) (c : ClaimData) (on : Option NodeData) (own : Bool) (excluded : List ℕ) (place : ℕ) (v : VolumeData)
     → volume_at rows place ≡ Some v → is_open c on own excluded place v ≡ true → IsCandidate rows c on own excluded place v

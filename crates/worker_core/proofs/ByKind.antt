@@ -11,7 +11,7 @@ use Rattle.call_types.specs.declared.request.SeatKind.TheVariants as seats
 use Rattle.call_types.specs.declared.reply.Reply.{Reply}
 use Rattle.call_types.specs.Kinds.{reads_kind}
 use Rattle.binder_model.specs.AgentLicence.{epoch_told, last_epoch}
-use Rattle.binder_model.specs.Licence.{AreOfKind, Licensed, RowAllows}
+use Rattle.binder_model.specs.Licence.{Licensed, RowAllows}
 use Rattle.binder_model.specs.Reading.{IsFrom, MayRead, following_of, follows}
 use Rattle.binder_model.specs.Told.{first_some}
 use Rattle.informer_cache.specs.declared.cache.Ask.{Ask}
@@ -98,7 +98,7 @@ start_reads_none seats.Scheduler node m r k e = none_some e
 
 -- only an agent is told that its epoch is stale
 
-keeps_fresh : (kind : SeatKind) (node : List ℕ) (request : Request) (reply : Reply) (m : Memory) → kind ≢ seats.Agent → (remembers kind node request reply m).stale ≡ m.stale
+pub keeps_fresh : (kind : SeatKind) (node : List ℕ) (request : Request) (reply : Reply) (m : Memory) → kind ≢ seats.Agent → (remembers kind node request reply m).stale ≡ m.stale
 keeps_fresh seats.User node request reply m other = refl
 keeps_fresh seats.Binder node request reply m other = refl
 keeps_fresh seats.Ops node request reply m other = refl
@@ -107,7 +107,7 @@ keeps_fresh seats.ClaimProtect node request reply m other = refl
 keeps_fresh seats.VolumeProtect node request reply m other = refl
 keeps_fresh seats.Agent node request reply m other = absurd (other refl)
 
-fresh : (role : Role) (mine : List Entry) → role.kind ≢ seats.Agent → (memory_of role mine).stale ≡ false
+pub fresh : (role : Role) (mine : List Entry) → role.kind ≢ seats.Agent → (memory_of role mine).stale ≡ false
 fresh role [] other = refl
 fresh role (e ∷ mine) other = by e.told (fresh role mine other)
   where
@@ -139,15 +139,6 @@ pub tries_are_told : TriesAreTold
 tries_are_told role mine is = tries_by role.kind role.node mine is
 
 -- the licence
-
-pub licensed_by : (kind : SeatKind) (mine : List Entry) (r : Request) → AreOfKind kind mine → RowAllows kind mine r → Licensed kind mine r
-licensed_by seats.User mine r own row = tt
-licensed_by seats.Binder mine r own row = (own, row)
-licensed_by seats.Ops mine r own row = (own, row)
-licensed_by seats.Scheduler mine r own row = (own, row)
-licensed_by seats.ClaimProtect mine r own row = (own, row)
-licensed_by seats.VolumeProtect mine r own row = (own, row)
-licensed_by seats.Agent mine r own row = (own, row)
 
 -- the row of a read
 pub read_row : (kind : SeatKind) (mine : List Entry) (k : Kind) (ask : Ask) → MayRead kind mine (read_request k ask) → RowAllows kind mine (read_request k ask)

@@ -17,7 +17,8 @@ use Rattle.worker_core.specs.declared.turn.Given.TheVariants as givens
 use Rattle.worker_core.specs.Roles.{IsBuiltKind}
 use Rattle.worker_core.specs.Stands.{AnyIsUnderWay, GivenStands, StandsFor}
 use Rattle.worker_core.specs.States.{ActorState, asked, call_under, given_call, read_of_kind, read_request}
-use Rattle.worker_core.proofs.ByKind.{EpochStands, epoch_stands, licensed_by, read_row, start_allowed}
+use Rattle.worker_core.proofs.ByKind.{EpochStands, epoch_stands, read_row, start_allowed}
+use Rattle.model_laws.proofs.Licences.{licensed_by}
 use Rattle.worker_core.proofs.Machines.{keeps_under, task_allowed}
 use Rattle.worker_core.proofs.Owning.{Stood, all_of_kind, stood}
 

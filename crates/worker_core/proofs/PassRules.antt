@@ -122,7 +122,7 @@ abbrev is_watch : Request → Bool
 is_watch (requests.Watch kind from) = true
 is_watch request = false
 
-unlisted_not : (c : AllKnown) (kinds : List Kind) (kind : Kind) → first_unlisted c kinds ≡ Some kind → is_listed c kind ≡ false
+pub unlisted_not : (c : AllKnown) (kinds : List Kind) (kind : Kind) → first_unlisted c kinds ≡ Some kind → is_listed c kind ≡ false
 unlisted_not c [] kind e = none_some e
 unlisted_not c (k ∷ kinds) kind e = by (is_listed c k) refl e (unlisted_not c kinds kind)
   where

@@ -41,7 +41,7 @@ use Rattle.worker_core.proofs.Owning.{stood}
 
 -- no call of a machine takes a node
 
-step_takes_none : (node : List ℕ) (op : AgentOp) (step : AgentStep) (r : Request) → agent_call_at op step ≡ Some r → is_take_of node r ≡ false
+pub step_takes_none : (node : List ℕ) (op : AgentOp) (step : AgentStep) (r : Request) → agent_call_at op step ≡ Some r → is_take_of node r ≡ false
 step_takes_none node op (steps.ReadsClaim name) r e = ap (is_take_of node) (sym (one _ r e))
 step_takes_none node op (steps.ReadsVolume name c) r e = ap (is_take_of node) (sym (one _ r e))
 step_takes_none node op steps.MountsPod r e = ap (is_take_of node) (sym (one _ r e))
@@ -55,7 +55,7 @@ abbrev is_agent : SeatKind → Bool
 is_agent seats.Agent = true
 is_agent kind = false
 
-task_takes_none : (node : List ℕ) (t : Task) (r : Request) → task_kind t ≡ seats.Agent → task_call t ≡ Some r → is_take_of node r ≡ false
+pub task_takes_none : (node : List ℕ) (t : Task) (r : Request) → task_kind t ≡ seats.Agent → task_call t ≡ Some r → is_take_of node r ≡ false
 unfolding agent_call
 task_takes_none node (tasks.Agent op) r is e = step_takes_none node op op.step r e
 task_takes_none node (tasks.Binder m) r is e = absurd (true≢false (sym (ap is_agent is)))
@@ -65,7 +65,7 @@ task_takes_none node (tasks.Provision op) r is e = absurd (true≢false (sym (ap
 task_takes_none node (tasks.Erase op) r is e = absurd (true≢false (sym (ap is_agent is)))
 task_takes_none node (tasks.Schedule op) r is e = absurd (true≢false (sym (ap is_agent is)))
 
-read_takes_none : (node : List ℕ) (kind : Kind) (ask : Ask) → is_take_of node (read_request kind ask) ≡ false
+pub read_takes_none : (node : List ℕ) (kind : Kind) (ask : Ask) → is_take_of node (read_request kind ask) ≡ false
 read_takes_none node kind asks.List = refl
 read_takes_none node kind (asks.Watch from) = refl
 

@@ -1,6 +1,6 @@
 -- In a history a watch that the seat may make is answered by events, or is gone: it is never ahead of the store.
-use Rattle.std.proofs.Common.{◌≡◌, ◌⊎◌, ◌≤◌, ℕ, List, [], ◌∷◌, length, Bool, true, false, true≢false, Option, Some, None, inl, inr, refl, sym, ◌∙◌, ap, subst, arith, if◌then◌else◌}
-use Rattle.std.specs.Prelude.{◌==◌, nat_lt, take, filter}
+use Rattle.std.proofs.Common.{◌≡◌, ◌≤◌, ℕ, List, [], ◌∷◌, Bool, true, false, true≢false, Option, Some, None, inl, inr, refl, sym, ◌∙◌, ap, subst, arith, if◌then◌else◌}
+use Rattle.std.specs.Prelude.{◌==◌, nat_lt}
 use Rattle.std.proofs.lemmas.Bool.Decides.{nat_tests}
 use Rattle.kube_parts.specs.declared.parts.Kind.{Kind}
 use Rattle.kube_objects.specs.Keys.{same_kind}
@@ -9,7 +9,6 @@ use Rattle.call_types.specs.declared.setup.Setup.{Setup}
 use Rattle.call_types.specs.declared.request.Request.{Request}
 use Rattle.call_types.specs.declared.request.Request.TheVariants as requests
 use Rattle.call_types.specs.declared.request.SeatKind.{SeatKind}
-use Rattle.call_types.specs.declared.reply.Event.{Event}
 use Rattle.kube_parts.specs.declared.names.Field.TheVariants as fields
 use Rattle.call_types.specs.declared.reply.Refusal.{Refusal}
 use Rattle.call_types.specs.declared.reply.Refusal.TheVariants as refusals
@@ -17,14 +16,14 @@ use Rattle.call_types.specs.declared.reply.Reply.{Reply}
 use Rattle.call_types.specs.declared.reply.Reply.TheVariants as replies
 use Rattle.binder_model.specs.Answers.{reply_of}
 use Rattle.binder_model.specs.Reading.{Following, Unlisted, ListedAt, IsFrom, follow_on, following_of, reached_on}
-use Rattle.binder_model.specs.Told.{SomeOf, own}
-use Rattle.binder_model.specs.Watching.{events_after, is_later, last_version, most_events, oldest, told_events}
+use Rattle.binder_model.specs.Told.{own}
+use Rattle.binder_model.specs.Watching.{oldest, told_events}
 use Rattle.binder_model.specs.World.{IsHistory, World, base, effect, reply_to, watch, world}
 use Rattle.model_laws.proofs.Histories.{rows_stand_in_order}
-use Rattle.model_laws.proofs.Lists.{none_some, one, some_filter, some_reverse, some_take}
+use Rattle.model_laws.proofs.Lists.{none_some, one}
 use Rattle.model_laws.proofs.Readings.{lists_tell_what_stands}
 use Rattle.model_laws.proofs.Uids.{rises}
-use Rattle.model_laws.proofs.Watched.{AreBetween, logs}
+use Rattle.model_laws.proofs.Watched.{logs}
 use Rattle.worker_core.specs.Rules.{IsWatchAnswer, WatchesAreAnswered}
 use Rattle.worker_core.specs.Roles.{IsBuiltKind}
 use Rattle.worker_core.specs.Stands.{StandsFor}
@@ -32,6 +31,7 @@ use Rattle.worker_core.specs.States.{ActorState, asked}
 use Rattle.worker_core.proofs.ByKind.{watch_row}
 use Rattle.worker_core.proofs.Licensed.{given_allowed}
 use Rattle.worker_core.proofs.Owning.{newest_own}
+use Rattle.model_laws.proofs.ToldEvents.{reached_below}
 
 -- what a watch is answered
 data Watched (w : World) (k : Kind) (from : ℕ) (reply : Reply) : Type 0 where
@@ -49,28 +49,6 @@ watched setup w kind k from = by (nat_lt w.store.version from) (nat_lt from (old
     by false false ea eb = Tells (rw (ea, eb) refl)
 
 -- a watch reaches no further than the store
-
-last_in : (none : ℕ) (es : List Event) → (last_version none es ≡ none) ⊎ SomeOf (λ e. e.version ≡ last_version none es) es
-last_in none [] = inl refl
-last_in none (e ∷ es) = elim (last_in e.version es) [ inl own ↦ inr (inl (sym own)) | inr more ↦ inr (inr more) ]
-
-below : (high last : ℕ) (es : List Event) → AreBetween 0 high es → SomeOf (λ e. e.version ≡ last) es → last ≤ high
-below high last [] b s = absurd s
-below high last (e ∷ es) b (inl is) = let h = b.1 in omega (arith, h, is)
-below high last (e ∷ es) b (inr more) = below high last es b.2 more
-
-last_below : (k : Kind) (from high : ℕ) (log : List Event) → AreBetween 0 high log → last_version high (take most_events (events_after k from log)) ≤ high
-last_below k from high log b = elim (last_in high (take most_events (events_after k from log))) [
-  | inl is ↦ omega (arith, is)
-  | inr more ↦ below high _ log b (some_filter _ (is_later k from) log (some_reverse _ (filter (is_later k from) log) (some_take _ most_events (events_after k from log) more)))
-]
-
-reached_below : (k : Kind) (from high : ℕ) (log : List Event) → AreBetween 0 high log → (told_events k from high log).upto ≤ high
-reached_below k from high log b = by (length (take most_events (events_after k from log)) == most_events) refl
-  where
-    by : (full : Bool) → (length (take most_events (events_after k from log)) == most_events) ≡ full → (told_events k from high log).upto ≤ high
-    by true is = rw is (last_below k from high log b)
-    by false is = rw is (omega arith)
 
 -- a version from which the seat may watch is at most that of the store
 

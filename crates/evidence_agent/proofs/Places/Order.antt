@@ -1,9 +1,7 @@
 -- The order of topics is total, and tells all topics apart.
-use Rattle.std.proofs.Common.{◌≡◌, ℕ, zero, suc, refl, sym, ◌∙◌, ap, true≢false}
-use Rattle.std.specs.declared.cmp.Ordering.{Ordering}
-use Rattle.std.specs.declared.cmp.Ordering.TheVariants.{Less, Equal, Greater}
+use Rattle.std.proofs.Common.{◌≡◌, ℕ, zero, suc, refl, sym, ◌∙◌, ap}
+use Rattle.std.specs.declared.cmp.Ordering.TheVariants.{Equal}
 use Rattle.std.specs.Cmp.{IsTotalOrder}
-use Rattle.std.specs.Ordering.{is_eq, ordering_then}
 use Rattle.std.proofs.lemmas.Cmp.{nat_cmp_total, on_total, then_total}
 use Rattle.std.proofs.lemmas.Map.Lookups.{exact_unsigned}
 use Rattle.kube_objects.proofs.KeyOrder.{equal_keys, key_cmp_total}
@@ -11,15 +9,11 @@ use Rattle.evidence_agent.specs.declared.by_place.topics.Matter.{Matter}
 use Rattle.evidence_agent.specs.declared.by_place.topics.Matter.TheVariants as matters
 use Rattle.evidence_agent.specs.declared.by_place.topics.Topic.{Topic}
 use Rattle.evidence_agent.specs.Places.Topics.{matter_index, topic_cmp}
+use Rattle.kube_objects.proofs.KeyOrder.{both_equal}
 
 pub topic_cmp_total : IsTotalOrder topic_cmp
 topic_cmp_total = then_total (then_total (on_total (λ (t : Topic). matter_index t.matter) nat_cmp_total)
     (on_total (λ (t : Topic). t.key) key_cmp_total)) (on_total (λ (t : Topic). t.uid.0) nat_cmp_total)
-
-both_equal : (r s : Ordering) → ordering_then r s ≡ Equal → (r ≡ Equal) × (s ≡ Equal)
-both_equal Less s e = absurd (true≢false (sym (ap is_eq e)))
-both_equal Equal s e = (refl, e)
-both_equal Greater s e = absurd (true≢false (sym (ap is_eq e)))
 
 abbrev matter_at : ℕ → Matter
 matter_at zero = matters.Taken

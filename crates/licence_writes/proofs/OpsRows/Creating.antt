@@ -20,7 +20,8 @@ use Rattle.binder_model.specs.ObjectKeys.{claim_key, class_key}
 use Rattle.binder_model.specs.OpsLicence.{GaveData, MayCreate, TellsData}
 use Rattle.binder_model.specs.Provisioning.{data_name, provisioned_volume, terms_for}
 use Rattle.binder_model.specs.Told.{After, IsNewest, ToldClaim}
-use Rattle.licence_rows.proofs.Picks.{claim_is, class_is}
+use Rattle.licence_rows.proofs.Picks.{class_is}
+use Rattle.model_laws.proofs.NewestRows.{newest_claim as claim_is}
 use Rattle.model_laws.proofs.Lists.{one}
 use Rattle.licence_writes.specs.OpsRows.Providing.{Creates, GaveShown, TellsShown, made_volume, source_of}
 

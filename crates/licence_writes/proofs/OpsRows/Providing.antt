@@ -13,7 +13,8 @@ use Rattle.binder_model.specs.OpsLicence.{AreLabels, IsUnserved, MayClearNode, M
 use Rattle.binder_model.specs.Told.{IsClaimWith, IsNewest}
 use Rattle.licence_rows.specs.Asking.{SomeNewest}
 use Rattle.licence_rows.proofs.Asks.{claim_newest, newest_claim}
-use Rattle.licence_rows.proofs.Picks.{class_is, node_is}
+use Rattle.licence_rows.proofs.Picks.{class_is}
+use Rattle.model_laws.proofs.NewestRows.{newest_node as node_is}
 use Rattle.model_laws.proofs.Lists.{one}
 use Rattle.licence_writes.specs.OpsRows.Providing.{IsAsked, IsAskedFor, IsProvided, IsProvidedBy}
 

@@ -16,7 +16,8 @@ use Rattle.actor_rounds.specs.Longer.{HasGrown, IsOneOf}
 use Rattle.actor_rounds.specs.Rounds.{Asks, Ends, IsHeld, IsIdle, IsRound, IsSpent, Lets, Runs, Turns, told_entry}
 use Rattle.actor_rounds.proofs.Entries.{grown_others}
 use Rattle.actor_rounds.proofs.RoundFacts.{one_of_seats, round_grows}
-use Rattle.actor_rounds.proofs.RunFacts.{run_grows, still_role, turn_memory, turn_role}
+use Rattle.actor_rounds.proofs.RunFacts.{run_grows, still_role, turn_memory}
+use Rattle.worker_core.proofs.Answered.{turn_role}
 use Rattle.settle_progress.proofs.Epochs.Awake.{lost_memory, told_memory}
 use Rattle.replay_laws.proofs.Drains.Apart.{Apart}
 

@@ -1,5 +1,5 @@
 -- The examples of the actors of a drain, and of drains that are no rounds of them, compute.
-use Rattle.std.proofs.Common.{◌≡◌, ◌≢◌, ◌<◌, ℕ, ◌+◌, suc, List, [], ◌∷◌, ◌++◌, length, Bool, true, false, true≢false, Option, Some, None, inl, inr, refl, sym, ◌∙◌, ap, subst, arith}
+use Rattle.std.proofs.Common.{◌≡◌, ◌≢◌, ◌<◌, ℕ, ◌+◌, suc, List, [], ◌∷◌, length, Bool, true, false, true≢false, Option, Some, None, inl, inr, refl, sym, ◌∙◌, ap, subst, arith}
 use Rattle.std.specs.Prelude.{codes, slice_get}
 use Rattle.std.specs.declared.cmp.Ordering.{Ordering}
 use Rattle.std.specs.declared.cmp.Ordering.TheVariants.{Less}
@@ -8,7 +8,6 @@ use Rattle.kube_objects.specs.declared.key.Key.{Key}
 use Rattle.kube_parts.specs.declared.names.Due.TheVariants as dues
 use Rattle.kube_objects.specs.declared.objects.Object.{Object}
 use Rattle.kube_objects.specs.declared.objects.Object.TheVariants.{Volume}
-use Rattle.kube_parts.specs.declared.parts.Kind.TheVariants as kinds
 use Rattle.kube_objects.specs.Keys.{key_of, key_cmp, row_at}
 use Rattle.kube_objects.proofs.KeyOrder.{row_at_key}
 use Rattle.call_types.specs.declared.entry.Entry.{Entry}
@@ -31,21 +30,21 @@ use Rattle.binder_model.specs.Told.{own}
 use Rattle.binder_model.specs.World.{effect, log_after, on_devices, world, world_after}
 use Rattle.model_laws.proofs.Lists.{none_some}
 use Rattle.model_laws.specs.Worked.{volume}
-use Rattle.model_examples.proofs.Tellings.{IsIn, differ, found_in, one}
+use Rattle.model_examples.proofs.Tellings.{IsIn, differ, one}
+use Rattle.model_laws.proofs.Readings.{found_stands as found_in}
 use Rattle.world_core.specs.declared.drained.Drained.{Drained}
 use Rattle.world_core.specs.declared.drained.Drained.TheVariants.{Spent}
 use Rattle.actor_rounds.specs.declared.drainers.Drainer.{Drainer}
-use Rattle.actor_rounds.specs.Drainers.{AreNew, roles_for, roles_of, seats_of}
-use Rattle.actor_rounds.specs.Rounds.{all_pass}
+use Rattle.actor_rounds.specs.Drainers.{AreNew, roles_for, roles_of}
 use Rattle.actor_rounds.proofs.NewFacts.{new_roles_for, new_seats_for}
 use Rattle.script_text.specs.declared.script.Line.{Line}
 use Rattle.script_text.specs.declared.script.Line.TheVariants as lines
 use Rattle.script_text.specs.declared.script.Script.{Script}
-use Rattle.script_runs.specs.Parts.{drain_roles, drain_seat, drain_seats}
-use Rattle.script_runs.specs.Replays.{AreMoves, IsDrain, IsMove, IsReplay, IsUserCall, MoreMoves, NoMoves, Progress, first_progress}
+use Rattle.script_runs.specs.Parts.{drain_roles, drain_seat}
+use Rattle.script_runs.specs.Replays.{AreMoves, IsMove, IsReplay, IsUserCall, MoreMoves, NoMoves, Progress, first_progress}
 use Rattle.worker_core.specs.declared.role.Role.{Role}
 use Rattle.run_examples.specs.Replay.Drains.{ActorExamples, RoundExamples, lists_made, made, made_a, made_script, node_script, only_watched, watches_made}
-use Rattle.run_examples.proofs.Replay.Firsts.{FirstCall, SecondCall, ends_so, first_call, no_lines, second_call}
+use Rattle.run_examples.proofs.Replay.Firsts.{FirstCall, ends_so, first_call, no_lines, second_call}
 use Rattle.run_examples.proofs.Replay.Scheduled.{one_call_drain}
 
 abbrev is_list : Request → Bool

@@ -23,7 +23,8 @@ use Rattle.binder_model.specs.Store.{at_version, leaves, with_meta}
 use Rattle.binder_model.specs.Told.{own}
 use Rattle.binder_model.specs.World.{World, effect, on_devices, world, world_after}
 use Rattle.model_examples.specs.Samples.{key_p, n1, node_1, uid_p}
-use Rattle.model_examples.proofs.Tellings.{IsIn, differ, found_in, one}
+use Rattle.model_examples.proofs.Tellings.{IsIn, differ, one}
+use Rattle.model_laws.proofs.Readings.{found_stands as found_in}
 use Rattle.settle_check.proofs.Settled.{not_settled}
 use Rattle.world_core.specs.declared.drained.Drained.TheVariants.{Spent}
 use Rattle.script_runs.specs.Replays.{IsReplay, NoMoves, Progress, first_progress}

@@ -26,7 +26,8 @@ use Rattle.binder_model.specs.Store.{leaves}
 use Rattle.binder_model.specs.World.{effect, on_devices, world, world_after}
 use Rattle.model_examples.specs.DueActions.{pending_a}
 use Rattle.model_examples.specs.Samples.{key_a}
-use Rattle.model_examples.proofs.Tellings.{IsIn, differ, found_in, one}
+use Rattle.model_examples.proofs.Tellings.{IsIn, differ, one}
+use Rattle.model_laws.proofs.Readings.{found_stands as found_in}
 use Rattle.actor_rounds.specs.Drainers.{HaveNoEntries, seats_of}
 use Rattle.actor_rounds.specs.Rounds.{IsSpent, NothingDue, all_pass}
 use Rattle.script_text.specs.declared.script.Script.{Script}

@@ -52,7 +52,7 @@ use Rattle.worker_core.specs.declared.task.Under.{Under}
 use Rattle.worker_core.specs.declared.turn.Next.{Next}
 use Rattle.worker_core.specs.declared.turn.Next.TheVariants as nexts
 use Rattle.worker_core.specs.declared.turn.Outcome.TheVariants.{Told}
-use Rattle.worker_core.specs.Absorbs.{absorbed, woken}
+use Rattle.worker_core.specs.Absorbs.{woken}
 use Rattle.worker_core.specs.Roles.{IsBuiltKind, kinds_of}
 use Rattle.worker_core.specs.Stands.{AnyIsUnderWay, Begun, IsUnderWay, StandsFor, WentOn}
 use Rattle.worker_core.specs.States.{ActorState, call_in, read_of_kind, read_request, start_call}
@@ -60,13 +60,14 @@ use Rattle.worker_core.specs.Turns.{IsTurn, TurnBy, first_unlisted, is_listed, p
 use Rattle.worker_core.proofs.ByKind.{built_fresh}
 use Rattle.actor_rounds.specs.declared.drainers.Drainer.{Drainer}
 use Rattle.actor_rounds.specs.Drainers.{of_kind, roles_of, seats_of}
-use Rattle.actor_rounds.specs.Rounds.{Asks, Drains, Ends, Goes, IsHeld, IsIdle, IsReady, IsRound, IsSpent, NothingDue, Runs, Turns, all_pass, told_entry}
+use Rattle.actor_rounds.specs.Rounds.{Asks, Drains, Ends, Goes, IsHeld, IsIdle, IsRound, IsSpent, NothingDue, Runs, Turns, all_pass, told_entry}
 use Rattle.actor_rounds.proofs.DrainFacts.{drains_longer}
 use Rattle.actor_rounds.proofs.RoundFacts.{round_longer}
-use Rattle.actor_rounds.proofs.RunFacts.{run_longer, still_role, turn_role}
+use Rattle.actor_rounds.proofs.RunFacts.{run_longer, still_role}
+use Rattle.worker_core.proofs.Answered.{turn_role}
 use Rattle.script_text.specs.declared.script.Line.{Line}
 use Rattle.script_text.specs.declared.script.Script.{Script}
-use Rattle.script_runs.specs.Parts.{drain_seat, drain_seats}
+use Rattle.script_runs.specs.Parts.{drain_seat}
 use Rattle.script_runs.specs.Replays.{AreMoves, IsDrain, MoreMoves, NoMoves, Progress}
 
 -- ---- no lines

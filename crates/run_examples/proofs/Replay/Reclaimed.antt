@@ -24,7 +24,8 @@ use Rattle.binder_model.specs.Store.{first_moment, leaves, leaves_at_once, marke
 use Rattle.binder_model.specs.Told.{own}
 use Rattle.binder_model.specs.World.{World, effect, on_devices, world, world_after}
 use Rattle.model_examples.specs.Samples.{ended_a, key_a}
-use Rattle.model_examples.proofs.Tellings.{IsIn, differ, found_in, one}
+use Rattle.model_examples.proofs.Tellings.{IsIn, differ, one}
+use Rattle.model_laws.proofs.Readings.{found_stands as found_in}
 use Rattle.settle_check.proofs.Settled.{not_settled}
 use Rattle.world_core.specs.declared.drained.Drained.TheVariants.{Spent}
 use Rattle.script_runs.specs.Replays.{IsReplay, Progress, first_progress}

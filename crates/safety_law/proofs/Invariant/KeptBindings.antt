@@ -28,7 +28,8 @@ use Rattle.safety_law.specs.Invariant.Good.{MovesAt}
 use Rattle.safety_law.proofs.Invariant.Came.{older, row_was, new_or, fresh, VolumeCame, volume_came, ClaimCame, claim_came}
 use Rattle.call_types.specs.declared.request.Request.{Request}
 use Rattle.std.proofs.lemmas.Option.{none-some}
-use Rattle.safety_law.proofs.Invariant.Objects.{volume_keyed, some_volume}
+use Rattle.safety_law.proofs.Invariant.Objects.{volume_keyed}
+use Rattle.volume_index.proofs.PlacesBehind.{some_volume}
 use Rattle.binder_model.specs.Safe.{was_imported_as_lost}
 use Rattle.model_laws.specs.Stood.{Stood}
 use Rattle.safety_law.proofs.Invariant.Came.{old_stood}

@@ -52,7 +52,7 @@ pub entry_tells : (setup : Setup) (e : Entry) (past : List Entry) → Good setup
 entry_tells setup e past g o h = entry_stood setup e past o (subst (λ (r : Reply). IsIn o (objects_in r)) g.2 h)
 
 -- an object that was told, of which P holds
-told_one : (P : Object → Type 0) (mine : List Entry) → ToldObject P mine → (o : Object) × ToldObject (λ x. x ≡ o) mine × P o
+pub told_one : (P : Object → Type 0) (mine : List Entry) → ToldObject P mine → (o : Object) × ToldObject (λ x. x ≡ o) mine × P o
 told_one P [] h = absurd h
 told_one P (e ∷ mine) h = elim h [
   | inl now ↦ let r = some_in P (objects_in e.reply) now.1 in (r.0, inl (now.0, r.1), r.2)

@@ -64,9 +64,6 @@ same_pod a b e = ap (λ x. of x) e
     of (Pod p) = p
     of x = a
 
-pub some_volume : (a b : VolumeData) → Some (Volume a) ≡ Some (Volume b) → a ≡ b
-some_volume a b e = same_volume a b (same_Some (Volume a) (Volume b) e)
-
 pub some_claim : (a b : ClaimData) → Some (Claim a) ≡ Some (Claim b) → a ≡ b
 some_claim a b e = same_claim a b (same_Some (Claim a) (Claim b) e)
 

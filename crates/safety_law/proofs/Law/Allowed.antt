@@ -1,11 +1,9 @@
 -- Each write of an allowed request is one that any run may make.
 use Rattle.std.proofs.Common.{sym, refl, subst, inl, inr, ap, ◌∙◌, true≢false, arith}
 use Rattle.std.proofs.lemmas.Bool.Decides.{nat_tests}
-use Rattle.std.specs.Prelude.{if◌then◌else◌, ℕ, ◌≡◌, ◌≢◌, ◌==◌, Bool, true, false, ◌&&◌, List, [], ◌∷◌, Option, Some, None, is_some, bytes_eq, unwrap_or, ◌||◌, ◌++◌}
-use Rattle.std.proofs.lemmas.Slice.Eq.{bytes_eq-Decides}
+use Rattle.std.specs.Prelude.{if◌then◌else◌, ℕ, ◌≡◌, ◌≢◌, ◌==◌, Bool, true, false, ◌&&◌, List, [], ◌∷◌, Option, Some, None, is_some, bytes_eq, unwrap_or, ◌++◌}
 use Rattle.plain_data.specs.Pairs.{value_at}
 use Rattle.kube_parts.specs.declared.uid.Uid.{Uid}
-use Rattle.kube_parts.specs.declared.names.Field.{Field}
 use Rattle.kube_objects.specs.declared.key.Key.{Key}
 use Rattle.kube_parts.specs.declared.parts.Kind.TheVariants as kinds
 use Rattle.kube_parts.specs.declared.parts.VolumePhase.{VolumePhase}
@@ -29,7 +27,7 @@ use Rattle.call_types.specs.declared.request.Request.{Request}
 use Rattle.call_types.specs.declared.request.Request.TheVariants as requests
 use Rattle.call_types.specs.declared.edit.Edit.{Edit}
 use Rattle.binder_model.specs.Store.{with_finalizer, with_meta, at_version, marked_object, created_object, updated_object, admitted_object, without_status, with_status_of}
-use Rattle.binder_model.specs.Fields.{update_fault, changed_field, create_fault, kind_fault, volume_fault, faulty, is_subdomain}
+use Rattle.binder_model.specs.Fields.{update_fault, changed_field, create_fault, kind_fault, volume_fault, is_subdomain}
 use Rattle.binder_model.specs.Answers.{is_other_version, guard_on, with_status, is_user}
 use Rattle.binder_model.specs.At.{IsWrittenAt}
 use Rattle.binder_model.specs.BindWrites.{ref_to}
@@ -61,6 +59,8 @@ use Rattle.std.specs.Prelude.{◌<◌, ◌+◌}
 use Rattle.binder_model.specs.Imports.{most_serials}
 use Rattle.model_laws.specs.Stood.{Stood}
 use Rattle.model_laws.proofs.Stood.{one_version_one_object}
+use Rattle.model_laws.proofs.FinalizerNames.{has_appended}
+use Rattle.model_laws.proofs.Identity.{faulty_none}
 
 -- what is known by what the seat was told
 pub record Known (setup : Setup) (past mine : List Entry) : Type 1 where
@@ -70,7 +70,7 @@ pub record Known (setup : Setup) (past mine : List Entry) : Type 1 where
   pub gone : (o : VolumeData) (r : Ref) (uid : Uid) → r.uid ≡ Some uid → WasReadGone mine o r uid → IsNotThere (world setup past) uid
 
 -- the told object at the current version is the one that stands
-same_version : (given : Option ℕ) (told now : ℕ) → given ≡ Some told → is_other_version given now ≡ false → told ≡ now
+pub same_version : (given : Option ℕ) (told now : ℕ) → given ≡ Some told → is_other_version given now ≡ false → told ≡ now
 same_version None told now e v = absurd (true≢false (sym (ap is_some e)))
 same_version (Some g) told now e v =
     let same : g ≡ told = ap (λ x. unwrap_or x g) e in
@@ -109,11 +109,6 @@ module _ (setup : Setup) (past mine : List Entry) (inv : Invariant setup past) (
       let t = told_claim setup past mine known.told (λ o. IsWrittenAt given key.namespace key.name o.meta × Row o) told in
       let same : t.0 ≡ a = same_claim_object t.0 a (at_one setup past inv (Claim t.0) (Claim a) key given t.1 t.2.0.version (claim_at t.0 key given k t.2.0) is v) in
       subst Row same t.2.1
-
-pub faulty_none : (b : Bool) (f : Field) (next : Option Field) → faulty b f next ≡ None → (b ≡ false) × (next ≡ None)
-unfolding faulty
-faulty_none true f next e = absurd (true≢false (ap is_some e))
-faulty_none false f next e = (refl, e)
 
 -- the claims and the node of a pod are fixed
 
@@ -345,14 +340,6 @@ created_volume setup past lacks default v n moment fault refers =
 
 no_value : (x : Option (List ℕ)) → None ≡ x → is_some x ≡ false
 no_value x e = ap is_some (sym e)
-
-has_appended : (name : List ℕ) (names : List (List ℕ)) → has_name name (names ++ name ∷ []) ≡ true
-has_appended name [] = let own_name : bytes_eq name name ≡ true = (bytes_eq-Decides name name).1 refl in rw own_name refl
-has_appended name (x ∷ xs) = by (bytes_eq x name) (has_appended name xs)
-  where
-    by : (b : Bool) → has_name name (xs ++ name ∷ []) ≡ true → (b || has_name name (xs ++ name ∷ [])) ≡ true
-    by true e = refl
-    by false e = e
 
 pub has_given : (name : List ℕ) (names : List (List ℕ)) → has_name name (with_finalizer name names) ≡ true
 has_given name names = by (has_name name names) refl

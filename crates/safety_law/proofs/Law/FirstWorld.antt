@@ -82,7 +82,7 @@ record IsClaimImport (imports : List Object) (c : ClaimData) : Type 0 where
 pub other_kind : {G : Type 0} (a b : Object) → a ≡ b → (kind_index (key_of a).kind ≡ kind_index (key_of b).kind → ⊥) → G
 other_kind a b e no_kind = absurd (no_kind (ap (λ o. kind_index (key_of o).kind) e))
 
-volume_import : (imports : List Object) (v : VolumeData) → ComesFrom imports imports (Volume v) → IsVolumeImport imports v
+pub volume_import : (imports : List Object) (v : VolumeData) → ComesFrom imports imports (Volume v) → IsVolumeImport imports v
 unfolding imported_object
 volume_import imports v i = by i.import i.given i.is
   where
@@ -93,7 +93,7 @@ volume_import imports v i = by i.import i.given i.is
     by (Claim a) h e = other_kind (Volume v) (imported_object imports (Claim a)) e (λ k. omega (arith, k))
     by (Pod a) h e = other_kind (Volume v) (imported_object imports (Pod a)) e (λ k. omega (arith, k))
 
-claim_import : (imports : List Object) (c : ClaimData) → ComesFrom imports imports (Claim c) → IsClaimImport imports c
+pub claim_import : (imports : List Object) (c : ClaimData) → ComesFrom imports imports (Claim c) → IsClaimImport imports c
 unfolding imported_object
 claim_import imports c i = by i.import i.given i.is
   where

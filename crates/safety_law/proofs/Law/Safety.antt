@@ -15,7 +15,7 @@ use Rattle.call_types.specs.declared.setup.Setup.{Setup}
 use Rattle.binder_model.specs.ObjectKeys.{volume_key}
 use Rattle.binder_model.specs.World.{world}
 use Rattle.binder_model.specs.Safe.{was_imported_as_lost, IsBoundTo, WasBoundTo, Counts, CountedAreBound, CountedAreApart, AreBindings, KeepsBound}
-use Rattle.safety_law.proofs.Invariant.Objects.{some_volume}
+use Rattle.volume_index.proofs.PlacesBehind.{some_volume}
 use Rattle.safety_law.specs.Invariant.Was.{WasBound}
 use Rattle.safety_law.specs.Invariant.Invariant.{Invariant}
 use Rattle.safety_law.specs.Invariant.Good.{MovesAt}

@@ -156,7 +156,7 @@ listing_of o (requests.List kinds.Pod (Some namespace)) (Listed items version) h
     record { namespace = namespace; items = items; version = version; asked = refl; answer = refl; placed = h.0; unused = h.1 }
 listing_of o request reply h = absurd h
 
-any_in : (f : Object → Bool) (x : Object) (xs : List Object) → IsIn x xs → f x ≡ true → list_any f xs ≡ true
+pub any_in : (f : Object → Bool) (x : Object) (xs : List Object) → IsIn x xs → f x ≡ true → list_any f xs ≡ true
 any_in f x [] h e = absurd h
 any_in f x (y ∷ ys) (inl is) e = let t : f y ≡ true = ap f is ∙ e in rw t refl
 any_in f x (y ∷ ys) (inr more) e = by (f y) (any_in f x ys more e)

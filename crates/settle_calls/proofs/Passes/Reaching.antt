@@ -14,7 +14,6 @@ use Rattle.call_types.specs.declared.setup.Setup.{Setup}
 use Rattle.call_types.specs.Kinds.{reads_kind}
 use Rattle.binder_model.specs.Told.{own}
 use Rattle.binder_model.specs.Watching.{most_events, told_events}
-use Rattle.informer_cache.specs.declared.cache.Ask.TheVariants as asks
 use Rattle.informer_cache.specs.All.{AllKnown}
 use Rattle.model_laws.proofs.Lists.{none_some, one}
 use Rattle.model_laws.proofs.Uids.{rises}
@@ -37,7 +36,8 @@ use Rattle.worker_core.proofs.Turning.{turn_stands}
 use Rattle.attention_law.proofs.Kept.{turns_queues}
 use Rattle.attention_law.proofs.Turned.{answer_role, calls_fresh}
 use Rattle.actor_rounds.specs.Rounds.{IsReady, told_entry}
-use Rattle.actor_rounds.proofs.RunFacts.{turn_memory, turn_role}
+use Rattle.actor_rounds.proofs.RunFacts.{turn_memory}
+use Rattle.worker_core.proofs.Answered.{turn_role}
 use Rattle.settle_calls.proofs.Events.Calls.{gone_from, listed_from, unread_from, watched_from}
 use Rattle.settle_calls.proofs.Events.Events.{told_so}
 use Rattle.settle_calls.proofs.Passes.First.{nil_right}

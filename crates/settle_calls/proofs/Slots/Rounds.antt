@@ -25,7 +25,8 @@ use Rattle.actor_rounds.specs.declared.drainers.Drainer.{Drainer}
 use Rattle.actor_rounds.specs.Drainers.{roles_of}
 use Rattle.actor_rounds.specs.Rounds.{Asks, Ends, IsHeld, IsIdle, IsRound, IsSpent, Lets, Runs, Turns, told_entry}
 use Rattle.actor_rounds.proofs.RoundFacts.{AreBuilt, roles_built, round_grows}
-use Rattle.actor_rounds.proofs.RunFacts.{still_role, turn_role}
+use Rattle.actor_rounds.proofs.RunFacts.{still_role}
+use Rattle.worker_core.proofs.Answered.{turn_role}
 use Rattle.settle_slot.proofs.Slot.Slots.{older}
 use Rattle.settle_calls.specs.Tasks.Costs.{calls_for}
 use Rattle.settle_calls.specs.Slots.Rounds.{RoundsAreShort, all_left, names_in, size_of_world}

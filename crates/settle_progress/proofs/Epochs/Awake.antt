@@ -66,7 +66,8 @@ use Rattle.actor_rounds.specs.Drainers.{agent_of, roles_of}
 use Rattle.actor_rounds.specs.Longer.{GrowsWithin}
 use Rattle.actor_rounds.specs.Rounds.{Asks, Ends, IsHeld, IsIdle, IsRound, IsSpent, Lets, Runs, Turns, told_entry}
 use Rattle.actor_rounds.proofs.RoundFacts.{AreBuilt, roles_built, round_grows}
-use Rattle.actor_rounds.proofs.RunFacts.{run_grows, still_role, turn_memory, turn_role}
+use Rattle.actor_rounds.proofs.RunFacts.{run_grows, still_role, turn_memory}
+use Rattle.worker_core.proofs.Answered.{turn_role}
 use Rattle.settle_slot.proofs.Slot.Slots.{older, run_older}
 use Rattle.settle_progress.specs.Epochs.Awake.{AgentsStayAwake, IsAwake}
 use Rattle.settle_progress.specs.Epochs.Epochs.{IsCurrent, TakesNoMore}

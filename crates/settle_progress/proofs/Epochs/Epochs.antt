@@ -56,7 +56,8 @@ use Rattle.actor_rounds.specs.declared.drainers.Drainer.{Drainer}
 use Rattle.actor_rounds.specs.Drainers.{agent_of, roles_of}
 use Rattle.actor_rounds.specs.Rounds.{Asks, Ends, IsHeld, IsIdle, IsRound, IsSpent, Lets, Runs, Turns, told_entry}
 use Rattle.actor_rounds.proofs.RoundFacts.{AreBuilt, round_grows, roles_built}
-use Rattle.actor_rounds.proofs.RunFacts.{run_grows, still_role, turn_role}
+use Rattle.actor_rounds.proofs.RunFacts.{run_grows, still_role}
+use Rattle.worker_core.proofs.Answered.{turn_role}
 use Rattle.settle_slot.proofs.Slot.Slots.{older, run_older}
 use Rattle.settle_progress.specs.Epochs.Epochs.{AgentsTakeTheirOwn, EpochsStay, IsCurrent, RoundsKeepEpochs, TakesNoMore}
 

@@ -30,7 +30,8 @@ use Rattle.actor_rounds.specs.Longer.{HasGrown, IsOneOf}
 use Rattle.actor_rounds.specs.Rounds.{Asks, Ends, IsHeld, IsIdle, IsRound, IsSpent, Lets, Runs, Turns, told_entry}
 use Rattle.actor_rounds.proofs.Entries.{grown_others}
 use Rattle.actor_rounds.proofs.RoundFacts.{round_grows}
-use Rattle.actor_rounds.proofs.RunFacts.{run_grows, run_role, still_role, turn_memory, turn_role}
+use Rattle.actor_rounds.proofs.RunFacts.{run_grows, run_role, still_role, turn_memory}
+use Rattle.worker_core.proofs.Answered.{turn_role}
 use Rattle.settle_progress.specs.Epochs.Epochs.{IsCurrent}
 use Rattle.settle_progress.specs.Epochs.Silent.{CurrentAreAwake, OnlyOvertakenAreSilent, OthersSilenceNone, RoundsSilenceTheOvertaken, WasOvertaken}
 use Rattle.settle_progress.proofs.Epochs.Awake.{asked_fresh, lost_memory, told_memory}

@@ -54,7 +54,8 @@ use Rattle.attention_law.proofs.Kept.{turns_queues}
 use Rattle.attention_law.proofs.Queues.{all_self}
 use Rattle.attention_law.proofs.Turned.{Kept, PassAfter, Renewed, answer_role, calls_fresh, idle_rests, turn_pass}
 use Rattle.actor_rounds.specs.Rounds.{Asks, IsHeld, IsIdle, IsReady, IsSpent, Lets, Runs, told_entry}
-use Rattle.actor_rounds.proofs.RunFacts.{run_grows, still_role, turn_memory, turn_role}
+use Rattle.actor_rounds.proofs.RunFacts.{run_grows, still_role, turn_memory}
+use Rattle.worker_core.proofs.Answered.{turn_role}
 use Rattle.settle_writes.specs.Writes.Lasting.{HasLasting, LastsBetween, content_of}
 use Rattle.settle_alike.specs.Alike.Alike.{AreAlike}
 use Rattle.settle_alike.proofs.Alike.Calls.{LastsOrAlike, calls_last_or_leave_alike, then_alike}

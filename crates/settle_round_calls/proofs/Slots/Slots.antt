@@ -28,7 +28,8 @@ use Rattle.worker_core.proofs.Turning.{turn_stands}
 use Rattle.attention_law.specs.Queues.{taken_keys, under_keys}
 use Rattle.attention_law.proofs.Turned.{answer_role}
 use Rattle.actor_rounds.specs.Rounds.{Asks, IsHeld, IsIdle, IsReady, IsSpent, Lets, Runs, told_entry}
-use Rattle.actor_rounds.proofs.RunFacts.{still_role, turn_role}
+use Rattle.actor_rounds.proofs.RunFacts.{still_role}
+use Rattle.worker_core.proofs.Answered.{turn_role}
 use Rattle.settle_slot.specs.Slot.Slots.{KnowsBehind, begun}
 use Rattle.settle_slot.proofs.Slot.Knowing.{lost_knows, sees, told_knows, turned_knows}
 use Rattle.settle_slot.proofs.Slot.Slots.{begun_behind, run_older}

@@ -24,7 +24,8 @@ use Rattle.worker_core.specs.Turns.{IsTurn, passing, unlisted}
 use Rattle.worker_core.proofs.Answered.{answer_licensed, gives_asked}
 use Rattle.attention_law.proofs.Turned.{answer_role}
 use Rattle.actor_rounds.specs.Rounds.{Asks, IsHeld, IsIdle, IsReady, IsSpent, Lets, Runs, told_entry}
-use Rattle.actor_rounds.proofs.RunFacts.{still_role, turn_role}
+use Rattle.actor_rounds.proofs.RunFacts.{still_role}
+use Rattle.worker_core.proofs.Answered.{turn_role}
 use Rattle.settle_slot.specs.Slot.Gates.{HoldsMountsAlone}
 use Rattle.settle_slot.specs.Slot.Slots.{KnowsBehind, begun}
 use Rattle.settle_slot.proofs.Slot.Held.{others_pass}

@@ -25,7 +25,8 @@ use Rattle.worker_core.specs.Turns.{TurnBy, passing, unlisted}
 use Rattle.worker_core.proofs.Machines.{KeepsUnder, keeps_under}
 use Rattle.worker_core.proofs.Owning.{stood}
 use Rattle.actor_rounds.specs.Rounds.{Asks, IsHeld, IsIdle, IsSpent, Lets, Runs, told_entry}
-use Rattle.actor_rounds.proofs.RunFacts.{still_role, turn_role}
+use Rattle.actor_rounds.proofs.RunFacts.{still_role}
+use Rattle.worker_core.proofs.Answered.{turn_role}
 use Rattle.settle_slot.proofs.Slot.Slots.{task_lost, told_under}
 use Rattle.settle_write_counts.proofs.Rounds.Runs.{run_at}
 use Rattle.settle_round_calls.specs.UnderWay.Ends.{AreBy, IsBy, volume_write, volume_writes}

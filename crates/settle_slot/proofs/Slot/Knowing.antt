@@ -37,7 +37,7 @@ use Rattle.worker_core.proofs.ByKind.{placed, watch_licensed}
 use Rattle.worker_core.proofs.Quiet.{alike}
 use Rattle.attention_law.proofs.Turned.{Kept, PassAfter, Renewed, answer_role, turn_pass}
 use Rattle.actor_rounds.specs.Rounds.{IsReady, told_entry}
-use Rattle.actor_rounds.proofs.RunFacts.{turn_role}
+use Rattle.worker_core.proofs.Answered.{turn_role}
 use Rattle.settle_slot.specs.Told.Exact.{WatchesFrom}
 use Rattle.settle_slot.specs.Told.Knowing.{KnowsKind}
 use Rattle.settle_slot.proofs.Told.Knowing.{watches_make_known}

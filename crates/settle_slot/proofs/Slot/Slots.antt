@@ -69,7 +69,8 @@ use Rattle.attention_law.specs.Queues.{under_keys}
 use Rattle.attention_law.proofs.Queues.{cached_self, row_any}
 use Rattle.attention_law.proofs.Turned.{answer_role, calls_fresh, idle_rests}
 use Rattle.actor_rounds.specs.Rounds.{Asks, IsHeld, IsIdle, IsReady, IsSpent, Lets, Runs, told_entry}
-use Rattle.actor_rounds.proofs.RunFacts.{run_grows, still_role, turn_memory, turn_role}
+use Rattle.actor_rounds.proofs.RunFacts.{run_grows, still_role, turn_memory}
+use Rattle.worker_core.proofs.Answered.{turn_role}
 use Rattle.settle_writes.specs.Writes.Lasting.{HasLasting, Lasts, LastsBetween}
 use Rattle.settle_alike.specs.Alike.Alike.{AreAlike}
 use Rattle.settle_alike.proofs.Alike.Calls.{LastsOrAlike, calls_last_or_leave_alike, then_alike}

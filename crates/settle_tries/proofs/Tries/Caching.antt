@@ -22,7 +22,8 @@ use Rattle.worker_core.specs.States.{ActorState}
 use Rattle.worker_core.specs.Turns.{passing}
 use Rattle.worker_core.proofs.Turning.{turn_stands}
 use Rattle.actor_rounds.specs.Rounds.{Asks, IsHeld, IsIdle, IsReady, IsSpent, Lets, Runs, told_entry}
-use Rattle.actor_rounds.proofs.RunFacts.{turn_memory, turn_role, turned_whole}
+use Rattle.actor_rounds.proofs.RunFacts.{turn_memory, turned_whole}
+use Rattle.worker_core.proofs.Answered.{turn_role}
 use Rattle.settle_slot.specs.Slot.Slots.{SeesStore}
 use Rattle.settle_slot.proofs.Slot.Slots.{passed_see_the_store}
 use Rattle.settle_tries.proofs.Tries.Standing.{MakeNone, StandsIn, makes, round_stood, slot_stood}

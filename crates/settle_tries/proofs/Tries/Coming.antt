@@ -25,7 +25,8 @@ use Rattle.worker_core.specs.States.{ActorState, call_in, read_of_kind, start_ca
 use Rattle.worker_core.specs.Tasks.{under_after}
 use Rattle.worker_core.specs.Turns.{AfterKeys, Decides, IsTurn, TurnBy, passing, unlisted}
 use Rattle.actor_rounds.specs.Rounds.{Asks, IsHeld, IsIdle, IsReady, IsSpent, Runs, all_pass, told_entry}
-use Rattle.actor_rounds.proofs.RunFacts.{still_role, turn_role}
+use Rattle.actor_rounds.proofs.RunFacts.{still_role}
+use Rattle.worker_core.proofs.Answered.{turn_role}
 use Rattle.settle_writes.specs.Writes.Lasting.{Lasts}
 use Rattle.settle_slot.specs.Slot.Slots.{IsDecisionPoint, KnowsBehind, own_entry}
 use Rattle.settle_slot.specs.Slot.Would.{Here, Leads, On}

@@ -28,7 +28,8 @@ use Rattle.worker_core.specs.Turns.{passing}
 use Rattle.worker_core.proofs.KeysKept.{answers_keep_keys}
 use Rattle.attention_law.proofs.Turned.{answer_role, calls_fresh, idle_rests}
 use Rattle.actor_rounds.specs.Rounds.{Asks, IsHeld, IsIdle, IsReady, IsSpent, Lets, Runs, told_entry}
-use Rattle.actor_rounds.proofs.RunFacts.{run_grows, turn_memory, turn_role}
+use Rattle.actor_rounds.proofs.RunFacts.{run_grows, turn_memory}
+use Rattle.worker_core.proofs.Answered.{turn_role}
 use Rattle.settle_slot.specs.Slot.Slots.{ActsOn, IsDecisionPoint, KnowsBehind, Now, Then, WillLast, own_entry}
 use Rattle.settle_slot.specs.Slot.Would.{Here, Leads, On}
 use Rattle.settle_slot.proofs.Slot.Knowing.{lost_knows, sees, told_knows, turned_knows}

@@ -11,7 +11,8 @@ use Rattle.worker_core.specs.declared.turn.Next.TheVariants.{Call}
 use Rattle.worker_core.specs.declared.turn.Outcome.TheVariants.{Lost, Told}
 use Rattle.worker_core.specs.States.{ActorState}
 use Rattle.actor_rounds.specs.Rounds.{Asks, IsHeld, IsIdle, IsSpent, Lets, Runs, told_entry}
-use Rattle.actor_rounds.proofs.RunFacts.{still_role, turn_role}
+use Rattle.actor_rounds.proofs.RunFacts.{still_role}
+use Rattle.worker_core.proofs.Answered.{turn_role}
 use Rattle.settle_pays.specs.Pays.Pays.{HavePaid, worth}
 use Rattle.settle_writes.specs.Writes.Lasting.{Lasts}
 use Rattle.settle_pays.proofs.Pays.Entries.{paid_is_less}

@@ -50,7 +50,8 @@ use Rattle.worker_core.specs.Turns.{IsTurn}
 use Rattle.worker_core.proofs.Answered.{passed}
 use Rattle.attention_law.proofs.Turned.{Kept, PassAfter, Renewed, answer_role, idle_rests, turn_pass}
 use Rattle.actor_rounds.specs.Rounds.{all_pass, Asks, IsHeld, IsIdle, IsReady, IsSpent, Runs, told_entry}
-use Rattle.actor_rounds.proofs.RunFacts.{still_role, turn_memory, turn_role}
+use Rattle.actor_rounds.proofs.RunFacts.{still_role, turn_memory}
+use Rattle.worker_core.proofs.Answered.{turn_role}
 use Rattle.settle_slot.proofs.Slot.Slots.{run_older}
 use Rattle.settle_calls.proofs.Passes.Given.{FindsGone, GivenSo, GivesRead, GivesStart, GivesTask, IsTold, Lists, Reads, given_so, read_called, start_called, task_called}
 use Rattle.settle_calls.specs.Events.Telling.{told}

@@ -30,7 +30,8 @@ use Rattle.worker_core.proofs.KeysKept.{answers_keep_keys}
 use Rattle.attention_law.proofs.Turned.{calls_fresh, idle_rests}
 use Rattle.binder_model.specs.Reading.{follows}
 use Rattle.actor_rounds.specs.Rounds.{Asks, IsHeld, IsIdle, IsReady, IsSpent, Runs, all_pass, told_entry}
-use Rattle.actor_rounds.proofs.RunFacts.{run_grows, turn_memory, turn_role, still_role}
+use Rattle.actor_rounds.proofs.RunFacts.{run_grows, turn_memory, still_role}
+use Rattle.worker_core.proofs.Answered.{turn_role}
 use Rattle.settle_slot.specs.Slot.Slots.{IsDecisionPoint, KnowsBehind, own_entry}
 use Rattle.settle_slot.proofs.Slot.Knowing.{sees, told_knows}
 use Rattle.settle_slot.proofs.Slot.Slots.{ByCall, ByNone, Called, NotCalled, Stopped, StopsBy, asks_under, decides_gives, decides_stops, none_told, older, run_older, stops_by, told_under}

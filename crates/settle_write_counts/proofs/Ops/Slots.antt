@@ -37,7 +37,8 @@ use Rattle.worker_core.specs.States.{ActorState, call_in, read_of_kind, read_req
 use Rattle.worker_core.specs.Tasks.{GivesCall, IsFirstOf, ops_first, under_after}
 use Rattle.worker_core.specs.Turns.{AfterKeys, Decides, IsTurn, TurnBy, passing, unlisted}
 use Rattle.actor_rounds.specs.Rounds.{Asks, IsHeld, IsIdle, IsReady, IsSpent, Lets, Runs, told_entry}
-use Rattle.actor_rounds.proofs.RunFacts.{run_grows, still_role, turn_role}
+use Rattle.actor_rounds.proofs.RunFacts.{run_grows, still_role}
+use Rattle.worker_core.proofs.Answered.{turn_role}
 use Rattle.settle_slot.specs.Slot.Slots.{KnowsBehind, SeesStore, begun}
 use Rattle.settle_slot.proofs.Slot.Knowing.{lost_knows, sees, told_knows, turned_knows}
 use Rattle.settle_slot.proofs.Slot.Slots.{begun_behind, decides_gives, none_lost, none_told, task_lost, told_under}

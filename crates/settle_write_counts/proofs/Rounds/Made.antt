@@ -56,7 +56,8 @@ use Rattle.worker_core.specs.Stands.{GivenStands}
 use Rattle.worker_core.specs.States.{ActorState, call_in, call_under, given_call, read_of_kind, read_request, start_call, start_of}
 use Rattle.worker_core.specs.Turns.{AfterKeys, IsTurn, TurnBy, passing, unlisted}
 use Rattle.actor_rounds.specs.Rounds.{Asks, IsHeld, IsIdle, IsSpent, Lets, Runs, told_entry}
-use Rattle.actor_rounds.proofs.RunFacts.{still_role, turn_role}
+use Rattle.actor_rounds.proofs.RunFacts.{still_role}
+use Rattle.worker_core.proofs.Answered.{turn_role}
 use Rattle.settle_slot.specs.Slot.Slots.{KnowsBehind}
 use Rattle.settle_slot.proofs.Slot.Knowing.{lost_knows, sees, told_knows, turned_knows}
 use Rattle.settle_slot.proofs.Slot.Slots.{nothing_behind}

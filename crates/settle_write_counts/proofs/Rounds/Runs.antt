@@ -31,7 +31,8 @@ use Rattle.worker_core.specs.Turns.{AfterKeys, Begins, Decides, Drops, IsTurn, N
 use Rattle.worker_core.proofs.Answered.{answer_licensed, gives_asked}
 use Rattle.worker_core.proofs.Turning.{turn_stands}
 use Rattle.actor_rounds.specs.Rounds.{Asks, IsHeld, IsIdle, IsReady, IsSpent, Lets, Runs, told_entry}
-use Rattle.actor_rounds.proofs.RunFacts.{run_grows, still_role, turn_role}
+use Rattle.actor_rounds.proofs.RunFacts.{run_grows, still_role}
+use Rattle.worker_core.proofs.Answered.{turn_role}
 use Rattle.settle_pays.specs.Pays.Pays.{AllPay, HavePaid, Pays}
 use Rattle.settle_pays.proofs.Pays.Slots.{older_run}
 

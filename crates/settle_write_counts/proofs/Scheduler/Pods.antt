@@ -48,7 +48,8 @@ use Rattle.worker_core.proofs.ByKind.{placed}
 use Rattle.worker_core.proofs.Machines.{KeepsUnder, keeps_under}
 use Rattle.worker_core.proofs.Owning.{stood}
 use Rattle.actor_rounds.specs.Rounds.{Asks, IsHeld, IsIdle, IsReady, IsSpent, Lets, Runs, told_entry}
-use Rattle.actor_rounds.proofs.RunFacts.{run_grows, still_role, turn_role}
+use Rattle.actor_rounds.proofs.RunFacts.{run_grows, still_role}
+use Rattle.worker_core.proofs.Answered.{turn_role}
 use Rattle.settle_slot.specs.Slot.Slots.{KnowsBehind}
 use Rattle.settle_slot.proofs.Slot.Knowing.{lost_knows, sees, told_knows, turned_knows}
 use Rattle.settle_slot.proofs.Slot.Slots.{nothing_behind}

@@ -48,7 +48,7 @@ use Rattle.binder_machines.specs.declared.machine.Machine.{Machine}
 use Rattle.binder_machines.specs.declared.machine.Machine.TheVariants.{Binds}
 use Rattle.binder_machines.specs.FirstSteps.{IsClaimFirst, IsFirst, lost_for, queue_of, volume_first}
 use Rattle.binder_machines.specs.Machines.{machine_for}
-use Rattle.safety_law.proofs.Invariant.Objects.{some_volume}
+use Rattle.volume_index.proofs.PlacesBehind.{some_volume}
 use Rattle.size_law.specs.Law.Fitting.{Fits, IsReservedFor, Suits}
 use Rattle.size_law.proofs.Law.Fields.{beq_same}
 use Rattle.binder_machines.proofs.Begun.{first_back}

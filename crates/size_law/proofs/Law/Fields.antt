@@ -24,7 +24,7 @@ use Rattle.binder_model.specs.Same.{same_option, same_modes, same_amount, same_s
 use Rattle.binder_model.specs.Guard.{annotations_before, clears_released, changes_annotation, has_uid}
 use Rattle.safety_law.specs.Invariant.Was.{Refers}
 use Rattle.safety_law.proofs.Law.Users.{Passes, same_refs, same_texts}
-use Rattle.safety_law.proofs.Law.Allowed.{faulty_none}
+use Rattle.model_laws.proofs.Identity.{faulty_none}
 use Rattle.size_law.specs.Law.Fitting.{is_marked}
 
 -- fields that an update keeps

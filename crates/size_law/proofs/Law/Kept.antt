@@ -20,7 +20,8 @@ use Rattle.binder_model.specs.World.{World, world, effect}
 use Rattle.model_laws.specs.Stood.{Stood}
 use Rattle.model_laws.proofs.Lists.{none_some}
 use Rattle.safety_law.specs.Invariant.Moves.{Moves}
-use Rattle.safety_law.proofs.Invariant.Objects.{same_claim, some_volume}
+use Rattle.safety_law.proofs.Invariant.Objects.{same_claim}
+use Rattle.volume_index.proofs.PlacesBehind.{some_volume}
 use Rattle.safety_law.specs.Invariant.Was.{Made, Refers}
 use Rattle.safety_law.specs.Invariant.Invariant.{Invariant}
 use Rattle.safety_law.proofs.Invariant.Came.{row_stands, row_was, fresh, old_stood, volume_came, claim_came}

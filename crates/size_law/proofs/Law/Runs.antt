@@ -31,7 +31,7 @@ use Rattle.binder_model.specs.BindWrites.{completed_with, taken_for, write_bound
 use Rattle.binder_model.specs.BinderLicence.{MayBind, MayComplete, MayTake}
 use Rattle.binder_model.specs.Licence.{Licensed}
 use Rattle.binder_model.specs.ObjectKeys.{claim_key, volume_key}
-use Rattle.safety_law.proofs.Invariant.Objects.{some_volume}
+use Rattle.volume_index.proofs.PlacesBehind.{some_volume}
 use Rattle.binder_model.specs.Run.{Run}
 use Rattle.binder_model.specs.Safe.{Counts}
 use Rattle.model_laws.specs.Stood.{Stood}

@@ -12,7 +12,8 @@ use Rattle.worker_core.specs.Turns.{IsTurn}
 use Rattle.actor_rounds.specs.Answers.Answered.{Lets}
 use Rattle.actor_rounds.specs.Calling.{CameTo}
 use Rattle.actor_rounds.specs.Rounds.{IsIdle, IsSpent}
-use Rattle.actor_rounds.proofs.RunFacts.{call_actors, call_grown, call_runs, call_stands, call_users, called_whole, idle_after, still_role, turn_kind, turn_role, turned_whole}
+use Rattle.actor_rounds.proofs.RunFacts.{call_actors, call_grown, call_runs, call_stands, call_users, called_whole, idle_after, still_role, turn_kind, turned_whole}
+use Rattle.worker_core.proofs.Answered.{turn_role}
 use Rattle.actor_rounds.proofs.run.run.Goals as goal
 
 pub returns-in-None-clause-runs : goal.returns-in-None-clause-runs

@@ -12,7 +12,8 @@ returns-else-is_default g c =
     let there = sym c.class_at.ensures ∙ ap option_copied c.in-Some.is in
     elim c.else-is_default.branch [
       | else-is_default-via-then-is_default+else-comes_first w ↦
-          not_first (g.L.Lookup.rows c.args.lookup.now) c.args.place c.args.before _ there (sym c.is_default.ensures ∙ w.if-is_default.true) (sym w.comes_first.ensures ∙ w.if-comes_first.false) c.requires
+          not_first (g.L.Lookup.rows c.args.lookup.now) c.args.place c.args.before _ there (sym c.is_default.ensures ∙ w.if-is_default.true)
+          (sym w.comes_first.ensures ∙ w.if-comes_first.false) c.requires
       | else-is_default-via-else-is_default w ↦
           unmarked (g.L.Lookup.rows c.args.lookup.now) c.args.place c.args.before _ there (sym c.is_default.ensures ∙ w.if-is_default.false) c.requires
     ]

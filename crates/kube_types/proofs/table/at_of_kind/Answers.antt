@@ -17,7 +17,8 @@ returns-then-same_kind c =
     let o = c.index-rows-start.result in
     let begins = subst (λ k. IsKindStart k rows start) c.kind_index.ensures.value c.kind_start-start.ensures.start in
     let at = slice_get_read rows (length rows) (start + c.args.place) o refl (omega (arith, c.if-place-rows.false, c.kind_start-start.ensures.bound)) c.index-rows-start.is in
-    one_there rows c.requires c.args.kind start c.args.place begins c.kind_start-start.ensures.bound o at (sym (ap (λ k. same_kind k c.args.kind) c.kind_of.ensures) ∙ (sym c.same_kind.ensures ∙ c.if-same_kind.true))
+    one_there rows c.requires c.args.kind start c.args.place begins c.kind_start-start.ensures.bound o at
+    (sym (ap (λ k. same_kind k c.args.kind) c.kind_of.ensures) ∙ (sym c.same_kind.ensures ∙ c.if-same_kind.true))
 
 pub returns-else-same_kind : goal.returns-else-same_kind
 returns-else-same_kind c =
@@ -26,4 +27,5 @@ returns-else-same_kind c =
     let o = c.index-rows-start.result in
     let begins = subst (λ k. IsKindStart k rows start) c.kind_index.ensures.value c.kind_start-start.ensures.start in
     let at = slice_get_read rows (length rows) (start + c.args.place) o refl (omega (arith, c.if-place-rows.false, c.kind_start-start.ensures.bound)) c.index-rows-start.is in
-    none_there rows c.requires c.args.kind start c.args.place begins c.kind_start-start.ensures.bound o at (sym (ap (λ k. same_kind k c.args.kind) c.kind_of.ensures) ∙ (sym c.same_kind.ensures ∙ c.if-same_kind.false))
+    none_there rows c.requires c.args.kind start c.args.place begins c.kind_start-start.ensures.bound o at
+    (sym (ap (λ k. same_kind k c.args.kind) c.kind_of.ensures) ∙ (sym c.same_kind.ensures ∙ c.if-same_kind.false))

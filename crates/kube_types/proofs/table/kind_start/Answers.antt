@@ -13,6 +13,8 @@ returns-in-Ok-clause-start c =
 
 pub returns-in-Err-clause-start : goal.returns-in-Err-clause-start
 returns-in-Err-clause-start c =
-    let up : (x y : Object) → key_cmp (key_of x) (key_of y) ≡ Less → ordering_index (rank_from c.args.index (kind_index (kind_of x))) ≤ ordering_index (rank_from c.args.index (kind_index (kind_of y))) = λ x y e. rank_rises c.args.index _ _ (kinds_up (key_of x) (key_of y) e) in
+    let up : (x y : Object) → key_cmp (key_of x) (key_of y) ≡ Less
+    → ordering_index (rank_from c.args.index (kind_index (kind_of x))) ≤ ordering_index (rank_from c.args.index (kind_index (kind_of y))) =
+    λ x y e. rank_rises c.args.index _ _ (kinds_up (key_of x) (key_of y) e) in
     let parts = c.in-Err.ensures.position (levels_rise key_cmp key_of (λ o. ordering_index (rank_from c.args.index (kind_index (kind_of o)))) up _ c.requires) in
     (λ k d ge lt. less_below _ _ (parts.0 k d ge lt), λ k d ge lt. greater_above _ _ (parts.1 k d ge lt))

@@ -13,7 +13,8 @@ placed_is : (rows : List Object) (k : Key) (place : Result ℕ ℕ) (o : Object)
 placed_is rows k (Ok i) o e at gap = put_at key_cmp_total key_of k o e rows i at
 placed_is rows k (Err i) o e at gap = put_gap key_cmp_total key_of k o e rows i gap
 
-ok_part : (r : Result Object OutOfMemory) (old new : List Object) (k : Key) (place : Result ℕ ℕ) (o : Object) → put_row o old ≡ placed_row old place o → OnOk r (new ≡ placed_row old place o) → OnOk r (new ≡ put_row o old)
+ok_part : (r : Result Object OutOfMemory) (old new : List Object) (k : Key) (place : Result ℕ ℕ) (o : Object)
+    → put_row o old ≡ placed_row old place o → OnOk r (new ≡ placed_row old place o) → OnOk r (new ≡ put_row o old)
 ok_part (Ok x) old new k place o is h = h ∙ sym is
 ok_part (Err e) old new k place o is h = tt
 

@@ -1,6 +1,7 @@
 use Rattle.std.proofs.Common.{true≢false, sym, reverse}
 use Rattle.binder_model.specs.Told.{ToldObject}
-use Rattle.licence_scans.proofs.Afters.{after_last, after_some}
+use Rattle.licence_scans.proofs.Afters.{after_last}
+use Rattle.model_laws.proofs.AfterEntries.{after_some}
 use Rattle.licence_scans.proofs.entries.after.Goals as goal
 
 pub returns-in-None : goal.returns-in-None

@@ -17,7 +17,8 @@ returns-in-Ok-clause-put c =
 pub returns-in-Ok-clause-order : goal.returns-in-Ok-clause-order
 returns-in-Ok-clause-order c =
     let at = rw c.deref.ensures.value at c.in-Ok.ensures.at in
-    subst (AreInOrder by_size) (put_at by_size_total (λ u. u) c.args.volume c.args.volume refl _ c.in-Ok.at at) (rising_put by_size_total (λ u. u) c.args.volume c.args.volumes.now.items c.requires.order)
+    subst (AreInOrder by_size) (put_at by_size_total (λ u. u) c.args.volume c.args.volume refl _ c.in-Ok.at at)
+    (rising_put by_size_total (λ u. u) c.args.volume c.args.volumes.now.items c.requires.order)
 
 pub returns-in-Err-clause-put : goal.returns-in-Err-clause-put
 returns-in-Err-clause-put c =

@@ -8,11 +8,13 @@ use Rattle.volume_index.proofs.VolumeOrders.{by_size_total}
 use Rattle.volume_index.proofs.lists.put_by_size.Goals as goal
 
 -- what is put at its place is put in order
-placed_is : (rows : List Volume) (place : Result ℕ ℕ) (v : Volume) → IfOk place (IsAt by_size (λ u. u) v rows) → IfErr place (IsGap by_size (λ u. u) v rows) → put by_size (λ u. u) v rows ≡ placed_row rows place v
+placed_is : (rows : List Volume) (place : Result ℕ ℕ) (v : Volume) → IfOk place (IsAt by_size (λ u. u) v rows)
+    → IfErr place (IsGap by_size (λ u. u) v rows) → put by_size (λ u. u) v rows ≡ placed_row rows place v
 placed_is rows (Ok i) v at gap = put_at by_size_total (λ u. u) v v refl rows i at
 placed_is rows (Err i) v at gap = put_gap by_size_total (λ u. u) v v refl rows i gap
 
-ok_part : (r : Result Volume OutOfMemory) (old new : List Volume) (place : Result ℕ ℕ) (v : Volume) → put by_size (λ u. u) v old ≡ placed_row old place v → OnOk r (new ≡ placed_row old place v) → OnOk r (new ≡ put by_size (λ u. u) v old)
+ok_part : (r : Result Volume OutOfMemory) (old new : List Volume) (place : Result ℕ ℕ) (v : Volume)
+    → put by_size (λ u. u) v old ≡ placed_row old place v → OnOk r (new ≡ placed_row old place v) → OnOk r (new ≡ put by_size (λ u. u) v old)
 ok_part (Ok x) old new place v is h = h ∙ sym is
 ok_part (Err e) old new place v is h = tt
 

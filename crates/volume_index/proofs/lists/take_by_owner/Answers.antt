@@ -12,7 +12,8 @@ returns-in-Ok-clause-without c =
 pub returns-in-Ok-clause-order : goal.returns-in-Ok-clause-order
 returns-in-Ok-clause-order c =
     let at = rw c.deref.ensures.value at c.in-Ok.ensures.at in
-    rw c.remove.ensures.items (subst (AreInOrder by_owner) (without_at by_owner_total (λ v. v) c.args.volume.now _ c.in-Ok.at at) (rising_without by_owner_total (λ v. v) c.args.volume.now _ c.requires))
+    rw c.remove.ensures.items (subst (AreInOrder by_owner) (without_at by_owner_total (λ v. v) c.args.volume.now _ c.in-Ok.at at)
+    (rising_without by_owner_total (λ v. v) c.args.volume.now _ c.requires))
 
 pub returns-in-Err-clause-without : goal.returns-in-Err-clause-without
 returns-in-Err-clause-without c =

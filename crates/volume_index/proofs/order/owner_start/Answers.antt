@@ -16,6 +16,7 @@ pub returns-in-Err-clause-start : goal.returns-in-Err-clause-start
 returns-in-Err-clause-start c =
     let owner : Owner = record { namespace = c.args.owner.now.namespace.now; name = c.args.owner.now.name.now } in
     let up : (x y : Volume) → by_owner x y ≡ Less → ordering_index (rank (is_lt (owner_cmp (owner_of x) owner))) ≤ ordering_index (rank (is_lt (owner_cmp (owner_of y) owner))) =
-    λ x y e. rank_rises (is_lt (owner_cmp (owner_of x) owner)) (is_lt (owner_cmp (owner_of y) owner)) (λ t. before_last owner_total (owner_of x) (owner_of y) owner (first_no_greater (owner_cmp (owner_of x) (owner_of y)) (need_cmp x y) e) t) in
+    λ x y e. rank_rises (is_lt (owner_cmp (owner_of x) owner)) (is_lt (owner_cmp (owner_of y) owner))
+    (λ t. before_last owner_total (owner_of x) (owner_of y) owner (first_no_greater (owner_cmp (owner_of x) (owner_of y)) (need_cmp x y) e) t) in
     let parts = c.in-Err.ensures.position (levels_rise by_owner (λ v. v) (λ v. ordering_index (rank (is_lt (owner_cmp (owner_of v) owner)))) up _ c.requires) in
     (λ k d ge lt. less_passes _ (parts.0 k d ge lt), λ k d ge lt. greater_fails _ (parts.1 k d ge lt))

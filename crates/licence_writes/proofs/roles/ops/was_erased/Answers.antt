@@ -5,7 +5,8 @@ use Rattle.call_types.specs.declared.entry.Entry.{Entry}
 use Rattle.binder_model.specs.OpsLicence.{IsEndedOver, TellsErased}
 use Rattle.binder_model.specs.Told.{IsVolumeWith, ToldVolume}
 use Rattle.licence_writes.specs.OpsRows.Providing.{WasEnded}
-use Rattle.licence_scans.proofs.Afters.{after_last, after_some}
+use Rattle.licence_scans.proofs.Afters.{after_last}
+use Rattle.model_laws.proofs.AfterEntries.{after_some}
 use Rattle.licence_writes.proofs.OpsRows.Erasing.{ended_is}
 use Rattle.licence_writes.proofs.roles.ops.was_erased.Goals as goal
 

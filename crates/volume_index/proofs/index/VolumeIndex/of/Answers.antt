@@ -15,6 +15,7 @@ of_volumes-requires c =
 pub returns : goal.returns
 returns c =
     let same : IsPermutation (volumes_in c.args.rows.now) c.deref.result.now =
-    subst (λ vs. IsPermutation vs c.deref.result.now) c.in_ok-volumes.ensures (subst (IsPermutation c.in_ok-volumes.volumes.items) (sym c.deref.ensures.value) c.sort_unstable_by.ensures.permutation) in
+    subst (λ vs. IsPermutation vs c.deref.result.now) c.in_ok-volumes.ensures
+    (subst (IsPermutation c.in_ok-volumes.volumes.items) (sym c.deref.ensures.value) c.sort_unstable_by.ensures.permutation) in
     IfOk-weaker c.of_volumes.result (λ index. StandsFor index c.deref.result.now) (λ index. StandsFor index (volumes_in c.args.rows.now))
     (λ index stands. stands_alike index (volumes_in c.args.rows.now) c.deref.result.now same stands) c.of_volumes.ensures

@@ -8,7 +8,8 @@ loop-left-init c = (begun c.new-index.result c.args.volumes.now c.new-index.ensu
 
 pub loop-left-preserved : goal.loop-left-preserved
 loop-left-preserved c = (
-  one_more c.loop-left.index c.insert.new.self c.args.volumes.now c.loop-left.left c.index-volumes-left.result (omega arith) c.loop-left.invariant.1 c.index-volumes-left.is c.requires c.in_ok-insert.ensures.ok c.loop-left.invariant.0,
+  one_more c.loop-left.index c.insert.new.self c.args.volumes.now c.loop-left.left c.index-volumes-left.result
+      (omega arith) c.loop-left.invariant.1 c.index-volumes-left.is c.requires c.in_ok-insert.ensures.ok c.loop-left.invariant.0,
   omega (arith, c.loop-left.invariant.1),
 )
 

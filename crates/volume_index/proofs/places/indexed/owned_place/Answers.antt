@@ -11,7 +11,8 @@ use Rattle.volume_index.proofs.places.indexed.owned_place.Goals as goal
 pub kept_place-requires-clause-counted : goal.kept_place-requires-clause-counted
 kept_place-requires-clause-counted c =
     let held = subst (λ vs. (u : VolumeData) → Contains vs u → is_owned u ≡ true) (sym c.owned-owned.ensures.list) c.requires in
-    owned_counted c.args.claim.now.namespace.now c.args.claim.now.name.now c.owned-owned.result.now c.owner_start-start.result c.owned-owned.ensures.order held c.owner_start-start.ensures.start c.owner_start-start.ensures.bound
+    owned_counted c.args.claim.now.namespace.now c.args.claim.now.name.now c.owned-owned.result.now c.owner_start-start.result
+    c.owned-owned.ensures.order held c.owner_start-start.ensures.start c.owner_start-start.ensures.bound
 
 pub returns : goal.returns
 returns c = λ rows order is stands.

@@ -7,7 +7,8 @@ use Rattle.volume_index.proofs.places.indexed.sized_place.Goals as goal
 
 pub kept_place-requires-clause-counted : goal.kept_place-requires-clause-counted
 kept_place-requires-clause-counted c =
-    sized_counted c.args.size.now.block c.args.size.now.class.now c.all-all.result.now c.size_start-start.result c.all-all.ensures.order c.size_start-start.ensures.start c.size_start-start.ensures.bound
+    sized_counted c.args.size.now.block c.args.size.now.class.now c.all-all.result.now c.size_start-start.result c.all-all.ensures.order
+    c.size_start-start.ensures.start c.size_start-start.ensures.bound
 
 pub returns : goal.returns
 returns c = λ rows order is stands.

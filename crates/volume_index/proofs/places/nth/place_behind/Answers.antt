@@ -7,4 +7,5 @@ pub returns-in-None : goal.returns-in-None
 returns-in-None g c = gone_nth _ _ _ (sym c.volume_at.ensures ∙ ap option_copied c.in-None.is)
 
 pub returns-in-Some : goal.returns-in-Some
-returns-in-Some g c = next_nth (g.W.Wanted.test c.args.wanted.now) c.args.objects.now c.args.place c.in-Some.volume.now c.next_place.result (sym c.volume_at.ensures ∙ ap option_copied c.in-Some.is) c.next_place.ensures
+returns-in-Some g c = next_nth (g.W.Wanted.test c.args.wanted.now) c.args.objects.now c.args.place c.in-Some.volume.now c.next_place.result (sym
+    c.volume_at.ensures ∙ ap option_copied c.in-Some.is) c.next_place.ensures

@@ -1,0 +1,23 @@
+-- A key has one newest object of each kind.
+use Rattle.std.proofs.Common.{sym, ap, ◌∙◌}
+use Rattle.std.specs.Prelude.{◌≡◌, List}
+use Rattle.kube_objects.specs.declared.key.Key.{Key}
+use Rattle.kube_objects.specs.declared.objects.Node.{Node as NodeData}
+use Rattle.kube_objects.specs.declared.objects.Pod.{Pod as PodData}
+use Rattle.kube_objects.specs.declared.objects.Volume.{Volume as VolumeData}
+use Rattle.kube_objects.specs.declared.objects.Claim.{Claim as ClaimData}
+use Rattle.kube_objects.specs.declared.objects.Object.TheVariants.{Node, Volume, Claim, Pod}
+use Rattle.call_types.specs.declared.entry.Entry.{Entry}
+use Rattle.binder_model.specs.Told.{IsNewest}
+
+pub newest_pod : (mine : List Entry) (key : Key) (x y : PodData) → IsNewest mine key (Pod x) → IsNewest mine key (Pod y) → x ≡ y
+newest_pod mine key x y e f = ap (pod_of x) (sym e ∙ f)
+
+pub newest_node : (mine : List Entry) (key : Key) (x y : NodeData) → IsNewest mine key (Node x) → IsNewest mine key (Node y) → x ≡ y
+newest_node mine key x y e f = ap (node_of x) (sym e ∙ f)
+
+pub newest_claim : (mine : List Entry) (key : Key) (x y : ClaimData) → IsNewest mine key (Claim x) → IsNewest mine key (Claim y) → x ≡ y
+newest_claim mine key x y e f = ap (claim_of x) (sym e ∙ f)
+
+pub newest_volume : (mine : List Entry) (key : Key) (x y : VolumeData) → IsNewest mine key (Volume x) → IsNewest mine key (Volume y) → x ≡ y
+newest_volume mine key x y e f = ap (volume_of x) (sym e ∙ f)
