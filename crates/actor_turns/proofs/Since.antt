@@ -107,7 +107,7 @@ module _ (s : ActorState) (earlier recent : List Entry) (e : Entry) (request : R
 
       by : (g : Option Given) → GivenStands s.role s.memory g s.under → s.given ≡ g → Passes (e ∷ recent) (given_told (learned s caches request reply) request reply g)
       by None f eg = none_some (ap (given_call s) (sym eg) ∙ ask)
-      by (Some givens.Task) f eg = under s.under stands.settle_round_calls (ap (given_call s) (sym eg) ∙ ask)
+      by (Some givens.Task) f eg = under s.under stands.under_way (ap (given_call s) (sym eg) ∙ ask)
       by (Some givens.Start) f eg = kept_pass s.role s.pass recent e pass (λ kind. start_reads_none s.role.kind s.role.node s.memory e.request kind
           (ap (given_call s) (sym eg) ∙ ask ∙ ap Some (sym is.asked)))
       by (Some (givens.Read k)) f eg = read k (ask_of (cache_of k s.caches)) refl (one _ request (ap (given_call s) (sym eg) ∙ ask))

@@ -56,7 +56,7 @@ module _ (s : ActorState) (mine : List Entry) (kind : Kind) (from : ℕ) (stands
     where
       by : (g : Option Given) → s.given ≡ g → given_call s g ≡ Some (requests.Watch kind from) → s.given ≡ Some (givens.Read kind)
       by None at e = none_some e
-      by (Some givens.Task) at e = absurd (under_no_watch s.role s.under mine kind from stands.settle_round_calls e)
+      by (Some givens.Task) at e = absurd (under_no_watch s.role s.under mine kind from stands.under_way e)
       by (Some givens.Start) at e = absurd (true≢false (sym (itself kind) ∙ start_reads_none s.role.kind s.role.node s.memory (requests.Watch kind from) kind e))
       by (Some (givens.Read k)) at e = at ∙ ap (λ x. Some (givens.Read x)) (read_kind k (ask_of (cache_of k s.caches)) e)
 

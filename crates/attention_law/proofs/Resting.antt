@@ -58,7 +58,7 @@ read_given s mine request kind stands ask reads = by s.given refl ask stands.giv
 
     by : (g : Option Given) → s.given ≡ g → given_call s g ≡ Some request → GivenStands s.role s.memory g s.under → IsRead s
     by None at e f = none_some e
-    by (Some givens.Task) at e f = under s.under stands.settle_round_calls e
+    by (Some givens.Task) at e f = under s.under stands.under_way e
     by (Some givens.Start) at e f = absurd (true≢false (sym reads ∙ start_reads_none s.role.kind s.role.node s.memory request kind e))
     by (Some (givens.Read k)) at e f = record { kind = k; given = at; none = f.1 }
 

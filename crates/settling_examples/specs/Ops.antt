@@ -16,7 +16,7 @@ use Rattle.binder_model.specs.ObjectKeys.{claim_key}
 use Rattle.binder_model.specs.Provisioning.{data_name}
 use Rattle.settle_measure.specs.Left.Small.{free, going, meta, open_claim, volume_of}
 use Rattle.settle_due.specs.Begun.Begun.{IsOfNoneDue}
-use Rattle.settle_write_counts.specs.Ops.Ops.{ops_left, settle_write_counts, to_make}
+use Rattle.settle_write_counts.specs.Ops.Ops.{ops_left, ops_writes, to_make}
 use Rattle.settling_examples.specs.Ending.{class_of, faults_upto, pod_on, setup_with, world_with}
 use Rattle.settling_examples.specs.Near.{claim_with}
 
@@ -26,7 +26,7 @@ made phase = volume_of (data_name (uid_of_serial 2)) 5 None phase
 
 -- how often ops may still write for these objects, with no fault ahead
 abbrev pub writes_for : List Object → ℕ
-writes_for rows = settle_write_counts (setup_with [] []) (world_with rows)
+writes_for rows = ops_writes (setup_with [] []) (world_with rows)
 
 pub record OpsExamples : Type 0 where
   -- a claim may get a volume, one of another name beside it or not; once it has its own, nothing is left, until that has ended
@@ -38,12 +38,12 @@ pub record OpsExamples : Type 0 where
   pub ended : writes_for (Volume (free volumes.Failed) ∷ []) ≡ 1
   pub deleted : writes_for (Volume (going (free volumes.Failed)) ∷ []) ≡ 0
   -- phase Failed may be written once for each planned fault
-  pub faults : settle_write_counts (setup_with (faults_upto 3) []) (world_with []) ≡ 3
+  pub faults : ops_writes (setup_with (faults_upto 3) []) (world_with []) ≡ 3
   -- and a node that is selected for a claim may be taken back once
   pub node : writes_for (Claim (claim_with (codes "n")) ∷ []) ≡ 2
   pub node_of_own : writes_for (Volume (made volumes.Bound) ∷ Claim (claim_with (codes "n")) ∷ []) ≡ 1
   -- all these, of a claim with a node, a volume that has ended and three planned faults
-  pub all : settle_write_counts (setup_with (faults_upto 3) []) (world_with (Volume (free volumes.Failed) ∷ Claim (claim_with (codes "n")) ∷ [])) ≡ 6
+  pub all : ops_writes (setup_with (faults_upto 3) []) (world_with (Volume (free volumes.Failed) ∷ Claim (claim_with (codes "n")) ∷ [])) ≡ 6
 
 -- the volume that is to be made for the claim of this UID, where these objects stand
 abbrev pub to_make_for : Option Uid → List Object → ℕ

@@ -91,7 +91,7 @@ module _ (s : ActorState) (mine : List Entry) (e : Entry) (request : Request) (b
           let call : u.call ≡ e.request = one u.call request c ∙ sym asks_it in
           record {
             caches = after;
-            settle_round_calls = goes_on s.role u mine e reply way call is.told is.answered;
+            under_way = goes_on s.role u mine e reply way call is.told is.answered;
             pass = kept_pass s.role s.pass mine e stands.pass (call_reads_none s.role u mine e way call);
             memory = memory;
             licensed = all_licensed;
@@ -115,10 +115,10 @@ module _ (s : ActorState) (mine : List Entry) (e : Entry) (request : Request) (b
 
       by : (g : Option Given) → GivenStands s.role s.memory g s.under → s.given ≡ g → StandsFor (given_told (learned s caches request reply) request reply g) (e ∷ mine)
       by None f eg = none_some (ap (given_call s) (sym eg) ∙ ask)
-      by (Some givens.Task) f eg = under s.under refl stands.settle_round_calls (ap (given_call s) (sym eg) ∙ ask)
+      by (Some givens.Task) f eg = under s.under refl stands.under_way (ap (given_call s) (sym eg) ∙ ask)
       by (Some givens.Start) f eg = record {
         caches = after;
-        settle_round_calls = subst (λ u. AnyIsUnderWay s.role u (e ∷ mine)) (sym f) tt;
+        under_way = subst (λ u. AnyIsUnderWay s.role u (e ∷ mine)) (sym f) tt;
         pass = kept_pass s.role s.pass mine e stands.pass (start_read eg);
         memory = memory;
         licensed = all_licensed;
@@ -128,7 +128,7 @@ module _ (s : ActorState) (mine : List Entry) (e : Entry) (request : Request) (b
       }
       by (Some (givens.Read k)) f eg = record {
         caches = after;
-        settle_round_calls = subst (λ u. AnyIsUnderWay s.role u (e ∷ mine)) (sym f.1) tt;
+        under_way = subst (λ u. AnyIsUnderWay s.role u (e ∷ mine)) (sym f.1) tt;
         pass = read k (ask_of (cache_of k s.caches)) refl (one _ request (ap (given_call s) (sym eg) ∙ ask));
         memory = memory;
         licensed = all_licensed;
@@ -151,7 +151,7 @@ module _ (s : ActorState) (mine : List Entry) (e : Entry) (request : Request) (b
       under None eu c = none_some c
       under (Some u) eu c = record {
         caches = quiet_caches lost;
-        settle_round_calls = tt;
+        under_way = tt;
         pass = untold_pass s.role s.pass mine e stands.pass lost;
         memory = untold_memory s mine e stands.memory lost;
         licensed = all_licensed;
@@ -163,7 +163,7 @@ module _ (s : ActorState) (mine : List Entry) (e : Entry) (request : Request) (b
       rest : s.under ≡ None → StandsFor (record s { given = None }) (e ∷ mine)
       rest none = record {
         caches = quiet_caches lost;
-        settle_round_calls = subst (λ u. AnyIsUnderWay s.role u (e ∷ mine)) (sym none) tt;
+        under_way = subst (λ u. AnyIsUnderWay s.role u (e ∷ mine)) (sym none) tt;
         pass =
             untold_pass s.role s.pass mine e stands.pass lost;
         memory = untold_memory s mine e stands.memory lost;
@@ -185,7 +185,7 @@ lost_before s mine stands = by s.given
     rest : StandsFor (record s { given = None }) mine
     rest = record {
       caches = stands.caches;
-      settle_round_calls = stands.settle_round_calls;
+      under_way = stands.under_way;
       pass = stands.pass;
       memory = stands.memory;
       licensed =
@@ -199,7 +199,7 @@ lost_before s mine stands = by s.given
     under None = rest
     under (Some u) = record {
       caches = stands.caches;
-      settle_round_calls = tt;
+      under_way = tt;
       pass = stands.pass;
       memory = stands.memory;
       licensed =
@@ -218,7 +218,7 @@ lost_before s mine stands = by s.given
 pub woken_stands : (s : ActorState) (mine : List Entry) → StandsFor s mine → StandsFor (woken s) mine
 woken_stands s mine stands = record {
   caches = stands.caches;
-  settle_round_calls = stands.settle_round_calls;
+  under_way = stands.under_way;
   pass = λ quiet place kind lt. absurd
       (omega (arith, lt));
   memory = stands.memory;

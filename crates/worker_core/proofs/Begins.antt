@@ -24,7 +24,7 @@ starts_empty seats.Agent node = tt
 pub begins : (role : Role) (s : ActorState) → IsNew role s → StandsFor s []
 begins role s new = record {
   caches = new.caches;
-  settle_round_calls = subst (λ (u : Option Under). AnyIsUnderWay s.role u []) (sym new.under) tt;
+  under_way = subst (λ (u : Option Under). AnyIsUnderWay s.role u []) (sym new.under) tt;
   pass = λ quiet. absurd (true≢false (sym (ap (λ (p : Pass). p.event) new.pass) ∙ quiet));
   memory = new.memory;
   licensed = tt;

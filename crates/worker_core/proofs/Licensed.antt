@@ -50,7 +50,7 @@ given_allowed s mine r built stands = by s.given stands.given
   where
     by : (g : Option Given) → GivenStands s.role s.memory g s.under → given_call s g ≡ Some r → RowAllows s.role.kind mine r
     by None f e = none_some e
-    by (Some givens.Task) f e = under_allowed s.role s.under mine r (stood s mine stands) stands.settle_round_calls e
+    by (Some givens.Task) f e = under_allowed s.role s.under mine r (stood s mine stands) stands.under_way e
     by (Some givens.Start) f e = start_allowed s.role.kind s.role.node s.memory mine r built (subst (λ m. EpochStands s.role.kind s.role.node m mine) (sym stands.memory) (epoch_stands s.role mine)) e
     by (Some (givens.Read kind)) f e = subst (λ q. RowAllows s.role.kind mine q) (one _ r e) (read_allowed s.role.kind s.caches mine kind stands.caches f.0)
 

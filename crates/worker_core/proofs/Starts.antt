@@ -118,7 +118,7 @@ module _ (s : ActorState) (mine : List Entry) (e : Entry) (stands : StandsFor s 
 
       by : (g : Option Given) → GivenStands s.role s.memory g s.under → given_call s g ≡ Some e.request → is_take_of s.role.node e.request ≡ is_none (last_epoch s.role.node mine)
       by None f c = none_some c
-      by (Some givens.Task) f c = task s.under stands.settle_round_calls c
+      by (Some givens.Task) f c = task s.under stands.under_way c
       by (Some givens.Start) f c = start_takes s.role.node s.memory.epoch (is_some s.memory.mounts) e.request (subst
           (λ kind. start_of kind s.role.node s.memory ≡ Some e.request) is c) ∙ ap is_none epoch
       by (Some (givens.Read kind)) f c =

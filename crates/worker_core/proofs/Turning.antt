@@ -65,7 +65,7 @@ given_stands : (s : ActorState) (mine : List Entry) (given : Option Given) → S
 given_stands s mine given stands fits =
     record {
       caches = stands.caches;
-      settle_round_calls = stands.settle_round_calls;
+      under_way = stands.under_way;
       pass = stands.pass;
       memory = stands.memory;
       licensed =
@@ -83,10 +83,10 @@ turn_stands s new answer mine order stands = by s.memory.stale s.under (start_ca
 
     keys : (w : Work) (under : Option Under) → AnyIsUnderWay s.role under mine → s.under ≡ None → start_call s.role s.memory ≡ None → AfterKeys s new answer w under → StandsFor new mine
     keys w (Some u) way none started b = subst (λ x. StandsFor x mine) (sym b.state) (record
-        { caches = stands.caches; settle_round_calls = way; pass = stands.pass; memory = stands.memory; licensed = stands.licensed; own = stands.own; start = stands.start; given = tt })
+        { caches = stands.caches; under_way = way; pass = stands.pass; memory = stands.memory; licensed = stands.licensed; own = stands.own; start = stands.start; given = tt })
     keys w None way none started (inl b) = subst (λ x. StandsFor x mine) (sym b.state) (record {
       caches = stands.caches;
-      settle_round_calls = stands.settle_round_calls;
+      under_way = stands.under_way;
       pass = λ q place kind lt. absurd (omega (arith, lt));
       memory = stands.memory;
       licensed = stands.licensed;
@@ -96,7 +96,7 @@ turn_stands s new answer mine order stands = by s.memory.stale s.under (start_ca
     })
     keys w None way none started (inr b) = subst (λ x. StandsFor x mine) (sym b.state) (record {
       caches = stands.caches;
-      settle_round_calls = stands.settle_round_calls;
+      under_way = stands.under_way;
       pass = stands.pass;
       memory = stands.memory;
       licensed =

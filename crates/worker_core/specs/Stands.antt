@@ -93,7 +93,7 @@ GivenStands role memory given under = ⊤
 pub record StandsFor (s : ActorState) (mine : List Entry) : Type 0 where
   -- of each key the caches show the newest told, and they ask what the reads of the entries allow
   pub caches : AllStandFor s.caches mine
-  pub settle_round_calls : AnyIsUnderWay s.role s.under mine
+  pub under_way : AnyIsUnderWay s.role s.under mine
   pub pass : PassStands s.role s.pass mine
   pub memory : s.memory ≡ memory_of s.role mine
   pub licensed : AreLicensed s.role.kind mine

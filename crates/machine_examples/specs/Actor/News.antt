@@ -36,12 +36,12 @@ pub record NewsExamples : Type 0 where
   pub not_by_another_kind : Quiet (watches kinds.PersistentVolumeClaim [] ∷ []) → ⊥
 
 -- a pass that has one kind behind it, and had no event
-abbrev pub settle_round_calls : Pass
-settle_round_calls = record { behind = 1; event = false }
+abbrev pub under_way : Pass
+under_way = record { behind = 1; event = false }
 
 pub record PassExamples : Type 0 where
-  pub goes_on : pass_after settle_round_calls true (requests.Watch kinds.PersistentVolumeClaim 3) (replies.Events (record { events = []; upto = 3 })) ≡ record { behind = 2; event = false }
-  pub has_an_event : pass_after settle_round_calls true (requests.Watch kinds.PersistentVolumeClaim 3)
+  pub goes_on : pass_after under_way true (requests.Watch kinds.PersistentVolumeClaim 3) (replies.Events (record { events = []; upto = 3 })) ≡ record { behind = 2; event = false }
+  pub has_an_event : pass_after under_way true (requests.Watch kinds.PersistentVolumeClaim 3)
       (replies.Events (record { events = change ∷ []; upto = 3 })) ≡ record { behind = 2; event = true }
-  pub waits_where_it_is_gone : pass_after settle_round_calls true (requests.Watch kinds.PersistentVolumeClaim 3) (replies.Refused (refusals.Gone 9)) ≡ record { behind = 1; event = true }
-  pub lists_do_not_count : pass_after settle_round_calls false (requests.List kinds.PersistentVolumeClaim None) (replies.Listed [] 3) ≡ settle_round_calls
+  pub waits_where_it_is_gone : pass_after under_way true (requests.Watch kinds.PersistentVolumeClaim 3) (replies.Refused (refusals.Gone 9)) ≡ record { behind = 1; event = true }
+  pub lists_do_not_count : pass_after under_way false (requests.List kinds.PersistentVolumeClaim None) (replies.Listed [] 3) ≡ under_way

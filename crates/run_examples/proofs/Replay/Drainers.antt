@@ -55,7 +55,7 @@ begun_stands role = begins role (begun_as role) (begun_new role)
 woken_stands : (s : ActorState) (mine : List Entry) → StandsFor s mine → StandsFor (woken s) mine
 woken_stands s mine stands = record {
   caches = stands.caches;
-  settle_round_calls = stands.settle_round_calls;
+  under_way = stands.under_way;
   pass = λ quiet place kind low at. absurd (omega (arith, low));
   memory = stands.memory;
   licensed = stands.licensed;

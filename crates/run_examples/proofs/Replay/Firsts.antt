@@ -173,7 +173,7 @@ lists_next s given answer mine kind is stands first never turn = by s.memory.sta
     by : (stale : Bool) (u : Option Under) (start : Option Request) (l p : Option Kind) → s.memory.stale ≡ stale → s.under ≡ u
         → start_call s.role s.memory ≡ start → unlisted s ≡ l → TurnBy s given answer stale u start l p → ListsNext s answer
     by true u start l p es eu et el t = absurd (true≢false (sym es ∙ fresh))
-    by false (Some u) start l p es eu et el t = absurd (no_way s.role kind u mine is first never (subst (λ (o : Option Under). AnyIsUnderWay s.role o mine) eu stands.settle_round_calls))
+    by false (Some u) start l p es eu et el t = absurd (no_way s.role kind u mine is first never (subst (λ (o : Option Under). AnyIsUnderWay s.role o mine) eu stands.under_way))
     by false None (Some request) l p es eu et el t = none_some (ap (λ (r : Role). start_call r s.memory) (sym is) ∙ et)
     by false None None (Some k) p es eu et el t =
         record { kind = k; lacks = el; call = t.call ∙ ap (λ (r : Request). nexts.Call r) (asked_list s.caches k (lacking_from s.caches (kinds_of s.role.kind) k el)) }

@@ -169,8 +169,8 @@ step_plain rows p =
     let found = ap (first_taking (contents_of rows) (plain_pod p)) (rows_plain kinds.Node rows) ∙ first_plain rows p (rows_of kinds.Node rows) in
     let assigned = ap assigned_node found ∙ assigned_plain (first_taking rows p (rows_of kinds.Node rows)) in
     let elsewhere = any_claims rows p (is_served_elsewhere (contents_of rows)) (is_served_elsewhere rows) (elsewhere_plain rows) in
-    let settle_round_calls = all_claims rows p (is_under_way (contents_of rows)) (is_under_way rows) (under_way_plain rows) in
-    (λ i. if lacking i then GoesNowhere else if completed i then assigned i else if elsewhere i then Waits else if settle_round_calls i then Waits else Searches)
+    let under_way = all_claims rows p (is_under_way (contents_of rows)) (is_under_way rows) (under_way_plain rows) in
+    (λ i. if lacking i then GoesNowhere else if completed i then assigned i else if elsewhere i then Waits else if under_way i then Waits else Searches)
     ∙ by (lacks_claim rows p) (are_completed rows p) (list_any (is_served_elsewhere rows) (claims_of rows p)) (list_all (is_under_way rows) (claims_of rows p))
   where
     by : (a b c d : Bool)

@@ -126,11 +126,11 @@ scheduled_plain : (p q : PodData) → plain_pod p ≡ plain_pod q → is_schedul
 scheduled_plain p q same = ap (λ (x : PodData). is_scheduled x) same
 
 -- the steps of the pod in both, where it is known whether all claims are under way
-step_both : (old new : World) (p q : PodData) → AreNear old new → plain_pod p ≡ plain_pod q → (settle_round_calls : Bool)
-    → plain_step (step_with old.store.rows p settle_round_calls) ≡ plain_step (step_with new.store.rows q settle_round_calls)
-step_both old new p q near same settle_round_calls =
+step_both : (old new : World) (p q : PodData) → AreNear old new → plain_pod p ≡ plain_pod q → (under_way : Bool)
+    → plain_step (step_with old.store.rows p under_way) ≡ plain_step (step_with new.store.rows q under_way)
+step_both old new p q near same under_way =
     let rows = near.rows in
-    sym (step_rest old.store.rows p settle_round_calls) ∙ ((λ i. step_with (rows i) (same i) settle_round_calls) ∙ step_rest new.store.rows q settle_round_calls)
+    sym (step_rest old.store.rows p under_way) ∙ ((λ i. step_with (rows i) (same i) under_way) ∙ step_rest new.store.rows q under_way)
 
 assign_due : (setup : Setup) (w : World) (p : PodData) (s : Step) → IsStepDue setup w p s (Some dues.Assign) → is_assigning s ≡ true
 assign_due setup w p (Assigns n) due = refl

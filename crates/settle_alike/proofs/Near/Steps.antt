@@ -65,27 +65,27 @@ elsewhere_rest rows c = let completed = completed_rest c in let late = late_rest
 
 -- the step, where it is known whether all claims are under way
 abbrev pub step_with : List Object → PodData → Bool → Step
-step_with rows p settle_round_calls =
+step_with rows p under_way =
     if lacks_claim rows p then GoesNowhere
     else if are_completed rows p then assigned_node (first_taking rows p (rows_of kinds.Node rows))
     else if list_any (is_served_elsewhere rows) (claims_of rows p) then Waits
-    else if settle_round_calls then Waits
+    else if under_way then Waits
     else Searches
 
 assigned_rest : (x : Option NodeData) → assigned_node (option_map plain_node x) ≡ plain_step (assigned_node x)
 assigned_rest None = refl
 assigned_rest (Some n) = refl
 
-pub step_rest : (rows : List Object) (p : PodData) (settle_round_calls : Bool) → step_with (rests_of rows) (plain_pod p) settle_round_calls ≡ plain_step (step_with rows p settle_round_calls)
-step_rest rows p settle_round_calls =
+pub step_rest : (rows : List Object) (p : PodData) (under_way : Bool) → step_with (rests_of rows) (plain_pod p) under_way ≡ plain_step (step_with rows p under_way)
+step_rest rows p under_way =
     let lacking = lacks_rest rows p in
     let completed = all_claims rows p is_completed is_completed completed_rest in
     let found = ap (first_taking (rests_of rows) (plain_pod p)) (rows_rest kinds.Node rows) ∙ first_rest rows p (rows_of kinds.Node rows) in
     let assigned = ap assigned_node found ∙ assigned_rest (first_taking rows p (rows_of kinds.Node rows)) in
     let elsewhere = ap (list_any (is_served_elsewhere (rests_of rows))) (claims_rest rows p)
     ∙ any_mapped rest_claim (is_served_elsewhere (rests_of rows)) (is_served_elsewhere rows) (elsewhere_rest rows) (claims_of rows p) in
-    (λ i. if lacking i then GoesNowhere else if completed i then assigned i else if elsewhere i then Waits else if settle_round_calls then Waits else Searches)
-    ∙ by (lacks_claim rows p) (are_completed rows p) (list_any (is_served_elsewhere rows) (claims_of rows p)) settle_round_calls
+    (λ i. if lacking i then GoesNowhere else if completed i then assigned i else if elsewhere i then Waits else if under_way then Waits else Searches)
+    ∙ by (lacks_claim rows p) (are_completed rows p) (list_any (is_served_elsewhere rows) (claims_of rows p)) under_way
   where
     by : (a b c d : Bool)
         → (if a then GoesNowhere else if b then plain_step (assigned_node (first_taking rows p (rows_of kinds.Node rows))) else if c then Waits else if d then Waits else Searches)

@@ -164,7 +164,7 @@ module _ (setup : Setup) (seat : ℕ) (x : ActorState) (request : Request) (repl
       by : (g : Option Given) → x.given ≡ g → selects_node seats.Scheduler request ≡ 0
       by None e = none_some (ap (given_call x) (sym e) ∙ called.ask)
       by (Some givens.Start) e = none_some (ap (λ k. start_of k x.role.node x.memory) (sym kind) ∙ (ap (given_call x) (sym e) ∙ called.ask))
-      by (Some givens.Task) e = under x.under called.stands.settle_round_calls (ap (given_call x) (sym e) ∙ called.ask)
+      by (Some givens.Task) e = under x.under called.stands.under_way (ap (given_call x) (sym e) ∙ called.ask)
       by (Some (givens.Read k)) e = subst (λ r. selects_node seats.Scheduler r ≡ 0) (one (read_of_kind x.caches k) request
           (ap (given_call x) (sym e) ∙ called.ask)) (read_none k (ask_of (cache_of k x.caches)))
 

@@ -139,7 +139,7 @@ agent_call_kind setup w (tasks.Schedule op) request is call = absurd (true≢fal
 
 module _ (setup : Setup) (seat : ℕ) (x : ActorState) (request : Request) (reply : Reply) (h : List Entry) (given : IsCallGiven setup seat x request reply h) where
   pub task_called : x.given ≡ Some givens.Task → TaskCalled x request reply
-  task_called eg = by x.under refl given.stands.settle_round_calls (ap (given_call x) (sym eg) ∙ given.ask)
+  task_called eg = by x.under refl given.stands.under_way (ap (given_call x) (sym eg) ∙ given.ask)
     where
       by : (u : Option Under) → x.under ≡ u → AnyIsUnderWay x.role u (own seat h) → option_map call_under u ≡ Some request → TaskCalled x request reply
       by None eu way c = none_some c

@@ -90,7 +90,7 @@ pub record HeldTask (x : ActorState) : Type 0 where
   pub some : 1 ≤ task_left under.task
 
 pub held_called : (x : ActorState) (mine : List Entry) (request : Request) → StandsFor x mine → asked x ≡ Some request → x.given ≡ Some givens.Task → HeldTask x
-held_called x mine request stands ask eg = by x.under refl stands.settle_round_calls (ap (given_call x) (sym eg) ∙ ask)
+held_called x mine request stands ask eg = by x.under refl stands.under_way (ap (given_call x) (sym eg) ∙ ask)
   where
     by : (u : Option Under) → x.under ≡ u → AnyIsUnderWay x.role u mine → option_map call_under u ≡ Some request → HeldTask x
     by None eu way c = none_some c

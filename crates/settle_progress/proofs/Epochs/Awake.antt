@@ -275,7 +275,7 @@ module _ (setup : Setup) (h : List Entry) (seat : ℕ) (node : List ℕ) (curren
 
       by : (g : Option Given) → given_call s g ≡ Some request → IsFresh setup (world setup h) request
       by None c = none_some c
-      by (Some givens.Task) c = task s.under stands.settle_round_calls c
+      by (Some givens.Task) c = task s.under stands.under_way c
       by (Some givens.Start) c =
           start_fresh s.memory.epoch (is_some s.memory.mounts) request epoch
           (subst (λ n. agent_start n s.memory.epoch (is_some s.memory.mounts) ≡ Some request) named (subst (λ k. start_of k s.role.node s.memory ≡ Some request) kind c))

@@ -221,7 +221,7 @@ agent_takes_own s mine request node is stands ask takes = by s.given ask
 
     by : (g : Option Given) → given_call s g ≡ Some request → (s.role ≡ agent_of node) × (last_epoch node mine ≡ None)
     by None c = none_some c
-    by (Some givens.Task) c = task s.under stands.settle_round_calls c
+    by (Some givens.Task) c = task s.under stands.under_way c
     by (Some givens.Start) c = starts (start_takes_own s.role.node node s.memory.epoch (is_some s.memory.mounts) request (subst (λ kind. start_of kind s.role.node s.memory ≡ Some request) is c) takes)
     by (Some (givens.Read kind)) c = absurd (true≢false (sym takes ∙ (ap (is_take_of node) (sym (one _ request c)) ∙ read_takes_none node kind (ask_of (cache_of kind s.caches)))))
 

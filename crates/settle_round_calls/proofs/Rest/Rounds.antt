@@ -32,7 +32,7 @@ use Rattle.settle_write_counts.proofs.Passed.Slots.{passed_schedulers_write_litt
 use Rattle.settle_pays.proofs.Pays.Slots.{older_run}
 use Rattle.settle_write_counts.proofs.Rounds.Runs.{silent_run}
 use Rattle.settle_write_counts.proofs.Rounds.Slots.{counted, schedulers_select_few}
-use Rattle.settle_write_counts.specs.Ops.Ops.{settle_write_counts}
+use Rattle.settle_write_counts.specs.Ops.Ops.{ops_writes}
 use Rattle.settle_write_counts.proofs.Ops.Bounds.{ops_writes_are_bounded}
 use Rattle.settle_write_counts.proofs.Ops.Slots.{ops_writes_fall}
 use Rattle.settle_write_counts.proofs.Agents.Slots.{agents_write_little, slots_add_no_pod}
@@ -227,7 +227,7 @@ module _ (setup : Setup) (lets : Lets) (past : List Entry) (left : ℕ) (run : I
 
   ops_round : (claims volumes writes : ℕ) (role : Role) (ds : List Drainer) (h : List Entry) (b : ℕ) (after : List Drainer) (whole : Bool)
       → IsRound lets past left ds h b after whole → StandSo (role ∷ roles_of ds) → AreBuilt (roles_of ds) → AreAtRest ds → given_at h
-      → claims_in (world setup h).store.rows ≤ claims → volumes_in (world setup h).store.rows ≤ volumes → settle_write_counts setup (world setup h) ≤ writes
+      → claims_in (world setup h).store.rows ≤ claims → volumes_in (world setup h).store.rows ≤ volumes → ops_writes setup (world setup h) ≤ writes
       → b ≤ left + (8 * writes_since setup h past + (2 * claims + 3 * volumes + idle_of pods (roles_of ds)) + sweep_calls claims volumes *
       (writes / 513) + agent_sweep_calls pods * (pods_in (world setup h).store.rows / 513))
   ops_round claims volumes writes role _ h b _ _ (Ends entries rest) so built rests given few fewer fewest = absurd so

@@ -181,9 +181,9 @@ module _ (setup : Setup) (lets : Lets) (seat : ℕ) (old after : ActorState) (h 
 
   -- ---- the scheduler
 
-  pub settle_write_counts : old.role.kind ≡ seats.Scheduler
+  pub scheduler_writes : old.role.kind ≡ seats.Scheduler
       → writes_since setup h past ≤ claims_in (world setup h).store.rows + volumes_in (world setup h).store.rows + 1 + total pod_size (world setup h).store.rows
-  settle_write_counts kind = by ended (ap (λ k. leftover_writes k (world setup h).store.rows) kind)
+  scheduler_writes kind = by ended (ap (λ k. leftover_writes k (world setup h).store.rows) kind)
     where
       by : HasEnded setup lets seat after past left idle (woken old) h b
           → leftover_writes old.role.kind (world setup h).store.rows ≡ claims_in (world setup h).store.rows + volumes_in (world setup h).store.rows + 1

@@ -32,7 +32,7 @@ use Rattle.settle_round_calls.proofs.Rest.Short.{objects, pods_few, sizes}
 use Rattle.settle_round_calls.specs.Rounds.EveryRound.{EveryRoundIsShort}
 use Rattle.settle_round_calls.proofs.Rounds.Counts.{slot_fewer}
 use Rattle.settle_round_calls.proofs.Rounds.Numbers.{agent_calls, ops_calls, ops_times, round_calls, stated}
-use Rattle.settle_round_calls.proofs.Rounds.Slots.{IsGuard, agent_costs, guard_writes, ops_costs, ops_work, scheduler_work, settle_write_counts, sure_costs}
+use Rattle.settle_round_calls.proofs.Rounds.Slots.{IsGuard, agent_costs, guard_writes, ops_costs, ops_work, scheduler_work, scheduler_writes, sure_costs}
 
 -- ---- roles
 
@@ -208,7 +208,7 @@ module _ (setup : Setup) (lets : Lets) (past : List Entry) (left : ℕ) (allow :
       let fewer = slot_fewer setup lets d.seat d.actor ran.actor h middle b rest idle built here runs in
       let kept = scheduler_keeps setup lets d.seat d.actor ran.actor h middle b rest idle kind here runs in
       let now = sure_costs setup lets d.seat d.actor ran.actor h middle b rest idle built allow here holds runs (ap begins_to_last kind) in
-      let writes = settle_write_counts setup lets d.seat d.actor ran.actor h middle b rest idle built allow here holds runs kind in
+      let writes = scheduler_writes setup lets d.seat d.actor ran.actor h middle b rest idle built allow here holds runs kind in
       let work = scheduler_work setup lets d.seat d.actor ran.actor h middle b rest idle built allow here holds runs kind in
       let stay = slots_add_no_pod setup lets d.seat d.actor ran.actor h middle b rest idle built here runs in
       let sweeps = swept_less (claims_in (world setup h).store.rows) (total pod_size (world setup h).store.rows) h middle stay in

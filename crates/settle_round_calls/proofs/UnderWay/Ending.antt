@@ -476,7 +476,7 @@ module _ (setup : Setup) (lets : Lets) (seat : ℕ) (s after_ : ActorState) (h p
       (writes_left setup seat s.role base) (volumes_left setup seat s.role base) calls_some (each setup seat s.role base) s h b runs refl begun)
     where
       way : (u : Under) → s.under ≡ Some u → KeepsUnder s.role u (own seat h)
-      way u e = keeps_under s.role u (own seat h) (stood s (own seat h) ready.stands.told) (subst (λ y. AnyIsUnderWay s.role y (own seat h)) e ready.stands.told.settle_round_calls)
+      way u e = keeps_under s.role u (own seat h) (stood s (own seat h) ready.stands.told) (subst (λ y. AnyIsUnderWay s.role y (own seat h)) e ready.stands.told.under_way)
 
       begun : (u : Under) → s.under ≡ Some u → Keeps setup seat s.role base h u
       begun u e = (omega arith, task_old setup seat h (runs_are_histories setup h (run_at setup lets seat after_ past left idle run s h b runs).run) u.task (way u e).keeps)

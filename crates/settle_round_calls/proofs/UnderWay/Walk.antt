@@ -155,7 +155,7 @@ module _ (setup : Setup) (lets : Lets) (seat : ℕ) (after : ActorState) (past :
 
             way : KeepsUnder role u (own seat h)
             way = subst (λ r. KeepsUnder r u (own seat h)) is
-                (keeps_under s.role u (own seat h) (stood s (own seat h) ready.stands.told) (subst (λ y. AnyIsUnderWay s.role y (own seat h)) ex ready.stands.told.settle_round_calls))
+                (keeps_under s.role u (own seat h) (stood s (own seat h) ready.stands.told) (subst (λ y. AnyIsUnderWay s.role y (own seat h)) ex ready.stands.told.under_way))
 
             moves : Moves setup Keeps calls writes volumes e h u
             moves = each e h u (run_at setup lets seat after past left idle run next (e ∷ h) (b - 1) more) (one request u.call (ap call_in t.call)) kind_is way (keeps u ex)
@@ -198,7 +198,7 @@ module _ (setup : Setup) (lets : Lets) (seat : ℕ) (after : ActorState) (past :
             pass = ap (λ (y : ActorState). y.pass) absorbs ∙ (lost_pass given given.given given.under task ∙ ap (λ (y : ActorState). y.pass) t.state)
 
             way : KeepsUnder s.role u (own seat h)
-            way = keeps_under s.role u (own seat h) (stood s (own seat h) ready.stands.told) (subst (λ y. AnyIsUnderWay s.role y (own seat h)) ex ready.stands.told.settle_round_calls)
+            way = keeps_under s.role u (own seat h) (stood s (own seat h) ready.stands.told) (subst (λ y. AnyIsUnderWay s.role y (own seat h)) ex ready.stands.told.under_way)
 
             at_least : 1 ≤ calls (world setup h).store.rows (Some u)
             at_least = some (world setup h).store.rows u way.call

@@ -56,7 +56,7 @@ module _ (setup : Setup) (seat : ℕ) (role : Role) (built : IsBuiltKind role.ki
 
   calls_so : (s given : ActorState) (request : Request) (h older : List Entry) → h ≡ older ++ start → s.role ≡ role → IsHistory setup h
       → IsReady seat s h → IsTurn s given (Call request) → KnowsBehind setup seat s.role s.pass h → Under_ h s → CallsSo h given request
-  calls_so s given request h older since is history ready turn knows settle_round_calls = by s.memory.stale s.under (start_call s.role s.memory) (unlisted s) (passing s) refl refl refl turn
+  calls_so s given request h older since is history ready turn knows under_way = by s.memory.stale s.under (start_call s.role s.memory) (unlisted s) (passing s) refl refl refl turn
     where
       asked : (x : Request) → Call request ≡ Call x → request ≡ x
       asked x e = one request x (ap call_in e)
@@ -95,7 +95,7 @@ module _ (setup : Setup) (seat : ℕ) (role : Role) (built : IsBuiltKind role.ki
       by : (stale : Bool) (under : Option Under) (begin : Option Request) (l p : Option Kind) → s.under ≡ under → start_call s.role s.memory ≡ begin
           → passing s ≡ p → TurnBy s given (Call request) stale under begin l p → CallsSo h given request
       by true under begin l p eu est ep t = none_some (sym (ap call_in t.idle))
-      by false (Some u) begin l p eu est ep t = OfUnder u (ap (λ (x : ActorState). x.under) t.state ∙ eu) (ap (λ (x : ActorState). x.given) t.state) (asked u.call t.call) (settle_round_calls u eu)
+      by false (Some u) begin l p eu est ep t = OfUnder u (ap (λ (x : ActorState). x.under) t.state ∙ eu) (ap (λ (x : ActorState). x.given) t.state) (asked u.call t.call) (under_way u eu)
       by false None (Some r) l p eu est ep t =
           Reads (ap (λ (x : ActorState). x.under) t.state ∙ eu) (subst (NeverLasts setup h) (sym (asked r t.call)) (start_never setup (world setup h) s.role.kind s.role.node s.memory r est))
       by false None None (Some k) p eu est ep t = reads_so k (ap (λ (x : ActorState). x.under) t.state ∙ eu) t.call
@@ -152,14 +152,14 @@ module _ (setup : Setup) (seat : ℕ) (role : Role) (built : IsBuiltKind role.ki
   module _ (after : ActorState) (past : List Entry) (left : ℕ) (idle : Bool) (run : IsRunOf setup past) where
     run_comes : (s : ActorState) (h older : List Entry) (b : ℕ) → Runs all_pass seat after past left idle s h b → h ≡ older ++ start → s.role ≡ role
         → KnowsBehind setup seat s.role s.pass h → Under_ h s → HaveCome h past
-    run_comes s h older b (IsSpent none state entries rest busy) since is knows settle_round_calls = record { newer = []; are = entries; all = tt }
-    run_comes s h older b (IsIdle some ready turn entries rest calm) since is knows settle_round_calls = record { newer = []; are = entries; all = tt }
-    run_comes s h older b (IsHeld given next request some ready turn held absorbs more) since is knows settle_round_calls = absurd (true≢false held)
-    run_comes s h older b (Asks given next request reply some ready turn passes absorbs more) since is knows settle_round_calls =
+    run_comes s h older b (IsSpent none state entries rest busy) since is knows under_way = record { newer = []; are = entries; all = tt }
+    run_comes s h older b (IsIdle some ready turn entries rest calm) since is knows under_way = record { newer = []; are = entries; all = tt }
+    run_comes s h older b (IsHeld given next request some ready turn held absorbs more) since is knows under_way = absurd (true≢false held)
+    run_comes s h older b (Asks given next request reply some ready turn passes absorbs more) since is knows under_way =
         let whole : IsHistory setup (told_entry seat given request reply ∷ h) = run_older setup all_pass seat after past left idle next _ _ more (runs_are_histories setup past run.run) in
         let given_role : given.role ≡ role = turn_role s given (Call request) turn ∙ is in
         let of_kind : given.role.kind ≡ role.kind = ap (λ (r : Role). r.kind) given_role in
-        let so = calls_so s given request h older since is whole.0 ready turn knows settle_round_calls in
+        let so = calls_so s given request h older since is whole.0 ready turn knows under_way in
         let rest = run_comes next (told_entry seat given request reply ∷ h) (told_entry seat given request reply ∷ older) (b - 1) more
         (ap (λ es. told_entry seat given request reply ∷ es) since) (still_role s given next (Call request) request (Told reply) turn absorbs ∙ is)
         (told_knows setup seat s given request reply h (subst (λ (r : Role). IsBuiltKind r.kind) (sym is) built) ready turn whole knows next absorbs)

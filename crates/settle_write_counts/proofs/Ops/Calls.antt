@@ -54,13 +54,13 @@ use Rattle.settle_write_counts.specs.Rounds.Counts.{nodes_in, nodes_on}
 use Rattle.settle_write_counts.proofs.Rounds.Failing.{erase_failed, fails_go, phase_written, under_fails}
 use Rattle.settle_write_counts.proofs.Rounds.Nodes.{IsMoved, ops_nodes, taken_back}
 use Rattle.settle_write_counts.proofs.Rounds.Slots.{ComesTo, Leaves, Wrote, comes_to}
-use Rattle.settle_write_counts.specs.Ops.Ops.{settle_write_counts}
+use Rattle.settle_write_counts.specs.Ops.Ops.{ops_writes}
 use Rattle.settle_write_counts.proofs.Ops.Machines.{HasClaim, StepFits, TaskFits, UnderFits}
 use Rattle.settle_write_counts.proofs.Ops.Rows.{deleted_falls, failed_stays, made_falls, sum, update_stays}
 
 -- the writes that were done, and those that may still be
 unfoldable pub low : Setup → World → ℕ
-low setup w = w.store.version + settle_write_counts setup w
+low setup w = w.store.version + ops_writes setup w
 
 -- ---- the planned faults that are ahead
 

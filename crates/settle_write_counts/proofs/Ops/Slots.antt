@@ -46,7 +46,7 @@ use Rattle.settle_calls.specs.Slots.Slots.{writes_since}
 use Rattle.settle_write_counts.proofs.Rounds.Failing.{none_begins, under_fails}
 use Rattle.settle_write_counts.proofs.Rounds.Runs.{IsCalled, called_at, run_at, silent_run}
 use Rattle.settle_write_counts.proofs.Rounds.Slots.{counted}
-use Rattle.settle_write_counts.specs.Ops.Ops.{OpsWritesFall, settle_write_counts}
+use Rattle.settle_write_counts.specs.Ops.Ops.{OpsWritesFall, ops_writes}
 use Rattle.settle_write_counts.proofs.Ops.Calls.{IsRead, call_lowers, low, read_stays}
 use Rattle.settle_write_counts.proofs.Ops.Machines.{Fits, TaskFits, UnderFits, begun_fits, goes_on, nothing_begun}
 
@@ -220,18 +220,18 @@ module _ (setup : Setup) (lets : Lets) (seat : ℕ) (after : ActorState) (past :
 pub falls_from :
     (setup : Setup) (lets : Lets) (seat : ℕ) (old after : ActorState) (h past : List Entry) (b left : ℕ) (idle : Bool) → old.role.kind ≡ seats.Ops
     → IsRunOf setup past → (old.memory.stale ≡ false → old.under ≡ None)
-    → Runs lets seat after past left idle (begun old) h b → writes_since setup h past + settle_write_counts setup (world setup past) ≤ settle_write_counts setup (world setup h)
+    → Runs lets seat after past left idle (begun old) h b → writes_since setup h past + ops_writes setup (world setup past) ≤ ops_writes setup (world setup h)
 unfolding low
 falls_from setup lets seat old after h past b left idle kind run rests runs = by old.memory.stale refl
   where
     done : writes_since setup h past + (world setup h).store.version ≡ (world setup past).store.version
     done = let g = run_grows lets seat after past left idle (begun old) h b runs in counted setup g.longer.added h past g.longer.are
 
-    by : (stale : Bool) → old.memory.stale ≡ stale → writes_since setup h past + settle_write_counts setup (world setup past) ≤ settle_write_counts setup (world setup h)
+    by : (stale : Bool) → old.memory.stale ≡ stale → writes_since setup h past + ops_writes setup (world setup past) ≤ ops_writes setup (world setup h)
     by true stale =
         let same = (silent_run setup lets seat after past left idle run (begun old) h b runs stale).0 in
         let version = ap (λ es. (world setup es).store.version) same in
-        let writes = ap (λ es. settle_write_counts setup (world setup es)) same in
+        let writes = ap (λ es. ops_writes setup (world setup es)) same in
         let d = done in
         omega (arith, version, writes, d)
     by false fresh =

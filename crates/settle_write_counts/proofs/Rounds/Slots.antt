@@ -224,7 +224,7 @@ module _ (setup : Setup) (seat : ℕ) (x : ActorState) (request : Request) (repl
       by (Some givens.Task) e =
           let under : (told_to x caches request reply).under ≡ (task_told (learned x caches request reply) reply x.under).under =
           ap (λ g. (given_told (learned x caches request reply) request reply g).under) e in
-          let moves = goes x.under refl called.stands.settle_round_calls (ap (given_call x) (sym e) ∙ called.ask) in
+          let moves = goes x.under refl called.stands.under_way (ap (given_call x) (sym e) ∙ called.ask) in
           let same = ap under_fails under in
           omega (arith, moves, same)
       by (Some (givens.Read k)) e =

@@ -175,7 +175,7 @@ module _ (setup : Setup) (seat : ℕ) (x : ActorState) (request : Request) (repl
   task_on : (caches : AllKnown) → x.given ≡ Some givens.Task
       → (world setup (told_entry seat x request reply ∷ h)).store.version + ahead (world setup (told_entry seat x request reply ∷ h))
       (told_to x caches request reply) ≤ (world setup h).store.version + ahead (world setup h) x
-  task_on caches eg = of x.under refl given.stands.settle_round_calls (ap (given_call x) (sym eg) ∙ given.ask)
+  task_on caches eg = of x.under refl given.stands.under_way (ap (given_call x) (sym eg) ∙ given.ask)
     where
       of : (u : Option Under) → x.under ≡ u → AnyIsUnderWay x.role u (own seat h) → option_map call_under u ≡ Some request
           → (world setup (told_entry seat x request reply ∷ h)).store.version + ahead (world setup (told_entry seat x request reply ∷ h))

@@ -37,19 +37,19 @@ ops_left rows (Claim c) = to_make rows c.meta.uid
 ops_left rows o = 0
 
 -- these, the nodes that may be taken back, and phase Failed for each planned fault that is ahead
-abbrev pub settle_write_counts : Setup → World → ℕ
-settle_write_counts setup w = total (ops_left w.store.rows) w.store.rows + nodes_in w + faults_left setup w.devices
+abbrev pub ops_writes : Setup → World → ℕ
+ops_writes setup w = total (ops_left w.store.rows) w.store.rows + nodes_in w + faults_left setup w.devices
 
 -- the provisioner and reclaimer, run with nothing under way: each of its writes lowers that number, and no call of it raises it
 abbrev pub OpsWritesFall : Type 0
 OpsWritesFall =
     (setup : Setup) (lets : Lets) (seat : ℕ) (old after : ActorState) (h past : List Entry) (b left : ℕ) (idle : Bool) → old.role.kind ≡ seats.Ops
     → IsRunOf setup past → (old.memory.stale ≡ false → old.under ≡ None)
-    → Runs lets seat after past left idle (woken old) h b → writes_since setup h past + settle_write_counts setup (world setup past) ≤ settle_write_counts setup (world setup h)
+    → Runs lets seat after past left idle (woken old) h b → writes_since setup h past + ops_writes setup (world setup past) ≤ ops_writes setup (world setup h)
 
 -- it is no more than these, in any world
 abbrev pub OpsWritesAreBounded : Type 0
-OpsWritesAreBounded = (setup : Setup) (w : World) → settle_write_counts setup w ≤ claims_in w.store.rows + volumes_in w.store.rows + nodes_in w + faults_left setup w.devices
+OpsWritesAreBounded = (setup : Setup) (w : World) → ops_writes setup w ≤ claims_in w.store.rows + volumes_in w.store.rows + nodes_in w + faults_left setup w.devices
 
 -- so where the annotations of claims are in order it writes twice for each claim at most, and once for each volume and for each planned fault
 -- that is ahead

@@ -711,7 +711,7 @@ other_writes_last setup seat x request h o imports history stands ask plain writ
 
     by : (g : Option Given) → x.given ≡ g → Lasts setup (world setup h) x.role.kind request
     by None e = none_some (ap (given_call x) (sym e) ∙ ask)
-    by (Some givens.Task) e = under x.under stands.settle_round_calls (ap (given_call x) (sym e) ∙ ask)
+    by (Some givens.Task) e = under x.under stands.under_way (ap (given_call x) (sym e) ∙ ask)
     by (Some givens.Start) e = absurd (start_writes (world setup h) x.role.kind x.role.kind x.role.node x.memory request o (ap (given_call x) (sym e) ∙ ask) writes)
     by (Some (givens.Read k)) e =
         absurd (read_writes (world setup h) x.role.kind k (ask_of (cache_of k x.caches)) o

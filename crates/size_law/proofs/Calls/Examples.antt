@@ -39,7 +39,7 @@ nothing = record { setup = no_setup; past = []; seat = 5; imports = tt; short = 
 binder_stands : stands.StandsFor new_binder []
 binder_stands = record {
   caches = caches_stand seats.Binder 3;
-  settle_round_calls = tt;
+  under_way = tt;
   pass = λ quiet. absurd (true≢false quiet);
   memory = refl;
   licensed = tt;
@@ -51,7 +51,7 @@ binder_stands = record {
 scheduler_stands : stands.StandsFor new_scheduler []
 scheduler_stands = record {
   caches = caches_stand seats.Scheduler 5;
-  settle_round_calls = tt;
+  under_way = tt;
   pass = λ quiet. absurd (true≢false quiet);
   memory = refl;
   licensed = tt;

@@ -178,7 +178,7 @@ asked_gives s mine r stands = by s.given
   where
     by : (g : Option Given) → given_call s g ≡ Some r → GivesFitting s.role.kind mine r
     by None e = none_some e
-    by (Some givens.Task) e = under_gives s.role s.under mine r (stood s mine stands) stands.settle_round_calls e
+    by (Some givens.Task) e = under_gives s.role s.under mine r (stood s mine stands) stands.under_way e
     by (Some givens.Start) e = start_gives s.role.kind s.role.node s.memory mine r e
     by (Some (givens.Read kind)) e = fitting_of s.role.kind mine r (subst (λ q. GivesSo mine q) (one _ r e) (read_gives kind (ask_of (cache_of kind s.caches)) mine))
 
