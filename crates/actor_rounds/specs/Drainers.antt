@@ -11,6 +11,7 @@ use Rattle.worker_core.specs.States.{ActorState}
 use Rattle.attention_law.specs.Queues.{QueueStands}
 use Rattle.actor_rounds.specs.declared.drainers.Drainer.{Drainer}
 
+-- the seats of the drain's actors
 abbrev pub seats_of : List Drainer → List ℕ
 seats_of ds = map (λ (d : Drainer). d.seat) ds
 
@@ -19,6 +20,7 @@ pub record AreSeats (seats : List ℕ) : Type 0 where
   pub some : 0 < length seats
   pub differ : (i j seat : ℕ) → slice_get seats i ≡ Some seat → slice_get seats j ≡ Some seat → i ≡ j
 
+-- the roles of the drain's actors
 abbrev pub roles_of : List Drainer → List Role
 roles_of ds = map (λ (d : Drainer). d.actor.role) ds
 
@@ -28,6 +30,7 @@ roles_of ds = map (λ (d : Drainer). d.actor.role) ds
 abbrev pub of_kind : SeatKind → Role
 of_kind kind = record { kind = kind; node = [] }
 
+-- the role of a node's agent
 abbrev pub agent_of : List ℕ → Role
 agent_of node = record { kind = seats.Agent; node = node }
 
@@ -71,6 +74,7 @@ pub record AreStanding (ds : List Drainer) (past : List Entry) : Type 0 where
 abbrev pub IsIdleNow : Drainer → List Entry → Type 0
 IsIdleNow d past = MayBeIdle d.actor.role d.actor.memory (own d.seat past)
 
+-- each of the drain's actors is idle
 abbrev pub AreIdle : List Drainer → List Entry → Type 0
 AreIdle ds past = (place : ℕ) (d : Drainer) → slice_get ds place ≡ Some d → IsIdleNow d past
 

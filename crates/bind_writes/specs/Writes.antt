@@ -6,6 +6,7 @@ use Rattle.binder_model.specs.BindWrites.{write_bound, write_claim_status, write
 use Rattle.bind_writes.specs.declared.step.Write.{Write}
 use Rattle.bind_writes.specs.declared.step.Write.TheVariants as writes
 
+-- the request of a write of the binding
 abbrev pub write_of : VolumeData → ClaimData → Write → Request
 write_of v c writes.Reference = write_reference v c
 write_of v c writes.Bound = write_bound v

@@ -22,13 +22,16 @@ pub record AreStored (rows : List Object) : Type 0 where
   pub placed : (key : Key) (v : VolumeData) → row_at key rows ≡ Some (Volume v) → v.meta.namespace ≡ []
   pub placed_class : (key : Key) (x : ClassData) → row_at key rows ≡ Some (Class x) → x.meta.namespace ≡ []
 
+-- what the binder begins has a call
 abbrev pub BegunHaveCalls : Type 0
 BegunHaveCalls = (rows : List Object) (key : Key) (machine : Machine) → AreStored rows → IsFirst rows (row_at key rows) (Begins machine) → is_some (call_of machine) ≡ true
 
+-- the machine reads the other object of a binding
 abbrev pub reads : Machine → Bool
 reads (ReadsClaim v) = true
 reads (ReadsVolume c) = true
 reads machine = false
 
+-- what follows such a read has a call
 abbrev pub ReadHaveCalls : Type 0
 ReadHaveCalls = (machine next : Machine) (request : Request) (reply : Reply) → reads machine ≡ true → call_of machine ≡ Some request → moved machine reply ≡ Some next → is_some (call_of next) ≡ true

@@ -40,6 +40,7 @@ pub record MayReadVolume (c : ClaimData) (mine : List Entry) : Type 0 where
   pub completed : is_completed c ≡ true
   pub asks : AsksForVolume mine (volume_key c.volume_name)
 
+-- the entries allow the next call of the machine
 abbrev pub MachineKeeps : Machine → List Entry → Type 0
 MachineKeeps (Frees v) mine = ToldThis v mine × MayFree v
 MachineKeeps (Binds v c) mine = ToldThis v mine × ToldThisClaim c mine

@@ -25,6 +25,7 @@ use Rattle.binder_machines.specs.declared.machine.Machine.{Machine}
 use Rattle.binder_machines.specs.declared.machine.Machine.TheVariants.{Binds, ReadsVolume, AssignsClass, Loses}
 use Rattle.binder_machines.specs.Machines.{machine_for}
 
+-- what begins: a machine, or nothing
 abbrev pub first_of : Option Machine → First
 first_of None = Drops
 first_of (Some machine) = Begins machine
@@ -36,6 +37,7 @@ abbrev pub queue_of : Option Ref → First
 queue_of None = Drops
 queue_of (Some r) = Queues (claim_key r.namespace r.name)
 
+-- what begins for a volume
 abbrev pub volume_first : VolumeData → VolumeAction → First
 volume_first v actions.QueueClaim = queue_of v.claim_ref
 volume_first v action = first_of (machine_for v action)
@@ -67,6 +69,7 @@ pub record IsAssignmentOf (rows : List Object) (c : ClaimData) (first : First) :
   pub default : IsDefaultOf (StandsIn rows) class
   pub begins : first ≡ Begins (AssignsClass c class)
 
+-- what begins for a claim
 abbrev pub IsClaimFirst : List Object → ClaimData → ClaimStep → First → Type 0
 IsClaimFirst rows c steps.Bind first = IsBindingTo rows c first
 IsClaimFirst rows c steps.AssignClass first = IsAssignmentOf rows c first

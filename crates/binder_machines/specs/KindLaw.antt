@@ -13,8 +13,10 @@ use Rattle.binder_machines.specs.declared.machine.Machine.{Machine}
 use Rattle.binder_machines.specs.FirstSteps.{IsFirst}
 use Rattle.binder_machines.specs.Machines.{call_of}
 
+-- the binder's calls for a key read no kind
 abbrev pub CallsReadNoKind : Type 0
 CallsReadNoKind = (machine : Machine) (request : Request) (kind : Kind) → call_of machine ≡ Some request → reads_kind kind request ≡ false
 
+-- only a volume queues another key, and that key is a claim's
 abbrev pub VolumesQueueClaims : Type 0
 VolumesQueueClaims = (rows : List Object) (key other : Key) → IsFirst rows (row_at key rows) (Queues other) → (key.kind ≡ kinds.PersistentVolume) × (other.kind ≡ kinds.PersistentVolumeClaim)

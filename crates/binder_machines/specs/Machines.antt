@@ -83,6 +83,7 @@ claim_call v = if is_empty v.meta.namespace && is_some v.meta.uid then read_of v
 abbrev pub volume_call : ClaimData → Option Request
 volume_call c = if is_some c.meta.uid then Some (Get (volume_key c.volume_name)) else None
 
+-- the next call of a machine
 unfoldable pub call_of : Machine → Option Request
 call_of (Frees v) = phase_call v volumes.Available
 call_of (Binds v c) = bind_call v c
@@ -96,6 +97,7 @@ call_of (Loses c) = Some (write_lost c)
 
 -- what a decision begins
 
+-- the machine that does what was decided for a volume
 abbrev pub machine_for : VolumeData → VolumeAction → Option Machine
 machine_for v actions.Nothing = None
 machine_for v actions.ReadClaim = Some (ReadsClaim v)
@@ -112,6 +114,7 @@ confirmed_for c _ = None
 
 -- the decisions after a read
 
+-- the claim that stands there, if it has this UID
 abbrev pub claim_of_uid : Option Uid → Option Object → Option ClaimData
 claim_of_uid None o = None
 claim_of_uid (Some uid) o = claim_with uid o

@@ -35,5 +35,6 @@ VolumeReadDecides = (rows : List Object) (c : ClaimData) (reply : Reply) (live :
     → claim_first c (claim_decision rows c NotAsked) ≡ Begins (ReadsVolume c) → IsAnswer reply live
     → moved (ReadsVolume c) reply ≡ confirmed_for c (claim_decision rows c live)
 
+-- a parked machine has ended
 abbrev pub ParkedHaveEnded : Type 0
 ParkedHaveEnded = (machine : Machine) (reply : Reply) → parks_at machine reply ≡ true → moved machine reply ≡ None

@@ -36,6 +36,7 @@ abbrev pub binary : List Bool → ℕ
 binary [] = 0
 binary (c ∷ cs) = (if c then 2 ^ length cs else 0) + binary cs
 
+-- some row fits the conditions
 abbrev pub some_row_fits : {k : ℕ} → List (CaseRow k) → List Bool → Bool
 some_row_fits rows cs = list_any (row_fits cs) rows
 

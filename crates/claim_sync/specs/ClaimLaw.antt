@@ -25,5 +25,6 @@ pub record ReadsRows (rows : List Object) (c : ClaimData) (live : Live) : Type 0
   pub asked : is_asked live ≡ true
   pub volume : live_volume live ≡ named_volume rows c
 
+-- what is decided for a claim is what is due for it
 abbrev pub DecidesDue : Type 0
 DecidesDue = (rows : List Object) (c : ClaimData) (live : Live) → ReadsRows rows c live → due_of (claim_decision rows c live) ≡ claim_due rows c

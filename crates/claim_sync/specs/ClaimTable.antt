@@ -20,6 +20,7 @@ step_number steps.Bind = 2
 step_number steps.AssignClass = 3
 step_number steps.Lost = 4
 
+-- the step of a number in the table
 abbrev pub step_numbered : ℕ → ClaimStep
 step_numbered n =
     if n == 1 then steps.ReadVolume
@@ -28,6 +29,7 @@ step_numbered n =
     else if n == 4 then steps.Lost
     else steps.Nothing
 
+-- a row of the table
 abbrev pub row : List Need → ClaimStep → CaseRow 12
 row needs step = record { needs = needs; action = step_number step }
 
@@ -62,6 +64,7 @@ completed_rows =
     ∷ row (Yes ∷ Any ∷ Yes ∷ Any ∷ Any ∷ Any ∷ Yes ∷ Any ∷ Any ∷ Any ∷ No ∷ No ∷ []) steps.Nothing
     ∷ []
 
+-- the table of claims
 unfoldable pub claim_rows : List (CaseRow 12)
 claim_rows = unbound_rows ++ completed_rows
 

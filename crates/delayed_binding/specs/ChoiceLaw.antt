@@ -36,6 +36,7 @@ IsDueBy setup w p (Prepare name binds provisions) (Some action) = (action ≡ du
 IsDueBy setup w p (Prepare name binds provisions) None = CanPrepare setup w p → ⊥
 IsDueBy setup w p choice action = action ≡ None
 
+-- what is chosen for a pod is what is due for it
 abbrev pub ChoicesAreDue : Type 0
 ChoicesAreDue =
     (setup : Setup) (w : World) (p : PodData) (last : Option (List ℕ)) (choice : Choice) (action : Option Due)
@@ -56,10 +57,12 @@ pub record IsServingNode (rows : List Object) (p : PodData) (name : List ℕ) : 
   pub shares : List Share
   pub serves : Serves rows p node shares
 
+-- the choice names such a node
 abbrev pub IsNodeOf : List Object → PodData → Choice → Type 0
 IsNodeOf rows p (Assign name) = IsAssignedNode rows p name
 IsNodeOf rows p (Prepare name binds provisions) = IsServingNode rows p name
 IsNodeOf rows p choice = ⊤
 
+-- the node that is chosen is one that serves the pod
 abbrev pub ChosenNodesAreDue : Type 0
 ChosenNodesAreDue = (rows : List Object) (p : PodData) (last : Option (List ℕ)) (choice : Choice) → AreRows rows → HaveNoNamespace rows → IsChoice rows p last choice → IsNodeOf rows p choice

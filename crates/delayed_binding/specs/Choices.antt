@@ -34,6 +34,7 @@ pub data Stage : Type 0 where
   IsUnderWay : Stage
   IsSearching : Stage
 
+-- how far the claims of a pod have come
 abbrev pub stage_with : List Object → List ClaimData → Stage
 stage_with rows claims =
     if list_all is_completed claims then IsCompleted
@@ -41,6 +42,7 @@ stage_with rows claims =
     else if list_all (is_under_way rows) claims then IsUnderWay
     else IsSearching
 
+-- how far a pod has come with its claims
 abbrev pub stage_of : List Object → PodData → Stage
 stage_of rows p = if lacks_claim rows p then LacksClaim else stage_with rows (claims_of rows p)
 
@@ -69,6 +71,7 @@ pub record IsFirstNode (rows : List Object) (last : Option (List ℕ)) (P : Node
   pub holds : P node
   pub first : (other : NodeData) → IsThere rows other → P other → round_cmp last node other ≢ Greater
 
+-- no node has the property
 abbrev pub HasNoNode : List Object → (NodeData → Type 0) → Type 0
 HasNoNode rows P = (node : NodeData) → IsThere rows node → P node → ⊥
 
@@ -84,6 +87,7 @@ abbrev pub places_from : ℕ → List Object → List ℕ
 places_from place [] = []
 places_from place (o ∷ os) = if is_empty (meta_of o).namespace then places_from (place + 1) os else place ∷ places_from (place + 1) os
 
+-- the places of volumes that no claim may take
 abbrev pub set_aside : List Object → List ℕ
 set_aside rows = places_from 0 (rows_of kinds.PersistentVolume rows)
 
@@ -97,25 +101,30 @@ pub record ServesAll (rows : List Object) (claims : List ClaimData) (node : Node
   pub fixed : list_all (fixed_admit rows node) claims ≡ true
   pub shared : AreShares rows node (set_aside rows) (others_in rows claims) shares
 
+-- the node serves these claims
 abbrev pub ServesClaims : List Object → List ClaimData → NodeData → Type 0
 ServesClaims rows claims node = (shares : List Share) × ServesAll rows claims node shares
 
 -- what is prepared: the keys of each claim that takes a volume and of its volume, and of each that is to be provisioned
 
+-- the claim with the volume, if there is one
 abbrev pub pair_of : ClaimData → Option VolumeData → List (Key × Key)
 pair_of c None = []
 pair_of c (Some v) = (key_of (Claim c), key_of (Volume v)) ∷ []
 
+-- the claims and the volumes that they take
 abbrev pub binds_of : List Object → List ClaimData → List Share → List (Key × Key)
 binds_of rows (c ∷ cs) (TakesVolume place ∷ shares) = pair_of c (volume_at rows place) ++ binds_of rows cs shares
 binds_of rows (c ∷ cs) (IsProvisioned ∷ shares) = binds_of rows cs shares
 binds_of rows _ _ = []
 
+-- the claims for which a volume is to be provisioned
 abbrev pub provisions_of : List ClaimData → List Share → List Key
 provisions_of (c ∷ cs) (TakesVolume place ∷ shares) = provisions_of cs shares
 provisions_of (c ∷ cs) (IsProvisioned ∷ shares) = key_of (Claim c) ∷ provisions_of cs shares
 provisions_of _ _ = []
 
+-- the binds and provisions are those by which the node serves the claims
 pub record Prepares (rows : List Object) (claims : List ClaimData) (node : NodeData) (binds : List (Key × Key)) (provisions : List Key) : Type 0 where
   pub shares : List Share
   pub serves : ServesAll rows claims node shares
@@ -147,6 +156,7 @@ pub record IsPrepared (rows : List Object) (claims : List ClaimData) (last : Opt
   pub first : IsFirstNode rows last (ServesClaims rows claims) node
   pub prepares : Prepares rows claims node binds provisions
 
+-- what is chosen at a stage
 abbrev pub IsChoiceAt : Stage → List Object → List ClaimData → Option (List ℕ) → Choice → Type 0
 IsChoiceAt LacksClaim rows claims last choice = choice ≡ NoNode
 IsChoiceAt IsCompleted rows claims last (Assign name) = IsAssigned rows claims name

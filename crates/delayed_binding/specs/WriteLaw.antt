@@ -47,6 +47,7 @@ OthersAreUnchanged rows later choice nth = (key : Key) → IsUnwritten choice nt
 abbrev pub is_known : ClaimData → Bool
 is_known c = is_some c.meta.uid
 
+-- the pod's claims have UIDs, and it names each once
 pub record AreClaimsKnown (rows : List Object) (p : PodData) : Type 0 where
   pub known : list_all is_known (claims_of rows p) ≡ true
   pub once : has_twice p.claims ≡ false
@@ -74,10 +75,12 @@ pub record IsFitting (rows : List Object) (request : Request) : Type 0 where
   pub is : request ≡ write_reference volume claim
   pub fits : fits volume claim ≡ true
 
+-- where the write is one of a volume's reference, it fits the store
 abbrev pub FitsIfReference : List Object → Request → Type 0
 FitsIfReference rows (Update (Volume new) given) = IsFitting rows (Update (Volume new) given)
 FitsIfReference rows request = ⊤
 
+-- the references that a choice writes fit the store
 abbrev pub ReferencesFit : Type 0
 ReferencesFit =
     (rows : List Object) (p : PodData) (last : Option (List ℕ)) (choice : Choice) (nth : ℕ) (request : Request)
@@ -101,6 +104,7 @@ abbrev pub HasWrite : Choice → Type 0
 HasWrite (Prepare node binds provisions) = 0 < length binds + length provisions
 HasWrite choice = ⊤
 
+-- a choice that prepares has a write
 abbrev pub PreparedHaveWrites : Type 0
 PreparedHaveWrites = (rows : List Object) (p : PodData) (last : Option (List ℕ)) (choice : Choice) → AreRows rows → IsChoice rows p last choice → HasWrite choice
 

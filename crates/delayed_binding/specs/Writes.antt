@@ -31,10 +31,12 @@ bind_write rows pair = reference_write (claim_in (row_at pair.0 rows)) (as_volum
 abbrev pub placed_on : List ℕ → ClaimData → ClaimData
 placed_on node c = record c { meta = record c.meta { annotations = put_pair selected_node node c.meta.annotations } }
 
+-- the write that selects the node for a claim, if the claim is there
 abbrev pub selecting_write : List ℕ → Option ClaimData → Option Request
 selecting_write node None = None
 selecting_write node (Some c) = Some (Update (Claim (placed_on node c)) (Some c.meta.version))
 
+-- the write that selects the node for the claim of a key
 abbrev pub node_write : List Object → List ℕ → Key → Option Request
 node_write rows node key = selecting_write node (claim_in (row_at key rows))
 
@@ -43,6 +45,7 @@ abbrev pub writes_of : List Object → Choice → List (Option Request)
 writes_of rows (Prepare node binds provisions) = map (bind_write rows) binds ++ map (node_write rows node) provisions
 writes_of rows choice = []
 
+-- an option of an option as one option
 abbrev pub joined : {X : Type 0} → Option (Option X) → Option X
 joined None = None
 joined (Some x) = x

@@ -9,6 +9,7 @@ use Rattle.call_types.specs.declared.entry.Entry.{Entry}
 use Rattle.binder_model.specs.Told.{newest, object_of}
 use Rattle.informer_cache.specs.Cache.{Known, CacheStandsFor, kind_known, objects_of}
 
+-- the caches of all kinds
 pub record AllKnown : Type 0 where
   pub classes : Known
   pub nodes : Known
@@ -16,6 +17,7 @@ pub record AllKnown : Type 0 where
   pub claims : Known
   pub pods : Known
 
+-- the cache of a kind
 abbrev pub cache_of : Kind → AllKnown → Known
 cache_of kinds.StorageClass c = c.classes
 cache_of kinds.Node c = c.nodes

@@ -27,6 +27,7 @@ pub record Known : Type 0 where
 abbrev pub known_of : Known → Key → Option Telling
 known_of c key = telling_in c.rows c.lists key
 
+-- the kind of a cache
 abbrev pub kind_known : Known → Kind
 kind_known c = c.rows.kind
 
@@ -45,6 +46,7 @@ abbrev pub ask_from : Option ℕ → Ask
 ask_from None = asks.List
 ask_from (Some version) = asks.Watch version
 
+-- what the cache asks next: a list, or a watch from where it is
 abbrev pub ask_of : Known → Ask
 ask_of c = ask_from c.from
 
@@ -76,6 +78,7 @@ pub record IsDone (e : Entry) (object : Object) : Type 0 where
   pub told : e.told ≡ true
   pub answered : e.reply ≡ Done object
 
+-- the entry told that the object of the key has left, at this version
 pub record IsLeft (e : Entry) (key : Key) (version : ℕ) : Type 0 where
   pub told : e.told ≡ true
   pub object : Object
@@ -87,6 +90,7 @@ pub record IsLeft (e : Entry) (key : Key) (version : ℕ) : Type 0 where
 abbrev pub tells_done : Object → Key → Option Telling
 tells_done o key = tells_key (key_of o) (presence o) key
 
+-- what is told of a key when an object has left
 abbrev pub tells_left : Key → ℕ → Key → Option Telling
 tells_left gone version key = tells_key gone (told_at version None) key
 

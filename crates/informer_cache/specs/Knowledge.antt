@@ -15,6 +15,7 @@ use Rattle.informer_cache.specs.Marks.{AreMarks, mark_at, space_version, greater
 
 -- what was told of keys one by one
 
+-- the rows of a cache: its kind, what was told last of each key, and the objects
 pub record RowState : Type 0 where
   pub kind : Kind
   pub marks : List Mark
@@ -24,9 +25,11 @@ pub record RowState : Type 0 where
 abbrev pub told_at : ℕ → Option Object → Telling
 told_at version object = record { version = version; object = object }
 
+-- what was told last of a key
 abbrev pub row_told : List Mark → List Object → Key → Option Telling
 row_told marks objects key = option_map (λ m. told_at m.version (row_at key objects)) (mark_at key marks)
 
+-- the objects are of this kind
 abbrev pub AreOfKind : Kind → List Object → Type 0
 AreOfKind kind [] = ⊤
 AreOfKind kind (o ∷ os) = (kind_of o ≡ kind) × AreOfKind kind os
@@ -38,11 +41,13 @@ pub record AreKept (kind : Kind) (marks : List Mark) (objects : List Object) : T
   pub of_kind : AreOfKind kind objects
   pub covered : (key : Key) → mark_at key marks ≡ None → row_at key objects ≡ None
 
+-- what was told, as the definitions have it
 abbrev pub telling_of : Told → Telling
 telling_of t = told_at t.version (option_copied t.object)
 
 -- what the lists told of the keys that they lack
 
+-- the versions of the last lists: of the whole kind, and of each namespace
 pub record ListState : Type 0 where
   pub whole : Option ℕ
   pub spaces : List Space
@@ -56,6 +61,7 @@ abbrev pub covers : Option (List ℕ) → Key → Bool
 covers None key = true
 covers (Some namespace) key = bytes_eq namespace key.namespace
 
+-- what a list tells of a key that it does not have
 abbrev pub absence : Option ℕ → Option Telling
 absence version = option_map (λ v. told_at v None) version
 

@@ -24,15 +24,19 @@ use Rattle.node_agent.specs.declared.step.ReadyClaim.{ReadyClaim}
 
 -- the next call
 
+-- the UIDs of the claims that were found ready
 abbrev pub uids_of : List ReadyClaim → List Uid
 uids_of ready = map (λ r. r.uid) ready
 
+-- the call that mounts the pod's claims
 abbrev pub mount_call : AgentOp → Request
 mount_call op = requests.Mount op.node op.epoch op.uid (uids_of op.ready)
 
+-- the call that ends a pod whose claims are unmounted
 abbrev pub finish_call : AgentOp → Request
 finish_call op = requests.FinishPod (pod_key op.pod.meta.namespace op.pod.meta.name) op.uid op.node op.epoch
 
+-- the call at a step
 abbrev pub agent_call_at : AgentOp → AgentStep → Option Request
 agent_call_at op (steps.ReadsClaim name) = Some (requests.Get (claim_key op.pod.meta.namespace name))
 agent_call_at op (steps.ReadsVolume name c) = Some (requests.Get (volume_key c.volume_name))
@@ -43,14 +47,17 @@ agent_call_at op steps.Finishes = Some (finish_call op)
 agent_call_at op steps.Done = None
 agent_call_at op steps.Parked = None
 
+-- the next call for a pod
 unfoldable pub agent_call : AgentOp → Option Request
 agent_call op = agent_call_at op op.step
 
 -- what is read next
 
+-- the claim of this name was read
 abbrev pub is_claim_read : List ℕ → List ReadyClaim → Bool
 is_claim_read name ready = list_any (λ r. bytes_eq r.claim name) ready
 
+-- the volume of this name was read
 abbrev pub is_volume_read : List ℕ → List ReadyClaim → Bool
 is_volume_read name ready = list_any (λ r. bytes_eq r.volume name) ready
 
@@ -60,6 +67,7 @@ abbrev pub next_step : List ReadyClaim → Option (List ℕ) → AgentStep
 next_step ready None = steps.MountsPod
 next_step ready (Some name) = if is_claim_read name ready then steps.Parked else steps.ReadsClaim name
 
+-- the next step for a pod, by the claims that were found ready
 abbrev pub step_for : PodData → List ReadyClaim → AgentStep
 step_for p ready = next_step ready (slice_get p.claims (length ready))
 
@@ -69,6 +77,7 @@ is_agent_ready c = not (is_deleting c.meta) && is_protected_claim c && is_comple
 
 -- what the answer to the next call makes of the machine
 
+-- a claim that was found ready, if its UID is known
 abbrev pub ready_claim : List ℕ → ClaimData → Option Uid → Option ReadyClaim
 ready_claim name c None = None
 ready_claim name c (Some uid) = Some (record { claim = name; uid = uid; volume = c.volume_name })
@@ -83,6 +92,7 @@ abbrev pub after_claim : List ℕ → List ReadyClaim → Reply → AgentStep
 after_claim name ready (Found (Claim c)) = if is_agent_ready c && not (is_volume_read c.volume_name ready) then steps.ReadsVolume name c else steps.Parked
 after_claim name ready reply = steps.Parked
 
+-- the step after an Unmount
 abbrev pub after_unmount : Reply → AgentStep
 after_unmount (Mounted rows) = steps.ReadsMounts
 after_unmount reply = steps.Parked
@@ -92,10 +102,12 @@ abbrev pub after_mounts : Uid → Reply → AgentStep
 after_mounts uid (Mounted rows) = if has_row uid rows then steps.Parked else steps.Finishes
 after_mounts uid reply = steps.Parked
 
+-- the step after the last call
 abbrev pub after_last : Reply → AgentStep
 after_last (Refused refusal) = steps.Parked
 after_last reply = steps.Done
 
+-- the step after an answer
 abbrev pub agent_step_after : Uid → List ReadyClaim → AgentStep → Reply → AgentStep
 agent_step_after uid ready (steps.ReadsClaim name) reply = after_claim name ready reply
 agent_step_after uid ready (steps.ReadsVolume name c) reply = steps.Parked
@@ -106,10 +118,12 @@ agent_step_after uid ready steps.Finishes reply = after_last reply
 agent_step_after uid ready steps.Done reply = steps.Done
 agent_step_after uid ready steps.Parked reply = steps.Parked
 
+-- what is under way after an answer, with one more claim ready or none
 abbrev pub agent_after : AgentOp → AgentStep → Option ReadyClaim → Reply → AgentOp
 agent_after op step (Some r) reply = record op { ready = op.ready ++ r ∷ []; step = step_for op.pod (op.ready ++ r ∷ []) }
 agent_after op step None reply = record op { step = agent_step_after op.uid op.ready step reply }
 
+-- what is under way after an answer
 unfoldable pub agent_moved : AgentOp → Reply → AgentOp
 agent_moved op reply = agent_after op op.step (ready_by op.step reply) reply
 
@@ -120,9 +134,11 @@ agent_parks step = false
 
 -- what begins on a pod of the node: one that is to go is unmounted, one that stays and is not mounted has its claims read
 
+-- what begins for a pod of the node
 abbrev pub at_start : List ℕ → ℕ → PodData → Uid → AgentStep → AgentOp
 at_start node epoch p uid step = record { node = node; epoch = epoch; pod = p; uid = uid; ready = []; step = step }
 
+-- what begins for a pod, by whether it is deleting and mounted
 abbrev pub agent_at : List ℕ → ℕ → PodData → Uid → Bool → Option AgentOp
 agent_at node epoch p uid mounted =
     if is_deleting p.meta then Some (at_start node epoch p uid steps.Unmounts)
@@ -134,9 +150,11 @@ abbrev pub agent_known : List ℕ → ℕ → List MountRow → PodData → Opti
 agent_known node epoch mounts p None = None
 agent_known node epoch mounts p (Some uid) = agent_at node epoch p uid (has_row uid mounts)
 
+-- what begins for a pod, if it is on the node
 abbrev pub agent_for : List ℕ → ℕ → List MountRow → PodData → Option AgentOp
 agent_for node epoch mounts p = if is_scheduled p && bytes_eq p.node node then agent_known node epoch mounts p p.meta.uid else None
 
+-- what an agent begins for what stands under a key
 abbrev pub agent_begins : List ℕ → ℕ → List MountRow → Option Object → Option AgentOp
 agent_begins node epoch mounts (Some (Pod p)) = agent_for node epoch mounts p
 agent_begins node epoch mounts row = None

@@ -53,6 +53,7 @@ pub record IsNext (op : AgentOp) (name : List ℕ) : Type 0 where
   pub place : slice_get op.pod.claims (length op.ready) ≡ Some name
   pub unread : is_claim_read name op.ready ≡ false
 
+-- the entries allow the read of the pod's next claim
 pub record MayReadClaim (op : AgentOp) (name : List ℕ) (mine : List Entry) : Type 0 where
   pub pod : MayReadForPod op mine
   pub next : IsNext op name
@@ -81,6 +82,7 @@ pub record MayFinishPod (op : AgentOp) (mine : List Entry) : Type 0 where
   pub ending : MayEnd op mine
   pub unmounted : was_told_unmounted op.node op.epoch op.uid (since_epoch op.node mine) ≡ true
 
+-- the entries allow the call at a step
 abbrev pub StepKeeps : AgentStep → AgentOp → List Entry → Type 0
 StepKeeps (steps.ReadsClaim name) op mine = MayReadClaim op name mine
 StepKeeps (steps.ReadsVolume name c) op mine = MayReadVolume op name c mine
@@ -94,6 +96,7 @@ StepKeeps step op mine = ⊤
 abbrev pub at_rest : AgentOp → AgentOp
 at_rest op = record op { step = steps.Done }
 
+-- the entries allow the next call for the pod
 abbrev pub AgentKeeps : AgentOp → List Entry → Type 0
 AgentKeeps op mine = StepKeeps op.step (at_rest op) mine
 
@@ -105,6 +108,7 @@ abbrev pub StartedBy : Bool → List ℕ → Entry → List Entry → Type 0 →
 StartedBy true node e mine before = list_any tells_pod (e ∷ mine) ≡ false
 StartedBy false node e mine before = (tells_pod e ≡ true → ListedPods (e ∷ since_epoch node mine)) × before
 
+-- the agent took the node before it asked anything of it
 abbrev pub HasStarted : List ℕ → List Entry → Type 0
 HasStarted node [] = ⊤
 HasStarted node (e ∷ mine) = StartedBy (is_some (epoch_in node e)) node e mine (HasStarted node mine)

@@ -37,10 +37,12 @@ pub record IsUntold (mine : List Entry) : Type 0 where
   pub untold : list_any tells_pod mine ≡ false
   pub unlisted : ListedPods mine → ⊥
 
+-- where this entry takes the node, nothing of its mounts was told yet
 abbrev pub TakenBy : Bool → List Entry → Type 0 → Type 0
 TakenBy true mine before = IsUntold mine
 TakenBy false mine before = before
 
+-- the agent took the node first
 abbrev pub TookFirst : List ℕ → List Entry → Type 0
 TookFirst node [] = ⊤
 TookFirst node (e ∷ mine) = TakenBy (is_some (epoch_in node e)) (e ∷ mine) (TookFirst node mine)

@@ -29,6 +29,7 @@ DecisionsKeep =
     → AllStandFor caches mine → AreRows (all_objects caches) → AreOfKind Scheduler mine
     → BeginsOn (all_objects caches) refused (row_at key (all_objects caches)) (Some op) → ScheduleKeeps op mine
 
+-- what is begun for a pod has a call
 abbrev pub BegunSchedulesHaveCalls : Type 0
 BegunSchedulesHaveCalls = (rows : List Object) (refused : List Tried) (row : Option Object) (op : ScheduleOp) → BeginsOn rows refused row (Some op) → is_some (schedule_call op) ≡ true
 
@@ -36,5 +37,6 @@ BegunSchedulesHaveCalls = (rows : List Object) (refused : List Tried) (row : Opt
 abbrev pub CallsAreWrites : Type 0
 CallsAreWrites = (op : ScheduleOp) (request : Request) → schedule_call op ≡ Some request → is_write request ≡ true
 
+-- what was parked has no call
 abbrev pub ParkedSchedulesHaveEnded : Type 0
 ParkedSchedulesHaveEnded = (op : ScheduleOp) → schedule_parks op.step ≡ true → schedule_call op ≡ None

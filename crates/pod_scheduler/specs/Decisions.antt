@@ -24,6 +24,7 @@ use Rattle.pod_scheduler.specs.declared.tries.Tried.{Tried}
 
 -- the node that was refused last for one of the pod's claims
 
+-- there is a claim, and it has this UID
 abbrev pub is_claim_of : Uid → Option ClaimData → Bool
 is_claim_of uid None = false
 is_claim_of uid (Some c) = is_uid c.meta.uid uid
@@ -49,6 +50,7 @@ abbrev pub is_known_in : Option ClaimData → Bool
 is_known_in None = true
 is_known_in (Some c) = is_some c.meta.uid
 
+-- the UIDs of all claims of the pod are known
 abbrev pub are_known : List Object → PodData → Bool
 are_known rows p = list_all (λ name. is_known_in (claim_named rows p.meta.namespace name)) p.claims
 
@@ -58,6 +60,7 @@ present [] = []
 present (None ∷ xs) = present xs
 present (Some x ∷ xs) = x ∷ present xs
 
+-- the writes that prepare the claims of a pod, where all are known
 abbrev pub prepared_writes : List Object → PodData → Choice → List Request
 prepared_writes rows p choice = if are_known rows p then present (writes_of rows choice) else []
 
@@ -69,10 +72,12 @@ writes_for rows p choice = []
 
 -- what begins: the writes of the choice, where there are any
 
+-- what begins with these writes, if there are any
 abbrev pub begun_with : List Request → Option ScheduleOp
 begun_with [] = None
 begun_with (w ∷ writes) = Some (record { writes = w ∷ writes; step = steps.Writes 0 })
 
+-- what begins for a pod without a node
 pub record BeginsFor (rows : List Object) (refused : List Tried) (p : PodData) (op : Option ScheduleOp) : Type 0 where
   pub choice : Choice
   pub chosen : IsChoice rows p (last_refused rows p refused) choice
@@ -83,6 +88,7 @@ abbrev pub BeginsIf : Bool → List Object → List Tried → PodData → Option
 BeginsIf true rows refused p op = op ≡ None
 BeginsIf false rows refused p op = BeginsFor rows refused p op
 
+-- what begins for what stands under a key
 abbrev pub BeginsOn : List Object → List Tried → Option Object → Option ScheduleOp → Type 0
 BeginsOn rows refused (Some (Pod p)) op = BeginsIf (is_scheduled p) rows refused p op
 BeginsOn rows refused row op = op ≡ None

@@ -20,6 +20,7 @@ use Rattle.pod_scheduler.specs.declared.tries.Tried.{Tried}
 use Rattle.pod_scheduler.specs.Decisions.{BeginsOn, are_known}
 use Rattle.pod_scheduler.specs.Schedules.{schedule_call}
 
+-- the first call of what began
 abbrev pub first_call : Option ScheduleOp → Option Request
 first_call None = None
 first_call (Some op) = schedule_call op
@@ -36,6 +37,7 @@ IsDueAt setup w p (Some (requests.BindPod key uid node)) action = action ≡ Som
 IsDueAt setup w p (Some request) (Some action) = (action ≡ dues.Prepare) × CanPrepare setup w p
 IsDueAt setup w p (Some request) None = CanPrepare setup w p → ⊥
 
+-- what begins for a pod is what is due for it
 abbrev pub BeginsWhatIsDue : Type 0
 BeginsWhatIsDue =
     (setup : Setup) (w : World) (p : PodData) (refused : List Tried) (op : Option ScheduleOp) (action : Option Due)

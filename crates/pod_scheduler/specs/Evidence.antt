@@ -21,9 +21,11 @@ abbrev pub MayWrite : List Entry → List Request → Type 0
 MayWrite mine [] = ⊤
 MayWrite mine (w ∷ writes) = RowAllows seats.Scheduler mine w × AllByRecursion (MayUpdate mine) writes
 
+-- the entries allow the next write
 abbrev pub StepKeeps : ScheduleStep → List Request → List Entry → Type 0
 StepKeeps (steps.Writes place) writes mine = MayWrite mine (drop place writes)
 StepKeeps step writes mine = ⊤
 
+-- the entries allow the next call for the pod
 abbrev pub ScheduleKeeps : ScheduleOp → List Entry → Type 0
 ScheduleKeeps op mine = StepKeeps op.step op.writes mine

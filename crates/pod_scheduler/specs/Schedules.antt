@@ -18,10 +18,12 @@ is_write (requests.Update new given) = true
 is_write (requests.BindPod key uid node) = true
 is_write request = false
 
+-- the request, if it is a write
 abbrev pub only_write : Option Request → Option Request
 only_write None = None
 only_write (Some request) = if is_write request then Some request else None
 
+-- the call at a step
 abbrev pub schedule_call_at : List Request → ScheduleStep → Option Request
 schedule_call_at writes (steps.Writes place) = only_write (slice_get writes place)
 schedule_call_at writes step = None
@@ -36,6 +38,7 @@ is_written (Done (Volume v)) = true
 is_written (Done (Claim c)) = true
 is_written reply = false
 
+-- the reply is a refusal
 abbrev pub is_refused : Reply → Bool
 is_refused (Refused refusal) = true
 is_refused reply = false

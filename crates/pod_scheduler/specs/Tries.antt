@@ -19,29 +19,36 @@ use Rattle.binder_model.specs.Told.{objects_in}
 use Rattle.pod_scheduler.specs.declared.tries.Tried.{Tried}
 use Rattle.pod_scheduler.specs.declared.tries.Tries.{Tries}
 
+-- no node stands selected, and none was refused
 abbrev pub no_tries : Tries
 no_tries = record { selected = []; refused = [] }
 
 -- of one claim at most one
 
+-- the try is of this claim
 abbrev pub is_try_of : Uid → Tried → Bool
 is_try_of uid t = same_uid t.claim uid
 
+-- the tries but those of this claim
 abbrev pub without_tried : Uid → List Tried → List Tried
 without_tried uid ts = filter (λ t. not (is_try_of uid t)) ts
 
+-- the tries with this one in place of older ones of its claim
 abbrev pub renewed : Tried → List Tried → List Tried
 renewed t ts = t ∷ without_tried t.claim ts
 
+-- the try of a claim, if there is one
 abbrev pub tried_of : Uid → List Tried → Option Tried
 tried_of uid [] = None
 tried_of uid (t ∷ ts) = if is_try_of uid t then Some t else tried_of uid ts
 
+-- the node that stands selected for a claim
 abbrev pub node_selected_for : ClaimData → Option (List ℕ)
 node_selected_for c = value_at selected_node c.meta.annotations
 
 -- a claim is seen
 
+-- the node that is seen is another one, or there is none
 abbrev pub is_other_node : List ℕ → Option (List ℕ) → Bool
 is_other_node node None = true
 is_other_node node (Some seen) = not (bytes_eq node seen)
@@ -59,31 +66,38 @@ refused_in c (Some t) = if is_refusal t c then Some t else None
 abbrev pub and_refused : Tried → Tries → Tries
 and_refused t m = record { selected = without_tried t.claim m.selected; refused = renewed t m.refused }
 
+-- the memory with this try refused, if there is one
 abbrev pub refuse_if : Option Tried → Tries → Tries
 refuse_if None m = m
 refuse_if (Some t) m = and_refused t m
 
+-- the memory after a claim was seen
 abbrev pub see_claim : Option Uid → ClaimData → Tries → Tries
 see_claim None c m = m
 see_claim (Some uid) c m = refuse_if (refused_in c (tried_of uid m.selected)) m
 
+-- the memory after an object was seen
 abbrev pub see : Object → Tries → Tries
 see (Claim c) m = see_claim c.meta.uid c m
 see o m = m
 
+-- the memory after these objects were seen
 abbrev pub see_all : List Object → Tries → Tries
 see_all [] m = m
 see_all (o ∷ os) m = see_all os (see o m)
 
 -- a write of a claim was done: the node that it has then stands selected
 
+-- the memory after a node was selected for a claim
 abbrev pub select : Option Uid → Option (List ℕ) → ClaimData → Tries → Tries
 select (Some uid) (Some node) c m = record m { selected = renewed (record { claim = uid; node = node; version = c.meta.version }) m.selected }
 select uid chosen c m = m
 
+-- the memory after the node that stands in the claim was selected
 abbrev pub selected_by : ClaimData → Tries → Tries
 selected_by c m = select c.meta.uid (node_selected_for c) c m
 
+-- the memory after an answer: where a claim was written with a node, that node stands selected
 abbrev pub select_if : Request → Reply → Tries → Tries
 select_if (Update (Claim asked) version) (Done (Claim c)) m = selected_by c m
 select_if request reply m = m

@@ -24,6 +24,7 @@ abbrev pub Selecting : Tried → Request → Reply → Type 0
 Selecting t (Update (Claim asked) given) (Done (Claim c)) = HasNode t c
 Selecting t request reply = ⊥
 
+-- the entry selected the node of this try
 abbrev pub Selects : Tried → Entry → Type 0
 Selects t e = (e.told ≡ true) × Selecting t e.request e.reply
 
@@ -32,6 +33,7 @@ pub record IsWithout (t : Tried) (c : ClaimData) : Type 0 where
   pub claim : HasUid t.claim c
   pub refused : is_refusal t c ≡ true
 
+-- the entry told the claim without that node
 abbrev pub TellsRefused : Tried → Entry → Type 0
 TellsRefused t e = TellsObject (IsClaimWith (IsWithout t)) e
 
@@ -39,5 +41,6 @@ TellsRefused t e = TellsObject (IsClaimWith (IsWithout t)) e
 abbrev pub SelectedWereSelected : Type 0
 SelectedWereSelected = (mine : List Entry) (t : Tried) → SomeOf (λ u. u ≡ t) (tries_of mine).selected → SomeOf (Selects t) mine
 
+-- a refused node was selected, and then the claim was told without it
 abbrev pub RefusedWereRefused : Type 0
 RefusedWereRefused = (mine : List Entry) (t : Tried) → SomeOf (λ u. u ≡ t) (tries_of mine).refused → After (SomeOf (Selects t)) (TellsRefused t) mine

@@ -17,9 +17,11 @@ use Rattle.protect_sync.specs.declared.claims.ClaimGuardStep.TheVariants as step
 
 -- the claim with the finalizer, and without it
 
+-- the claim with its protection finalizer
 abbrev pub guarded_claim : ClaimData → ClaimData
 guarded_claim c = record c { meta = guarded_meta pvc_protection c.meta }
 
+-- the claim without its protection finalizer
 abbrev pub unguarded_claim : ClaimData → ClaimData
 unguarded_claim c = record c { meta = unguarded_meta pvc_protection c.meta }
 
@@ -31,6 +33,7 @@ claim_write_over c new = Update (Claim new) (Some c.meta.version)
 abbrev pub list_call : ClaimData → Option Request
 list_call c = if is_some c.meta.uid then Some (ListOf kinds.Pod (Some c.meta.namespace)) else None
 
+-- the call at a step
 abbrev pub claim_guard_call_at : ClaimGuardStep → ClaimData → Option Request
 claim_guard_call_at steps.Adds c = Some (claim_write_over c (guarded_claim c))
 claim_guard_call_at steps.ListsPods c = list_call c

@@ -20,6 +20,7 @@ claim_guard_for c (Some dues.Guard) = Some (record { claim = c; step = claims.Ad
 claim_guard_for c (Some dues.Unguard) = Some (record { claim = c; step = claims.ListsPods })
 claim_guard_for c action = None
 
+-- what begins for the claim that stands under a key
 abbrev pub claim_guard_begins : List Object → Option Object → Option ClaimGuardOp
 claim_guard_begins rows (Some (Claim c)) = claim_guard_for c (claim_guard_due rows c)
 claim_guard_begins rows row = None
@@ -30,6 +31,7 @@ volume_guard_for v (Some dues.Guard) = Some (record { volume = v; step = volumes
 volume_guard_for v (Some dues.Unguard) = Some (record { volume = v; step = volumes.Drops })
 volume_guard_for v action = None
 
+-- what begins for the volume that stands under a key
 abbrev pub volume_guard_begins : Option Object → Option VolumeGuardOp
 volume_guard_begins (Some (Volume v)) = volume_guard_for v (volume_guard_due v)
 volume_guard_begins row = None

@@ -31,12 +31,14 @@ pub record MayDrop (c : ClaimData) (mine : List Entry) : Type 0 where
   pub deleting : is_deleting c.meta ≡ true
   pub unused : After (ToldClaim (IsDeletingVersion c)) (TellsUnused c) mine
 
+-- the entries allow the call at a step for a claim
 abbrev pub ClaimStepKeeps : ClaimGuardStep → ClaimData → List Entry → Type 0
 ClaimStepKeeps claims.Adds c mine = MayAdd c mine
 ClaimStepKeeps claims.ListsPods c mine = MayList c mine
 ClaimStepKeeps claims.Drops c mine = MayDrop c mine
 ClaimStepKeeps step c mine = ⊤
 
+-- the entries allow the next call for a claim
 abbrev pub ClaimKeeps : ClaimGuardOp → List Entry → Type 0
 ClaimKeeps op mine = ClaimStepKeeps op.step op.claim mine
 
@@ -52,10 +54,12 @@ pub record MayDropVolume (v : VolumeData) (mine : List Entry) : Type 0 where
   pub deleting : is_deleting v.meta ≡ true
   pub loose : is_bound v.phase ≡ false
 
+-- the entries allow the call at a step for a volume
 abbrev pub VolumeStepKeeps : VolumeGuardStep → VolumeData → List Entry → Type 0
 VolumeStepKeeps volumes.Adds v mine = MayAddVolume v mine
 VolumeStepKeeps volumes.Drops v mine = MayDropVolume v mine
 VolumeStepKeeps step v mine = ⊤
 
+-- the entries allow the next call for a volume
 abbrev pub VolumeKeeps : VolumeGuardOp → List Entry → Type 0
 VolumeKeeps op mine = VolumeStepKeeps op.step op.volume mine

@@ -15,9 +15,11 @@ use Rattle.protect_sync.specs.declared.volumes.VolumeGuardStep.TheVariants as st
 
 -- the volume with the finalizer, and without it
 
+-- the volume with its protection finalizer
 abbrev pub guarded_volume : VolumeData → VolumeData
 guarded_volume v = record v { meta = guarded_meta pv_protection v.meta }
 
+-- the volume without its protection finalizer
 abbrev pub unguarded_volume : VolumeData → VolumeData
 unguarded_volume v = record v { meta = unguarded_meta pv_protection v.meta }
 
@@ -25,6 +27,7 @@ unguarded_volume v = record v { meta = unguarded_meta pv_protection v.meta }
 abbrev pub volume_write_over : VolumeData → VolumeData → Request
 volume_write_over v new = Update (Volume new) (Some v.meta.version)
 
+-- the call at a step
 abbrev pub volume_guard_call_at : VolumeGuardStep → VolumeData → Option Request
 volume_guard_call_at steps.Adds v = Some (volume_write_over v (guarded_volume v))
 volume_guard_call_at steps.Drops v = Some (volume_write_over v (unguarded_volume v))

@@ -14,9 +14,11 @@ use Rattle.reclaim_ops.specs.Erasures.{erase_call, erase_parks}
 use Rattle.reclaim_ops.specs.Evidence.{MayDecide}
 use Rattle.reclaim_ops.specs.Provisions.{provision_call, provision_parks}
 
+-- what the provisioner begins has a call
 abbrev pub BegunProvisionsHaveCalls : Type 0
 BegunProvisionsHaveCalls = (rows : List Object) (row : Option Object) (op : ProvisionOp) → claim_begins rows row ≡ Some op → is_some (provision_call op) ≡ true
 
+-- what the reclaimer begins has a call
 abbrev pub BegunErasuresHaveCalls : Type 0
 BegunErasuresHaveCalls = (row : Option Object) (op : EraseOp) → volume_begins row ≡ Some op → is_some (erase_call op) ≡ true
 
@@ -26,15 +28,19 @@ lists_or_watches (requests.List kind namespace) = true
 lists_or_watches (requests.Watch kind from) = true
 lists_or_watches request = false
 
+-- the provisioner's calls are no lists and no watches
 abbrev pub ProvisionCallsReadNoKind : Type 0
 ProvisionCallsReadNoKind = (op : ProvisionOp) (request : Request) → provision_call op ≡ Some request → lists_or_watches request ≡ false
 
+-- the reclaimer's calls are no lists and no watches
 abbrev pub EraseCallsReadNoKind : Type 0
 EraseCallsReadNoKind = (op : EraseOp) (request : Request) → erase_call op ≡ Some request → lists_or_watches request ≡ false
 
+-- a parked provision has no call
 abbrev pub ParkedProvisionsHaveEnded : Type 0
 ParkedProvisionsHaveEnded = (op : ProvisionOp) → provision_parks op.step ≡ true → provision_call op ≡ None
 
+-- a parked erasure has no call
 abbrev pub ParkedErasuresHaveEnded : Type 0
 ParkedErasuresHaveEnded = (op : EraseOp) → erase_parks op.step ≡ true → erase_call op ≡ None
 

@@ -23,6 +23,7 @@ use Rattle.reclaim_ops.specs.declared.provision.ProvisionStep.TheVariants as pro
 use Rattle.reclaim_ops.specs.declared.erase.EraseOp.{EraseOp}
 use Rattle.reclaim_ops.specs.declared.erase.EraseStep.TheVariants as erase_steps
 
+-- the provision of a claim at a step
 abbrev pub at_step : ClaimData → Uid → ClassData → ProvisionStep → ProvisionOp
 at_step c uid x step = record { claim = c; uid = uid; class = x; step = step }
 
@@ -36,12 +37,14 @@ abbrev pub delayed_step : List Object → Option (List ℕ) → Option Provision
 delayed_step rows None = None
 delayed_step rows (Some node) = Some (node_step (row_at (node_key node) rows))
 
+-- the first step for a claim of a class
 abbrev pub first_step : List Object → ClaimData → ClassData → Option ProvisionStep
 first_step rows c x =
     if not (provisions x) then None
     else if x.delayed then delayed_step rows (value_at selected_node c.meta.annotations)
     else Some (provision_steps.Provisions None)
 
+-- what begins at that step, if there is one
 abbrev pub begins_at : ClaimData → Uid → ClassData → Option ProvisionStep → Option ProvisionOp
 begins_at c uid x None = None
 begins_at c uid x (Some step) = Some (at_step c uid x step)
@@ -57,6 +60,7 @@ claim_for rows c =
     if is_wanting c && not (has_match rows c) then by_class rows c c.meta.uid (row_at (class_key (class_of_claim c)) rows)
     else None
 
+-- what the provisioner begins for what stands under a key
 abbrev pub claim_begins : List Object → Option Object → Option ProvisionOp
 claim_begins rows (Some (Claim c)) = claim_for rows c
 claim_begins rows row = None
@@ -66,6 +70,7 @@ abbrev pub volume_for : VolumeData → Option Due → Option EraseOp
 volume_for v (Some dues.Reclaim) = Some (record { volume = v; step = erase_steps.ReadsVolume })
 volume_for v action = None
 
+-- what the reclaimer begins for what stands under a key
 abbrev pub volume_begins : Option Object → Option EraseOp
 volume_begins (Some (Volume v)) = volume_for v (reclaim_due v)
 volume_begins row = None

@@ -22,9 +22,11 @@ due_at setup w op (steps.Provisions labels) =
 due_at setup w op steps.ClearsNode = Some dues.ClearNode
 due_at setup w op step = None
 
+-- what is due by what the provisioner begins
 abbrev pub due_of_provision : Setup → World → Option ProvisionOp → Option Due
 due_of_provision setup w None = None
 due_of_provision setup w (Some op) = due_at setup w op op.step
 
+-- what the provisioner begins for a claim is what is due for it
 abbrev pub BeginsWhatIsDue : Type 0
 BeginsWhatIsDue = (setup : Setup) (w : World) (c : ClaimData) → due_of_provision setup w (claim_for w.store.rows c) ≡ provision_due setup w c

@@ -20,6 +20,7 @@ use Rattle.reclaim_ops.specs.declared.erase.EraseOp.{EraseOp}
 use Rattle.reclaim_ops.specs.declared.erase.EraseStep.{EraseStep}
 use Rattle.reclaim_ops.specs.declared.erase.EraseStep.TheVariants as steps
 
+-- the key of a volume
 abbrev pub key_of_volume : VolumeData → Key
 key_of_volume v = key_of (Volume v)
 
@@ -27,6 +28,7 @@ key_of_volume v = key_of (Volume v)
 abbrev pub fail_call : VolumeData → Request
 fail_call v = requests.UpdateStatus (key_of_volume v) (statuses.Volume phases.Failed) (Some v.meta.version)
 
+-- the call at a step
 abbrev pub erase_call_at : EraseStep → VolumeData → Option Request
 erase_call_at steps.ReadsVolume v = Some (requests.Get (key_of_volume v))
 erase_call_at (steps.Erases uid) v = Some (requests.Erase (data_id_of v.source))
@@ -42,10 +44,12 @@ erase_call op = erase_call_at op.step op.volume
 -- what was read counts from then on, where it is still to be reclaimed. An object has a UID from its creation on. So that test fails in
 -- no history
 
+-- the erasure once the volume was read and its UID is known
 abbrev pub at_known : EraseOp → VolumeData → Option Uid → EraseOp
 at_known op v None = record op { step = steps.Done }
 at_known op v (Some uid) = record { volume = v; step = steps.Erases uid }
 
+-- the erasure once the volume was read: it goes on only while the volume is to be reclaimed
 abbrev pub at_found : EraseOp → VolumeData → EraseOp
 at_found op v = if is_some (reclaim_due v) then at_known op v v.meta.uid else record op { step = steps.Done }
 
@@ -64,6 +68,7 @@ erase_step_after (steps.Erases uid) reply = after_erase uid reply
 erase_step_after step (Refused refusal) = steps.Parked
 erase_step_after step reply = steps.Done
 
+-- the erasure after an answer
 abbrev pub moved_at : EraseOp → EraseStep → Reply → EraseOp
 moved_at op steps.ReadsVolume (Found (Volume v)) = at_found op v
 moved_at op step reply = record op { step = erase_step_after step reply }

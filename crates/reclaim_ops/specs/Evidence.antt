@@ -60,24 +60,29 @@ pub record MayClear (c : ClaimData) (uid : Uid) (mine : List Entry) : Type 0 whe
   pub selected : value_at selected_node c.meta.annotations ≡ Some node
   pub why : IsUnserved mine c uid node
 
+-- the entries allow the call at a step of a provision
 abbrev pub ProvisionStepKeeps : ProvisionStep → ClaimData → Uid → ClassData → List Entry → Type 0
 ProvisionStepKeeps (provision_steps.Provisions labels) c uid x mine = MayAsk c uid x labels mine
 ProvisionStepKeeps (provision_steps.Creates id topology) c uid x mine = MayCreateOver c uid x id topology mine
 ProvisionStepKeeps provision_steps.ClearsNode c uid x mine = MayClear c uid mine
 ProvisionStepKeeps step c uid x mine = ⊤
 
+-- the entries allow the next call of a provision
 abbrev pub ProvisionKeeps : ProvisionOp → List Entry → Type 0
 ProvisionKeeps op mine = ProvisionStepKeeps op.step op.claim op.uid op.class mine
 
 -- what the decision on a claim stands on beside the caches: all nodes were listed. So a node that the look-up lacks was told absent
 
+-- the answer is a list of the whole kind
 abbrev pub IsListOf : Kind → Request → Reply → Type 0
 IsListOf kind (requests.List k None) (Listed items version) = same_kind k kind ≡ true
 IsListOf kind request reply = ⊥
 
+-- the whole kind was listed
 abbrev pub WasListed : Kind → List Entry → Type 0
 WasListed kind mine = SomeOf (λ e. (e.told ≡ true) × IsListOf kind e.request e.reply) mine
 
+-- what must have been told before a claim is decided
 pub record MayDecide (mine : List Entry) : Type 0 where
   pub nodes : WasListed kinds.Node mine
 
@@ -107,6 +112,7 @@ pub record MayWriteFailed (v : VolumeData) (mine : List Entry) : Type 0 where
   pub ended : IsToErase v
   pub failed : After (ToldVolume (λ o. o ≡ v)) (TellsEraseFailed (data_id_of v.source)) mine
 
+-- the entries allow the call at a step of an erasure
 abbrev pub EraseStepKeeps : EraseStep → VolumeData → List Entry → Type 0
 EraseStepKeeps erase_steps.ReadsVolume v mine = MayReclaim v mine
 EraseStepKeeps (erase_steps.Erases uid) v mine = MayEraseData v uid mine
@@ -114,5 +120,6 @@ EraseStepKeeps (erase_steps.Deletes uid) v mine = MayDeleteErased v uid mine
 EraseStepKeeps erase_steps.WritesFailed v mine = MayWriteFailed v mine
 EraseStepKeeps step v mine = ⊤
 
+-- the entries allow the next call of an erasure
 abbrev pub EraseKeeps : EraseOp → List Entry → Type 0
 EraseKeeps op mine = EraseStepKeeps op.step op.volume mine

@@ -31,9 +31,11 @@ create_call c uid x id topology = requests.Create (Volume (provisioned_volume c 
 abbrev pub unselected : ClaimData → ClaimData
 unselected c = record c { meta = record c.meta { annotations = without_key selected_node c.meta.annotations } }
 
+-- the write that takes the node back from a claim
 abbrev pub clear_call : ClaimData → Request
 clear_call c = requests.Update (Claim (unselected c)) (Some c.meta.version)
 
+-- the call at a step
 abbrev pub provision_call_at : ProvisionStep → ClaimData → Uid → ClassData → Option Request
 provision_call_at (steps.Provisions labels) c uid x = Some (ask_call c uid x labels)
 provision_call_at (steps.Creates id topology) c uid x = Some (create_call c uid x id topology)

@@ -18,12 +18,15 @@ IsStamped name uid version m = (m.name ≡ name) × (m.uid ≡ uid) × (m.versio
 abbrev pub namespace : List ℕ
 namespace = codes "default"
 
+-- the key of a volume of this name
 abbrev pub volume_key : List ℕ → Key
 volume_key name = record { kind = kinds.PersistentVolume; namespace = []; name = name }
 
+-- the key of a claim of this name
 abbrev pub claim_key : List ℕ → Key
 claim_key name = record { kind = kinds.PersistentVolumeClaim; namespace = namespace; name = name }
 
+-- the key of a pod of this name
 abbrev pub pod_key : List ℕ → Key
 pod_key name = record { kind = kinds.Pod; namespace = namespace; name = name }
 

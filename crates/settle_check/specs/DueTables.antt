@@ -27,6 +27,7 @@ due_number (Some dues.Assign) = 14
 due_number (Some dues.Mount) = 15
 due_number (Some dues.Finish) = 16
 
+-- what is due, by its number in the table
 abbrev pub due_numbered : ℕ → Option Due
 due_numbered n =
     if n == 1 then Some dues.Available

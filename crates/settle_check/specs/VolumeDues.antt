@@ -56,6 +56,7 @@ settled_rows row =
 abbrev pub row_at_place : ℕ → CaseRow 9
 row_at_place place = slice_index_or volume_rows place (record { needs = []; action = 0 })
 
+-- the table of what is due for volumes
 unfoldable pub volume_due_rows : List (CaseRow 11)
 volume_due_rows =
     volume_binder_row (row_at_place 1) ∷ volume_binder_row (row_at_place 3) ∷ volume_binder_row (row_at_place 7) ∷ volume_binder_row (row_at_place 8) ∷ volume_binder_row (row_at_place 9)

@@ -18,9 +18,11 @@ use Rattle.shared_work.specs.Lines.{AreOfLines, HasDone, asked_by}
 use Rattle.shared_work.specs.Seats.{seats_at}
 use Rattle.shared_work.specs.Users.{AreOfUsers}
 
+-- a list of a kind
 abbrev pub all_of : Kind → Request
 all_of kind = requests.List kind None
 
+-- a user's line that lists a kind
 abbrev pub says : ℕ → Kind → Line
 says user kind = lines.Call user (all_of kind)
 
@@ -28,21 +30,27 @@ says user kind = lines.Call user (all_of kind)
 abbrev pub two_users : List Line
 two_users = says 1 Pod ∷ says 2 Node ∷ lines.Drain ∷ says 1 PersistentVolume ∷ says 1 PersistentVolume ∷ []
 
+-- an empty list
 abbrev pub nothing : Reply
 nothing = replies.Listed [] 0
 
+-- a refusal
 abbrev pub refused : Reply
 refused = replies.Refused NotFound
 
+-- a user's entry
 abbrev pub entry : ℕ → Kind → Reply → Entry
 entry seat kind reply = record { seat = seat; kind = seats.User; request = all_of kind; reply = reply; told = true }
 
+-- the entry, whose answer was lost
 abbrev pub untold : Entry → Entry
 untold e = record e { told = false }
 
+-- the entry, asked by a client of this kind
 abbrev pub asked_as : SeatKind → Entry → Entry
 asked_as kind e = record e { kind = kind }
 
+-- which requests the lines of a user ask
 pub record LineExamples : Type 0 where
   pub in_their_order : asked_by 1 (says 1 Pod ∷ says 1 Node ∷ []) ≡ all_of Pod ∷ all_of Node ∷ []
   pub in_no_other : asked_by 1 (says 1 Pod ∷ says 1 Node ∷ []) ≢ all_of Node ∷ all_of Pod ∷ []
@@ -68,6 +76,7 @@ pub record LineExamples : Type 0 where
 abbrev pub hired : List ℕ → ℕ → Hired (List ℕ)
 hired numbers many = record { worker = numbers; seats = many }
 
+-- which seats workers get
 pub record SeatExamples : Type 0 where
   pub numbers_follow : numbers_from 5 3 ≡ 5 ∷ 6 ∷ 7 ∷ []
   pub no_number : numbers_from 5 0 ≡ []
@@ -81,6 +90,7 @@ pub record SeatExamples : Type 0 where
 abbrev pub mixed : List Entry
 mixed = entry 1 PersistentVolume nothing ∷ entry 2 Node nothing ∷ entry 1 PersistentVolume nothing ∷ entry 1 Pod nothing ∷ []
 
+-- whose entries are those of the users
 pub record UserExamples : Type 0 where
   pub one_between_another : AreOfUsers two_users mixed
   pub no_fifth_seat : AreOfUsers two_users (entry 5 Node nothing ∷ mixed) → ⊥

@@ -10,10 +10,12 @@ use Rattle.call_types.specs.declared.request.SeatKind.TheVariants.{User}
 use Rattle.script_text.specs.declared.script.Line.{Line}
 use Rattle.script_text.specs.declared.script.Line.TheVariants.{Call}
 
+-- the request, where it is asked
 abbrev pub asked_if : Bool → Request → List Request
 asked_if true request = request ∷ []
 asked_if false request = []
 
+-- the request that a line asks for a user
 abbrev pub asked_in : ℕ → Line → List Request
 asked_in user (Call by request) = asked_if (by == user) request
 asked_in user line = []

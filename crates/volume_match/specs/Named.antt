@@ -6,6 +6,7 @@ use Rattle.kube_objects.specs.declared.objects.Object.{Object}
 use Rattle.kube_objects.specs.declared.key.Key.{Key}
 use Rattle.kube_objects.specs.Keys.{key_cmp, key_of}
 
+-- the key of this kind, namespace and name
 abbrev pub key_with_parts : Kind → List ℕ → List ℕ → Key
 key_with_parts kind namespace name = record { kind = kind; namespace = namespace; name = name }
 

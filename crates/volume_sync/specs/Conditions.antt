@@ -13,10 +13,12 @@ use Rattle.volume_sync.specs.VolumeDecision.{refers_by_uid, seen_claim}
 abbrev pub is_settled : VolumeData → Bool
 is_settled v = is_bound v.phase || not (is_protected_volume v)
 
+-- there is a claim, and it names no volume
 abbrev pub names_none : Option ClaimData → Bool
 names_none None = false
 names_none (Some c) = is_empty c.volume_name
 
+-- there is a claim, and it names the volume
 abbrev pub names : Option ClaimData → VolumeData → Bool
 names None v = false
 names (Some c) v = bytes_eq c.volume_name v.meta.name
@@ -26,5 +28,6 @@ unfoldable pub conditions_on : VolumeData → Bool → Option ClaimData → List
 conditions_on v asked claim =
     refers_by_uid v ∷ is_available v.phase ∷ is_ended v.phase ∷ is_some claim ∷ asked ∷ names_none claim ∷ names claim v ∷ is_settled v ∷ is_reclaimed v ∷ []
 
+-- the conditions by which a volume is decided
 abbrev pub volume_conditions : List Object → VolumeData → Live → List Bool
 volume_conditions rows v live = conditions_on v (is_asked live) (seen_claim rows v live)

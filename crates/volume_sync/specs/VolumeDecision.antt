@@ -27,6 +27,7 @@ live_claim uid NotAsked = None
 live_claim uid Absent = None
 live_claim uid (Present o) = claim_with uid (Some o.now)
 
+-- the first claim that is there
 abbrev pub or_else : Option ClaimData → Option ClaimData → Option ClaimData
 or_else (Some c) other = Some c
 or_else None other = other
@@ -35,10 +36,12 @@ or_else None other = other
 abbrev pub claim_of : List Object → Ref → Uid → Live → Option ClaimData
 claim_of rows r uid live = or_else (claim_with uid (row_at (claim_key r.namespace r.name) rows)) (live_claim uid live)
 
+-- the claim of a reference with this UID
 abbrev pub claim_by_uid : List Object → Ref → Option Uid → Live → Option ClaimData
 claim_by_uid rows r None live = None
 claim_by_uid rows r (Some uid) live = claim_of rows r uid live
 
+-- the claim to which the volume refers
 abbrev pub claim_by_reference : List Object → Option Ref → Live → Option ClaimData
 claim_by_reference rows None live = None
 claim_by_reference rows (Some r) live = claim_by_uid rows r r.uid live

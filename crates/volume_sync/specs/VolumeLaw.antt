@@ -30,5 +30,6 @@ pub record ReadsRows (rows : List Object) (v : VolumeData) (live : Live) : Type 
   pub asked : is_asked live ≡ true
   pub claim : (r : Ref) (uid : Uid) → v.claim_ref ≡ Some r → live_claim uid live ≡ claim_with uid (row_at (claim_key r.namespace r.name) rows)
 
+-- what is decided for a volume is what is due for it
 abbrev pub DecidesDue : Type 0
 DecidesDue = (rows : List Object) (v : VolumeData) (live : Live) → ReadsRows rows v live → due_of_action (volume_decision rows v live) ≡ volume_due rows v

@@ -22,6 +22,7 @@ action_number actions.Release = 4
 action_number actions.Unbind = 5
 action_number actions.QueueClaim = 6
 
+-- the action of a number in the table
 abbrev pub action_numbered : ℕ → VolumeAction
 action_numbered n =
     if n == 1 then actions.ReadClaim
@@ -32,6 +33,7 @@ action_numbered n =
     else if n == 6 then actions.QueueClaim
     else actions.Nothing
 
+-- a row of the table
 abbrev pub row : List Need → VolumeAction → CaseRow 9
 row needs action = record { needs = needs; action = action_number action }
 
@@ -58,6 +60,7 @@ referred_rows =
     ∷ row (Yes ∷ Any ∷ No ∷ Yes ∷ Any ∷ No ∷ No ∷ Any ∷ No ∷ []) actions.Unbind
     ∷ []
 
+-- the table of volumes
 unfoldable pub volume_rows : List (CaseRow 9)
 volume_rows = free_rows ++ referred_rows
 

@@ -27,6 +27,7 @@ use Rattle.worker_core.specs.Turns.{passing}
 
 -- the keys
 
+-- the work after these keys were queued
 abbrev pub all_added : List Key → Work → Work
 all_added [] w = w
 all_added (key ∷ keys) w = all_added keys (added key w)
@@ -36,6 +37,7 @@ abbrev pub ended_work : Bool → Key → Work → Work
 ended_work true key w = put_off key w
 ended_work false key w = finished key w
 
+-- the work after the answer to a call: the key is done, parked or queued again once nothing of it is under way
 abbrev pub work_after : Under → Reply → Work → Work
 work_after u reply w = if is_some (under_after u reply) then w else ended_work (task_parks u.task reply) u.key w
 
@@ -46,6 +48,7 @@ abbrev pub is_passing : Option Kind → Kind → Bool
 is_passing None kind = false
 is_passing (Some k) kind = same_kind k kind
 
+-- there are no events
 abbrev pub is_none_of : List Event → Bool
 is_none_of [] = true
 is_none_of (e ∷ es) = false
@@ -81,24 +84,29 @@ read_told s kind request reply = record s {
   pass = pass_after s.pass (is_passing (passing s) kind) request reply;
 }
 
+-- the state after the answer to the call that was given, by what that call was for
 abbrev pub given_told : ActorState → Request → Reply → Option Given → ActorState
 given_told s request reply (Some givens.Task) = task_told s reply s.under
 given_told s request reply (Some (givens.Read kind)) = read_told s kind request reply
 given_told s request reply given = s
 
+-- the state after an answer that was told
 abbrev pub told_to : ActorState → AllKnown → Request → Reply → ActorState
 told_to s caches request reply = given_told (learned s caches request reply) request reply s.given
 
 -- a call that was lost: its task is dropped and the key parked, and any other call is made again
 
+-- the state after the answer to a task's call was lost: the key is put off
 abbrev pub lost_under : ActorState → Option Under → ActorState
 lost_under s None = record s { given = None }
 lost_under s (Some u) = record s { work = put_off u.key s.work; under = None; given = None }
 
+-- the state after the answer to a call was lost, by what the call was for
 abbrev pub lost_given : ActorState → Option Given → ActorState
 lost_given s (Some givens.Task) = lost_under s s.under
 lost_given s given = record s { given = None }
 
+-- the state after an answer that was lost
 abbrev pub lost_to : ActorState → ActorState
 lost_to s = lost_given s s.given
 
@@ -109,13 +117,16 @@ absorbed s caches request outcomes.Lost = lost_to s
 
 -- a wake: every cached key is queued, in the order of the kinds and then of namespace and name, and a pass begins
 
+-- the work after each cached object of the kind was queued
 abbrev pub kind_added : AllKnown → Kind → Work → Work
 kind_added c kind w = all_added (map key_of (objects_of (cache_of kind c))) w
 
+-- the work after each cached object of these kinds was queued
 abbrev pub kinds_added : AllKnown → List Kind → Work → Work
 kinds_added c [] w = w
 kinds_added c (kind ∷ kinds) w = kinds_added c kinds (kind_added c kind w)
 
+-- the state after a wake: each cached key is queued, and a pass begins
 abbrev pub woken : ActorState → ActorState
 woken s = record s {
   work = kinds_added s.caches (kinds_of s.role.kind) s.work;

@@ -17,6 +17,7 @@ use Rattle.pod_scheduler.specs.declared.tries.Tries.{Tries}
 use Rattle.pod_scheduler.specs.Tries.{no_tries, tries_after}
 use Rattle.worker_core.specs.declared.role.Role.{Role}
 
+-- what an actor remembers beside its caches
 pub record Memory : Type 0 where
   -- of an agent: the epoch that it was told last, the mounts that were told of it last, and whether it was told StaleEpoch
   pub epoch : Option ℕ
@@ -25,6 +26,7 @@ pub record Memory : Type 0 where
   -- of a scheduler: the nodes that stand selected for claims, and those that were refused
   pub tries : Tries
 
+-- what an actor remembers at first
 abbrev pub no_memory : Memory
 no_memory = record { epoch = None; mounts = None; stale = false; tries = no_tries }
 
@@ -35,6 +37,7 @@ abbrev pub mounts_told : List ℕ → Option ℕ → Request → Reply → Optio
 mounts_told node (Some epoch) request (Mounted rows) = if is_of_epoch node epoch request then Some rows else None
 mounts_told node epoch request reply = None
 
+-- the reply says that another agent has taken the node
 abbrev pub is_stale_told : Reply → Bool
 is_stale_told (Refused (StaleEpoch current)) = true
 is_stale_told reply = false
@@ -44,6 +47,7 @@ abbrev pub mounts_after : Bool → Option (List MountRow) → Option (List Mount
 mounts_after true told before = None
 mounts_after false told before = first_some told before
 
+-- what an agent remembers after an answer
 abbrev pub agent_remembers : List ℕ → Request → Reply → Memory → Memory
 agent_remembers node request reply m = record m {
   epoch = first_some (epoch_told node request reply) m.epoch;
@@ -53,16 +57,19 @@ agent_remembers node request reply m = record m {
 
 -- a scheduler
 
+-- what a scheduler remembers after an answer
 abbrev pub scheduler_remembers : Request → Reply → Memory → Memory
 scheduler_remembers request reply m = record m { tries = tries_after request reply m.tries }
 
 -- any actor: what it remembers after an answer, and what the entries of its seat tell
 
+-- what an actor of this kind remembers after an answer
 abbrev pub remembers : SeatKind → List ℕ → Request → Reply → Memory → Memory
 remembers seats.Agent node request reply m = agent_remembers node request reply m
 remembers seats.Scheduler node request reply m = scheduler_remembers request reply m
 remembers _ node request reply m = m
 
+-- what an actor of this role remembers after an answer
 abbrev pub memory_after : Role → Request → Reply → Memory → Memory
 memory_after role request reply m = remembers role.kind role.node request reply m
 

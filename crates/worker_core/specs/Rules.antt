@@ -50,6 +50,7 @@ pub record KeepsKeys (s new : ActorState) (answer : Next) : Type 0 where
   pub stops : (key : Key) → waits key s.work ≡ true → waits key new.work ≡ false → WasCalled s answer key ⊎ WasDropped s key
   pub parks : (key : Key) → is_parked key new.work ≡ true → is_parked key s.work ≡ true
 
+-- so each turn does
 abbrev pub TurnsKeepKeys : Type 0
 TurnsKeepKeys = (s new : ActorState) (answer : Next) → IsTurn s new answer → KeepsKeys s new answer
 
@@ -58,6 +59,7 @@ abbrev pub Parks : Outcome → Under → Type 0
 Parks (outcomes.Told reply) u = task_parks u.task reply ≡ true
 Parks outcomes.Lost u = ⊤
 
+-- the answer parked this key
 pub record WasParked (s : ActorState) (outcome : Outcome) (key : Key) : Type 0 where
   pub under : Under
   pub there : s.under ≡ Some under
@@ -71,6 +73,7 @@ pub record KeepsWaiting (s new : ActorState) (outcome : Outcome) : Type 0 where
   pub stays : (key : Key) → waits key s.work ≡ true → waits key new.work ≡ true
   pub parks : (key : Key) → is_parked key new.work ≡ true → is_parked key s.work ≡ false → WasParked s outcome key
 
+-- so each answer does
 abbrev pub AnswersKeepKeys : Type 0
 AnswersKeepKeys = (s : ActorState) (caches : AllKnown) (request : Request) (outcome : Outcome) → KeepsWaiting s (absorbed s caches request outcome) outcome
 
@@ -79,6 +82,7 @@ pub record WakesKeys (s new : ActorState) : Type 0 where
   pub stays : (key : Key) → waits key s.work ≡ true → waits key new.work ≡ true
   pub parks : (key : Key) → is_parked key new.work ≡ true → is_parked key s.work ≡ true
 
+-- so each wake does
 abbrev pub WakesKeepKeys : Type 0
 WakesKeepKeys = (s : ActorState) → WakesKeys s (woken s)
 
@@ -116,6 +120,7 @@ IsWatchAnswer (replies.Events events) = ⊤
 IsWatchAnswer (replies.Refused (Gone oldest)) = ⊤
 IsWatchAnswer reply = ⊥
 
+-- a watch of an actor that stands for its entries is answered with events or Gone
 abbrev pub WatchesAreAnswered : Type 0
 WatchesAreAnswered = (s : ActorState) (mine : List Entry) (kind : Kind) (from : ℕ) (e : Entry) (reply : Reply) → IsBuiltKind s.role.kind → StandsFor s mine → asked s ≡ Some (requests.Watch kind from)
     → IsTold e (requests.Watch kind from) reply → AreOwn (e ∷ mine) → IsWatchAnswer reply

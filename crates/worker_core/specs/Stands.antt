@@ -42,10 +42,12 @@ pub data IsUnderWay (role : Role) : Under → List Entry → Type 0 where
   WentOn : {next : Under} {mine : List Entry} (u : Under) (e : Entry) (before : List Entry) → mine ≡ e ∷ before → IsUnderWay role u before
       → e.told ≡ true → e.request ≡ u.call → under_after u e.reply ≡ Some next → IsUnderWay role next mine
 
+-- what is under way, if anything is, rests on the entries
 abbrev pub AnyIsUnderWay : Role → Option Under → List Entry → Type 0
 AnyIsUnderWay role None mine = ⊤
 AnyIsUnderWay role (Some u) mine = IsUnderWay role u mine
 
+-- the watch was answered with no event
 abbrev pub IsEmptyWatch : Request → Reply → Type 0
 IsEmptyWatch (requests.Watch kind from) (replies.Events events) = events.events ≡ []
 IsEmptyWatch request reply = ⊥
@@ -90,6 +92,7 @@ GivenStands role memory (Some (givens.Read kind)) under = (follows role.kind kin
 GivenStands role memory (Some givens.Start) under = under ≡ None
 GivenStands role memory given under = ⊤
 
+-- the actor's state is what the entries of its seat make of it
 pub record StandsFor (s : ActorState) (mine : List Entry) : Type 0 where
   -- of each key the caches show the newest told, and they ask what the reads of the entries allow
   pub caches : AllStandFor s.caches mine

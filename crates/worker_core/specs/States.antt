@@ -23,6 +23,7 @@ use Rattle.worker_core.specs.declared.turn.Next.TheVariants as nexts
 use Rattle.worker_core.specs.declared.turn.Pass.{Pass}
 use Rattle.worker_core.specs.Memories.{Memory}
 
+-- the state of an actor: its role, caches, work, pass and memory, and what it has given and has under way
 pub record ActorState : Type 0 where
   pub role : Role
   pub caches : AllKnown
@@ -39,6 +40,7 @@ abbrev pub read_request : Kind → Ask → Request
 read_request kind asks.List = requests.List kind None
 read_request kind (asks.Watch from) = requests.Watch kind from
 
+-- the read of a kind: a List, or a Watch from where the last read ended
 abbrev pub read_of_kind : AllKnown → Kind → Request
 read_of_kind c kind = read_request kind (ask_of (cache_of kind c))
 
@@ -48,6 +50,7 @@ agent_start node None told = Some (requests.TakeNode node)
 agent_start node (Some epoch) false = Some (requests.Mounts node epoch)
 agent_start node (Some epoch) true = None
 
+-- the call with which an actor of the kind starts, if there is one
 abbrev pub start_of : SeatKind → List ℕ → Memory → Option Request
 start_of seats.Agent node m = agent_start node m.epoch (is_some m.mounts)
 start_of _ node m = None
@@ -56,9 +59,11 @@ start_of _ node m = None
 abbrev pub start_call : Role → Memory → Option Request
 start_call role m = start_of role.kind role.node m
 
+-- the call of what is under way
 abbrev pub call_under : Under → Request
 call_under u = u.call
 
+-- the call that was given
 abbrev pub given_call : ActorState → Option Given → Option Request
 given_call s None = None
 given_call s (Some givens.Task) = option_map call_under s.under

@@ -69,6 +69,7 @@ task_parks (tasks.Schedule op) reply = schedule_parks (schedule_moved op reply).
 
 -- the decision on a key
 
+-- what the binder begins for a key
 abbrev pub IsBinderFirst : List Object → Key → First → Type 0
 IsBinderFirst rows key firsts.Drops = IsFirst rows (row_at key rows) binder_firsts.Drops
 IsBinderFirst rows key (firsts.Queues other) = IsFirst rows (row_at key rows) (binder_firsts.Queues other)
@@ -77,18 +78,22 @@ IsBinderFirst rows key (firsts.Begins task) = ⊥
 
 -- the other actors begin a machine or drop the key, and queue no other
 
+-- what the claim protection controller begins
 abbrev pub claim_guard_first : Option ClaimGuardOp → First
 claim_guard_first None = firsts.Drops
 claim_guard_first (Some op) = firsts.Begins (tasks.ClaimProtect op)
 
+-- what the volume protection controller begins
 abbrev pub volume_guard_first : Option VolumeGuardOp → First
 volume_guard_first None = firsts.Drops
 volume_guard_first (Some op) = firsts.Begins (tasks.VolumeProtect op)
 
+-- what an agent begins
 abbrev pub agent_first : Option AgentOp → First
 agent_first None = firsts.Drops
 agent_first (Some op) = firsts.Begins (tasks.Agent op)
 
+-- what the reclaimer begins
 abbrev pub erase_first : Option EraseOp → First
 erase_first None = firsts.Drops
 erase_first (Some op) = firsts.Begins (tasks.Erase op)
@@ -109,6 +114,7 @@ IsPodFirst rows refused row firsts.Drops = BeginsOn rows refused row None
 IsPodFirst rows refused row (firsts.Begins (tasks.Schedule op)) = BeginsOn rows refused row (Some op)
 IsPodFirst rows refused row first = ⊥
 
+-- what an actor of the kind begins for a key
 abbrev pub IsFirstOf : SeatKind → List ℕ → Memory → List Object → Key → First → Type 0
 IsFirstOf seats.Binder node m rows key first = IsBinderFirst rows key first
 IsFirstOf seats.Ops node m rows key first = first ≡ ops_first (claim_begins rows (row_at key rows)) (volume_begins (row_at key rows))
@@ -134,13 +140,16 @@ pub record GivesNone (role : Role) (memory : Memory) (rows : List Object) (key :
 
 -- the task after an answer, while it has a next call
 
+-- the task under way, if it has a call
 abbrev pub with_call : Key → Task → Option Request → Option Under
 with_call key task None = None
 with_call key task (Some call) = Some (record { key = key; task = task; call = call })
 
+-- the task under way, if there is one with a call
 abbrev pub with_task : Key → Option Task → Option Under
 with_task key None = None
 with_task key (Some task) = with_call key task (task_call task)
 
+-- what is under way after an answer
 abbrev pub under_after : Under → Reply → Option Under
 under_after u reply = with_task u.key (task_moved u.task reply)

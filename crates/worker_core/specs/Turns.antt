@@ -37,13 +37,16 @@ pub data Decides (role : Role) (memory : Memory) (rows : List Object) (after : W
 
 -- the first of the kinds that is not listed
 
+-- the kind was listed
 abbrev pub is_listed : AllKnown → Kind → Bool
 is_listed c kind = is_some (cache_of kind c).from
 
+-- the first of these kinds that was not listed
 abbrev pub first_unlisted : AllKnown → List Kind → Option Kind
 first_unlisted c [] = None
 first_unlisted c (kind ∷ kinds) = if is_listed c kind then first_unlisted c kinds else Some kind
 
+-- the first kind of the actor that was not listed
 abbrev pub unlisted : ActorState → Option Kind
 unlisted s = first_unlisted s.caches (kinds_of s.role.kind)
 
@@ -53,14 +56,17 @@ passing s = kind_in_order s.role s.pass.behind
 
 -- the turns
 
+-- the turn gives the call of what is under way
 pub record GivesUnder (old new : ActorState) (answer : Next) (u : Under) : Type 0 where
   pub call : answer ≡ nexts.Call u.call
   pub state : new ≡ record old { given = Some givens.Task }
 
+-- the turn gives the call with which the actor starts
 pub record GivesStart (old new : ActorState) (answer : Next) (request : Request) : Type 0 where
   pub call : answer ≡ nexts.Call request
   pub state : new ≡ record old { given = Some givens.Start }
 
+-- the turn gives a read of the kind
 pub record GivesRead (old new : ActorState) (answer : Next) (kind : Kind) : Type 0 where
   pub call : answer ≡ nexts.Call (read_of_kind old.caches kind)
   pub state : new ≡ record old { given = Some (givens.Read kind) }
@@ -70,6 +76,7 @@ pub record IsSilent (old new : ActorState) (answer : Next) : Type 0 where
   pub idle : answer ≡ nexts.Idle
   pub state : new ≡ record old { given = None }
 
+-- the turn begins a task and gives its call
 pub record BeginsUnder (old new : ActorState) (answer : Next) (w : Work) (u : Under) : Type 0 where
   pub call : answer ≡ nexts.Call u.call
   pub state : new ≡ record old { work = w; under = Some u; given = Some givens.Task }
@@ -88,10 +95,12 @@ pub record IsIdle (old new : ActorState) (answer : Next) (w : Work) : Type 0 whe
   pub idle : answer ≡ nexts.Idle
   pub state : new ≡ record old { work = w; given = None }
 
+-- what a turn does after the keys were decided: it gives a call, begins a pass, or is idle
 abbrev pub AfterKeys : ActorState → ActorState → Next → Work → Option Under → Type 0
 AfterKeys old new answer w (Some u) = BeginsUnder old new answer w u
 AfterKeys old new answer w None = BeginsPass old new answer w ⊎ IsIdle old new answer w
 
+-- the turn decides waiting keys, and goes on from there
 pub record DecidesKeys (old new : ActorState) (answer : Next) : Type 0 where
   pub work : Work
   pub under : Option Under
@@ -107,5 +116,6 @@ TurnBy old new answer false None None (Some kind) passing = GivesRead old new an
 TurnBy old new answer false None None None (Some kind) = GivesRead old new answer kind
 TurnBy old new answer false None None None None = DecidesKeys old new answer
 
+-- a turn of an actor: the state after it, and its answer
 abbrev pub IsTurn : ActorState → ActorState → Next → Type 0
 IsTurn old new answer = TurnBy old new answer old.memory.stale old.under (start_call old.role old.memory) (unlisted old) (passing old)

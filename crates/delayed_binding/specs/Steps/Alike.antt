@@ -54,6 +54,7 @@ pub record Gives (rows : List Object) (others : List ClaimData) (node : NodeData
   pub binds_are : binds ≡ binds_of rows others shares
   pub provisions_are : provisions ≡ provisions_of others shares
 
+-- the choice prepares the claims for this node
 abbrev pub IsGiving : List Object → List ClaimData → NodeData → Choice → Type 0
 IsGiving rows others n (Prepare name binds provisions) = (name ≡ n.meta.name) × Gives rows others n binds provisions
 IsGiving rows others n choice = ⊥

@@ -22,6 +22,7 @@ abbrev pub admits_at : NodeData → ClaimData → Option VolumeData → Bool
 admits_at n c None = true
 admits_at n c (Some v) = admits_unless_other n c v
 
+-- there is an object, and it has a namespace
 abbrev pub is_in_namespace : Option Object → Bool
 is_in_namespace None = false
 is_in_namespace (Some o) = not (is_empty (meta_of o).namespace)

@@ -16,6 +16,7 @@ abbrev pub as_node : Option Object → Option NodeData
 as_node (Some (Node n)) = if is_empty n.meta.namespace then Some n else None
 as_node _ = None
 
+-- the node at a place among the nodes
 abbrev pub node_at : List Object → ℕ → Option NodeData
 node_at rows place = as_node (slice_get (rows_of kinds.Node rows) place)
 
@@ -52,6 +53,7 @@ pub record IsFoundInTurn (rows : List Object) (claims : List ClaimData) (last : 
   pub preparing : IsPreparing rows claims node choice
   pub first : NoneBelow rows (ServesInTurn rows claims last past) place
 
+-- the choice of the first node in turn that serves, or none where no node does
 abbrev pub IsFirstInTurn : List Object → List ClaimData → Option (List ℕ) → Bool → Option Choice → Type 0
 IsFirstInTurn rows claims last past (Some choice) = IsFoundInTurn rows claims last past choice
 IsFirstInTurn rows claims last past None = HasNoNode rows (ServesInTurn rows claims last past)

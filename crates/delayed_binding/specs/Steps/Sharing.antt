@@ -36,6 +36,7 @@ pub record Held : Type 0 where
   pub binds : List (Key × Key)
   pub provisions : List Key
 
+-- what the shares hold so far
 abbrev pub held_by : Shares → Held
 held_by s = record { taken = s.taken; binds = s.binds.items; provisions = s.provisions.items }
 
@@ -51,6 +52,7 @@ IsIndexOf rows index = IfSome index (λ i. StandsFor i (volumes_in rows))
 abbrev pub ArePassedIn : List Object → Option Index → List ℕ → List ℕ → Type 0
 ArePassedIn rows index passed taken = IfSome index (λ i. PassedAreExcluded rows i.free passed taken)
 
+-- the volumes that were passed over need not be looked at again
 abbrev pub ArePassed : List Object → Option Index → Shares → Type 0
 ArePassed rows index shares = ArePassedIn rows index shares.passed shares.taken
 
@@ -73,6 +75,7 @@ HaveNoShares rows node claims = (shares : List Share) → AreShares rows node (s
 
 -- one claim more: it takes the best volume that is left, or is to be provisioned, or nothing serves it
 
+-- the claim takes the best volume that is left
 pub record TakesBest (rows : List Object) (node : NodeData) (c : ClaimData) (before after : Held) : Type 0 where
   pub place : ℕ
   pub best : IsBest rows c (Some node) false before.taken (Some place)
@@ -80,15 +83,18 @@ pub record TakesBest (rows : List Object) (node : NodeData) (c : ClaimData) (bef
   pub binds_are : after.binds ≡ before.binds ++ pair_of c (volume_at rows place)
   pub provisions_are : after.provisions ≡ before.provisions
 
+-- no volume is left for the claim, and one can be provisioned
 pub record IsLeftToProvision (rows : List Object) (node : NodeData) (c : ClaimData) (before after : Held) : Type 0 where
   pub none : IsBest rows c (Some node) false before.taken None
   pub can : can_provision rows c ≡ true
   pub after_is : after ≡ record before { provisions = before.provisions ++ key_of (Claim c) ∷ [] }
 
+-- no volume is left for the claim, and none can be provisioned
 pub record IsUnserved (rows : List Object) (node : NodeData) (c : ClaimData) (before : Held) : Type 0 where
   pub none : IsBest rows c (Some node) false before.taken None
   pub cannot : can_provision rows c ≡ false
 
+-- the claim is served, or is not, with these shares before and after
 abbrev pub IsServedAs : List Object → NodeData → ClaimData → Held → Held → Bool → Type 0
 IsServedAs rows node c before after true = TakesBest rows node c before after ⊎ IsLeftToProvision rows node c before after
 IsServedAs rows node c before after false = IsUnserved rows node c before

@@ -20,6 +20,7 @@ abbrev pub claim_of_uid : List Object → Ref → Option Uid → Option ClaimDat
 claim_of_uid rows r None = None
 claim_of_uid rows r (Some uid) = claim_with uid (row_at (claim_key r.namespace r.name) rows)
 
+-- the claim to which a reference leads
 abbrev pub claim_referred : List Object → Option Ref → Option ClaimData
 claim_referred rows None = None
 claim_referred rows (Some r) = claim_of_uid rows r r.uid

@@ -4,6 +4,7 @@ use Rattle.kube_parts.specs.declared.names.Due.{Due}
 use Rattle.kube_objects.specs.declared.objects.Object.{Object}
 use Rattle.settle_check.specs.declared.first.FirstDue.{FirstDue}
 
+-- the object of what is due first, and what is due
 abbrev pub first_pair : Option FirstDue → Option (Object × Due)
 first_pair None = None
 first_pair (Some first) = Some (first.object.now, first.action)

@@ -34,6 +34,7 @@ abbrev pub claim_is_served : Setup → World → NodeData → Option ClaimData �
 claim_is_served setup w n None = false
 claim_is_served setup w n (Some c) = is_served_on setup w n c c.meta.uid (row_at (class_key (class_of_claim c)) w.store.rows)
 
+-- the claim of the key is served on the node
 abbrev pub key_is_served : Setup → World → NodeData → Key → Bool
 key_is_served setup w n key = claim_is_served setup w n (claim_in (row_at key w.store.rows))
 

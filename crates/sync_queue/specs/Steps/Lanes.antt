@@ -21,6 +21,7 @@ is_waiting (Some Again) = false
 is_waiting (Some Parked) = false
 is_waiting (Some Gone) = false
 
+-- the key is taken
 abbrev pub is_taken : Option Stage → Bool
 is_taken None = false
 is_taken (Some Waiting) = false
@@ -29,6 +30,7 @@ is_taken (Some Again) = true
 is_taken (Some Parked) = false
 is_taken (Some Gone) = false
 
+-- the key is taken, and queued again
 abbrev pub is_again : Option Stage → Bool
 is_again None = false
 is_again (Some Waiting) = false
@@ -37,6 +39,7 @@ is_again (Some Again) = true
 is_again (Some Parked) = false
 is_again (Some Gone) = false
 
+-- the key is parked
 abbrev pub is_parked : Option Stage → Bool
 is_parked None = false
 is_parked (Some Waiting) = false

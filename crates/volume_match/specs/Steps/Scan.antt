@@ -17,6 +17,7 @@ serves v c = nat_le c.amount.bytes v.amount.bytes && may_serve v c
 abbrev pub is_open : ClaimData → Option NodeData → Bool → List ℕ → ℕ → VolumeData → Bool
 is_open c node only_own excluded place v = not (is_excluded excluded place) && (only_own_passes only_own v c && eligible v c node)
 
+-- the volume is a better match than the other, if there is another
 abbrev pub comes_before : ClaimData → VolumeData → Option VolumeData → Bool
 comes_before c v None = true
 comes_before c v (Some u) = is_lt (match_cmp c v u)

@@ -11,6 +11,7 @@ use Rattle.reclaim_ops.specs.Evidence.{EraseKeeps, ProvisionKeeps}
 use Rattle.worker_core.specs.declared.task.Task.{Task}
 use Rattle.worker_core.specs.declared.task.Task.TheVariants as tasks
 
+-- the entries allow the next call of the task
 abbrev pub TaskKeeps : Task → List Entry → Type 0
 TaskKeeps (tasks.Binder machine) mine = MachineKeeps machine mine
 TaskKeeps (tasks.ClaimProtect op) mine = ClaimKeeps op mine
