@@ -1,4 +1,4 @@
-//! Where on a page the tellings and the reads stand that a row of the licence asks for. Marks are hints: the row that
+//! Where on a page the tellings and the reads stand that a row of the licence asks for. EntryMarks are hints: the row that
 //! asks reads what stands there.
 
 use crate::sought::Sought;
@@ -19,7 +19,7 @@ use std::marker::Model;
 
 /// What stands at a mark.
 #[derive(Clone, Copy, PartialEq, Eq, PartialOrd, Ord)]
-enum Matter {
+enum MarkMatter {
     /// The first object of a version and a kind.
     Version,
     /// The first object, and the last.
@@ -56,39 +56,39 @@ enum Matter {
 
 /// A matter, and of what.
 #[derive(Clone, Copy, PartialEq, Eq, PartialOrd, Ord)]
-struct Mark {
-    matter: Matter,
+struct EntryMark {
+    matter: MarkMatter,
     one: u128,
     other: u128,
 }
 
-fn mark_alone(matter: Matter) -> Mark {
-    Mark {
+fn mark_alone(matter: MarkMatter) -> EntryMark {
+    EntryMark {
         matter,
         one: 0,
         other: 0,
     }
 }
 
-fn mark_of(matter: Matter, uid: Uid) -> Mark {
-    Mark {
+fn mark_of(matter: MarkMatter, uid: Uid) -> EntryMark {
+    EntryMark {
         matter,
         one: uid.0,
         other: 0,
     }
 }
 
-fn mark_at(version: Version, kind: u8) -> Mark {
-    Mark {
-        matter: Matter::Version,
+fn mark_at(version: Version, kind: u8) -> EntryMark {
+    EntryMark {
+        matter: MarkMatter::Version,
         one: version as u128,
         other: kind as u128,
     }
 }
 
-fn mark_shown(claim: Uid, bytes: u64) -> Mark {
-    Mark {
-        matter: Matter::Shown,
+fn mark_shown(claim: Uid, bytes: u64) -> EntryMark {
+    EntryMark {
+        matter: MarkMatter::Shown,
         one: claim.0,
         other: bytes as u128,
     }
@@ -148,16 +148,16 @@ fn claim_name<'a>(entries: &'a [Entry], place: usize) -> Option<&'a Text> {
 }
 
 /// The marks of the first entries of a page, `known` of them. Contracts see that number, and no place.
-pub(crate) struct Marks {
-    places: BTreeMap<Mark, usize>,
+pub(crate) struct EntryMarks {
+    places: BTreeMap<EntryMark, usize>,
     known: usize,
     found: u128,
     uses: Uses,
 }
 
-impl Drop for Marks {
+impl Drop for EntryMarks {
     fn drop(self) {
-        let Marks {
+        let EntryMarks {
             places,
             known: _,
             found: _,
@@ -168,7 +168,7 @@ impl Drop for Marks {
     }
 }
 
-impl Model for Marks {
+impl Model for EntryMarks {
     ghost use Rattle.std.specs.Prelude.{ℕ};
 
     ghost Value = { ℕ };
@@ -176,10 +176,10 @@ impl Model for Marks {
     ghost view = { λ m. m.known };
 }
 
-impl Marks {
+impl EntryMarks {
     /// No entry is marked. It takes no memory.
-    pub(crate) fn new(alloc: Global) -> Marks {
-        Marks {
+    pub(crate) fn new(alloc: Global) -> EntryMarks {
+        EntryMarks {
             places: BTreeMap::new(alloc),
             known: 0,
             found: 0,
@@ -187,7 +187,7 @@ impl Marks {
         }
     }
 
-    fn place(&self, mark: Mark) -> Option<usize> {
+    fn place(&self, mark: EntryMark) -> Option<usize> {
         match self.places.get(&mark) {
             None => None,
             Some(place) => Some(*place),
@@ -203,13 +203,13 @@ impl Marks {
     // one entry more
 
     /// Sets the mark anew.
-    fn put(&mut self, mark: Mark, place: usize) -> Result<(), OutOfMemory> {
+    fn put(&mut self, mark: EntryMark, place: usize) -> Result<(), OutOfMemory> {
         let _ = self.places.insert(mark, place)?;
         Ok(())
     }
 
     /// Sets the mark where it was not set.
-    fn put_first(&mut self, mark: Mark, place: usize) -> Result<(), OutOfMemory> {
+    fn put_first(&mut self, mark: EntryMark, place: usize) -> Result<(), OutOfMemory> {
         match self.place(mark) {
             Some(_) => Ok(()),
             None => self.put(mark, place),
@@ -217,27 +217,27 @@ impl Marks {
     }
 
     fn learn_claim_of(&mut self, claim: &Claim, uid: Uid, place: usize) -> Result<(), OutOfMemory> {
-        self.put(mark_of(Matter::Claim, uid), place)?;
+        self.put(mark_of(MarkMatter::Claim, uid), place)?;
         if claim.volume_name.as_str().is_empty() {
-            self.put(mark_of(Matter::Nameless, uid), place)?;
+            self.put(mark_of(MarkMatter::Nameless, uid), place)?;
         } else {
-            self.put(mark_of(Matter::Named, uid), place)?;
+            self.put(mark_of(MarkMatter::Named, uid), place)?;
         }
         if is_deleting(&claim.meta) {
-            self.put_first(mark_of(Matter::DeletingClaim, uid), place)?;
+            self.put_first(mark_of(MarkMatter::DeletingClaim, uid), place)?;
         }
         if is_completed(claim) {
-            self.put_first(mark_of(Matter::CompletedClaim, uid), place)?;
+            self.put_first(mark_of(MarkMatter::CompletedClaim, uid), place)?;
         }
         Ok(())
     }
 
     fn learn_claim(&mut self, claim: &Claim, place: usize) -> Result<(), OutOfMemory> {
         if is_deleting(&claim.meta) {
-            self.put(mark_alone(Matter::Deleting), place)?;
+            self.put(mark_alone(MarkMatter::Deleting), place)?;
         }
         if is_completed(claim) {
-            self.put(mark_alone(Matter::Completed), place)?;
+            self.put(mark_alone(MarkMatter::Completed), place)?;
         }
         match claim.meta.uid {
             None => Ok(()),
@@ -251,12 +251,12 @@ impl Marks {
         claim: Uid,
         place: usize,
     ) -> Result<(), OutOfMemory> {
-        self.put(mark_alone(Matter::Referring), place)?;
+        self.put(mark_alone(MarkMatter::Referring), place)?;
         match volume.meta.uid {
             None => {}
             Some(uid) => self.put_first(
-                Mark {
-                    matter: Matter::ReferringVolume,
+                EntryMark {
+                    matter: MarkMatter::ReferringVolume,
                     one: uid.0,
                     other: claim.0,
                 },
@@ -275,7 +275,7 @@ impl Marks {
         claim: Uid,
         place: usize,
     ) -> Result<(), OutOfMemory> {
-        self.put(mark_of(Matter::Bound, claim), place)?;
+        self.put(mark_of(MarkMatter::Bound, claim), place)?;
         self.put(mark_shown(claim, volume.amount.bytes), place)
     }
 
@@ -284,7 +284,7 @@ impl Marks {
             None => {}
             Some(uid) => {
                 if is_ended_for_good(volume) {
-                    self.put_first(mark_of(Matter::Ended, uid), place)?;
+                    self.put_first(mark_of(MarkMatter::Ended, uid), place)?;
                 }
             }
         }
@@ -298,14 +298,14 @@ impl Marks {
         if !is_scheduled(pod) {
             return Ok(());
         }
-        self.put(mark_alone(Matter::Scheduled), place)
+        self.put(mark_alone(MarkMatter::Scheduled), place)
     }
 
     fn learn_object(&mut self, object: &Object, place: usize) -> Result<(), OutOfMemory> {
         let version = meta_of(object).version;
         self.put_first(mark_at(version, kind_index(kind_of(object))), place)?;
-        self.put_first(mark_alone(Matter::First), place)?;
-        self.put(mark_alone(Matter::Last), place)?;
+        self.put_first(mark_alone(MarkMatter::First), place)?;
+        self.put(mark_alone(MarkMatter::Last), place)?;
         match object {
             Object::Claim(claim) => self.learn_claim(claim, place),
             Object::Volume(volume) => self.learn_volume(volume, place),
@@ -319,13 +319,13 @@ impl Marks {
             None => Ok(()),
             Some(found) => {
                 if found != self.found {
-                    match self.place(mark_alone(Matter::Read)) {
+                    match self.place(mark_alone(MarkMatter::Read)) {
                         None => {}
-                        Some(last) => self.put(mark_alone(Matter::OtherRead), last)?,
+                        Some(last) => self.put(mark_alone(MarkMatter::OtherRead), last)?,
                     }
                 }
                 self.found = found;
-                self.put(mark_alone(Matter::Read), place)
+                self.put(mark_alone(MarkMatter::Read), place)
             }
         }
     }
@@ -334,14 +334,14 @@ impl Marks {
     fn learn_answer(&mut self, reply: &Reply, place: usize) -> Result<(), OutOfMemory> {
         match reply {
             Reply::Provisioned { id: _, topology: _ } => {
-                self.put(mark_alone(Matter::Provisioned), place)
+                self.put(mark_alone(MarkMatter::Provisioned), place)
             }
-            Reply::Erased { removed: _ } => self.put(mark_alone(Matter::Erased), place),
+            Reply::Erased { removed: _ } => self.put(mark_alone(MarkMatter::Erased), place),
             Reply::Refused(Refusal::Exhausted { free: _ }) => {
-                self.put(mark_alone(Matter::Exhausted), place)
+                self.put(mark_alone(MarkMatter::Exhausted), place)
             }
             Reply::Refused(Refusal::BackFault { planned: _ }) => {
-                self.put(mark_alone(Matter::Failed), place)
+                self.put(mark_alone(MarkMatter::Failed), place)
             }
             _ => Ok(()),
         }
@@ -368,7 +368,7 @@ impl Marks {
         }
     }
 
-    /// Marks the entries of the page that are not marked.
+    /// EntryMarks the entries of the page that are not marked.
     pub(crate) fn catch_up(&mut self, entries: &[Entry]) -> Result<(), OutOfMemory> {
         if self.known > entries.len() {
             return Ok(());
@@ -385,12 +385,12 @@ impl Marks {
     // what is sought
 
     /// The place of a mark, as a stretch.
-    fn at(&self, mark: Mark) -> Option<(usize, usize)> {
+    fn at(&self, mark: EntryMark) -> Option<(usize, usize)> {
         self.between(mark, mark)
     }
 
     /// From the one mark to the other.
-    fn between(&self, from: Mark, to: Mark) -> Option<(usize, usize)> {
+    fn between(&self, from: EntryMark, to: EntryMark) -> Option<(usize, usize)> {
         match self.place(from) {
             None => None,
             Some(first) => match self.place(to) {
@@ -412,7 +412,7 @@ impl Marks {
         &self,
         kind: Kind,
         given: Option<Version>,
-        to: Matter,
+        to: MarkMatter,
     ) -> Option<(usize, usize)> {
         match given {
             None => None,
@@ -421,17 +421,17 @@ impl Marks {
     }
 
     /// From the mark to the last read that found another than the claim of the UID.
-    fn lacking(&self, from: Mark, claim: Uid) -> Option<(usize, usize)> {
+    fn lacking(&self, from: EntryMark, claim: Uid) -> Option<(usize, usize)> {
         if self.found == claim.0 {
-            self.between(from, mark_alone(Matter::OtherRead))
+            self.between(from, mark_alone(MarkMatter::OtherRead))
         } else {
-            self.between(from, mark_alone(Matter::Read))
+            self.between(from, mark_alone(MarkMatter::Read))
         }
     }
 
     /// From the first telling of the claim, deleting, to the last list whose pods do not use it.
     fn unused(&self, entries: &[Entry], claim: Uid) -> Option<(usize, usize)> {
-        match self.place(mark_of(Matter::DeletingClaim, claim)) {
+        match self.place(mark_of(MarkMatter::DeletingClaim, claim)) {
             None => None,
             Some(first) => match claim_name(entries, first) {
                 None => None,
@@ -447,26 +447,26 @@ impl Marks {
     fn stretch(&self, sought: Sought) -> Option<(usize, usize)> {
         match sought {
             Sought::Released { volume, claim } => {
-                let from = Mark {
-                    matter: Matter::ReferringVolume,
+                let from = EntryMark {
+                    matter: MarkMatter::ReferringVolume,
                     one: volume.0,
                     other: claim.0,
                 };
                 self.lacking(from, claim)
             }
-            Sought::Lost(claim) => self.lacking(mark_of(Matter::CompletedClaim, claim), claim),
+            Sought::Lost(claim) => self.lacking(mark_of(MarkMatter::CompletedClaim, claim), claim),
             Sought::Failed(given) => {
-                self.since_version(Kind::PersistentVolume, given, Matter::Failed)
+                self.since_version(Kind::PersistentVolume, given, MarkMatter::Failed)
             }
             Sought::Erased(volume) => {
-                self.between(mark_of(Matter::Ended, volume), mark_alone(Matter::Erased))
+                self.between(mark_of(MarkMatter::Ended, volume), mark_alone(MarkMatter::Erased))
             }
             Sought::Exhausted(given) => {
-                self.since_version(Kind::PersistentVolumeClaim, given, Matter::Exhausted)
+                self.since_version(Kind::PersistentVolumeClaim, given, MarkMatter::Exhausted)
             }
             Sought::Provisioned => self.between(
-                mark_alone(Matter::First),
-                mark_alone(Matter::Provisioned),
+                mark_alone(MarkMatter::First),
+                mark_alone(MarkMatter::Provisioned),
             ),
             _ => None,
         }
@@ -482,15 +482,15 @@ impl Marks {
         match sought {
             Sought::Unused(claim) => self.unused(entries, claim),
             Sought::Version(given) => self.at_version(kind, given),
-            Sought::Last => self.at(mark_alone(Matter::Last)),
-            Sought::Claim(uid) => self.at(mark_of(Matter::Claim, uid)),
-            Sought::Nameless(uid) => self.at(mark_of(Matter::Nameless, uid)),
-            Sought::Named(uid) => self.at(mark_of(Matter::Named, uid)),
-            Sought::Deleting => self.at(mark_alone(Matter::Deleting)),
-            Sought::Completed => self.at(mark_alone(Matter::Completed)),
-            Sought::Scheduled => self.at(mark_alone(Matter::Scheduled)),
-            Sought::Referring => self.at(mark_alone(Matter::Referring)),
-            Sought::Bound(uid) => self.at(mark_of(Matter::Bound, uid)),
+            Sought::Last => self.at(mark_alone(MarkMatter::Last)),
+            Sought::Claim(uid) => self.at(mark_of(MarkMatter::Claim, uid)),
+            Sought::Nameless(uid) => self.at(mark_of(MarkMatter::Nameless, uid)),
+            Sought::Named(uid) => self.at(mark_of(MarkMatter::Named, uid)),
+            Sought::Deleting => self.at(mark_alone(MarkMatter::Deleting)),
+            Sought::Completed => self.at(mark_alone(MarkMatter::Completed)),
+            Sought::Scheduled => self.at(mark_alone(MarkMatter::Scheduled)),
+            Sought::Referring => self.at(mark_alone(MarkMatter::Referring)),
+            Sought::Bound(uid) => self.at(mark_of(MarkMatter::Bound, uid)),
             Sought::Shown(uid, bytes) => self.at(mark_shown(uid, bytes)),
             _ => self.stretch(sought),
         }

@@ -5,7 +5,7 @@ ghost use Rattle.std.specs.List.Sorted.{IsSearchInRange};
 ghost use Rattle.call_types.specs.declared.entry.Entry.{Entry};
 ghost use Rattle.evidence_pages.specs.Parts.{ArePages, IsPart, MayStandBehind};
 
-use crate::marks::Marks;
+use crate::marks::EntryMarks;
 use crate::parts::{Parts, erased_of, failed_of, uid_in, wanted_by};
 use crate::sought::Sought;
 use call_types::entry::Entry;
@@ -27,7 +27,7 @@ use std::marker::Model;
 pub struct Page {
     pub key: Key,
     pub entries: Items<Entry>,
-    marks: Marks,
+    marks: EntryMarks,
 }
 
 impl Drop for Page {
@@ -100,7 +100,7 @@ fn new_page(alloc: Global, key: &Parts<'_>, entry: Entry) -> Result<Page, OutOfM
             name: Text::new(alloc, key.name)?,
         },
         entries,
-        marks: Marks::new(alloc),
+        marks: EntryMarks::new(alloc),
     })
 }
 
@@ -112,7 +112,7 @@ fn is_short(page: &Page) -> bool {
     page.entries.as_slice().len() <= FEW
 }
 
-/// Marks the entries of a page that is not short.
+/// EntryMarks the entries of a page that is not short.
 fn mark(page: &mut Page) -> Result<(), OutOfMemory>
     ensures { page.new.entries ≡ page.old.entries }
 {

@@ -17,7 +17,7 @@ use kube_types::text::Names;
 
 /// What an object comes to at a write.
 #[derive(Clone, Copy, Debug, PartialEq, Eq)]
-pub enum Fate {
+pub enum Departure {
     /// It stays in the store.
     Keep,
     /// It leaves the store.
@@ -61,7 +61,7 @@ pub fn leaves_at_once(object: &Object) -> bool
 
 /// What a delete makes of the object.
 #[tactic(auto, unfolding(crate::specs::Fates::fate_on_delete, binder_model::specs::Store::marked_object, binder_model::specs::Store::with_meta, binder_model::specs::Store::leaves, binder_model::specs::Store::leaves_at_once))]
-pub fn on_delete(object: &Object) -> Fate
+pub fn on_delete(object: &Object) -> Departure
     ensures { (version : ℕ) → (moment : List ℕ) → result ≡ fate_on_delete object.now version moment }
 {
     match object {
@@ -79,20 +79,20 @@ pub fn adds_while_deleting(old: &Meta, finalizers: &Names) -> bool
 
 /// What a write with these finalizers makes of the object.
 #[tactic(auto, unfolding(crate::specs::Fates::fate_on_update, crate::specs::Fates::with_finalizers, binder_model::specs::Store::with_meta, binder_model::specs::Store::leaves))]
-pub fn on_update(old: &Object, finalizers: &Names) -> Fate
+pub fn on_update(old: &Object, finalizers: &Names) -> Departure
     ensures { result ≡ fate_on_update old.now finalizers.now }
 {
     if adds_while_deleting(meta_of(old), finalizers) {
-        return Fate::AddedWhileDeleting;
+        return Departure::AddedWhileDeleting;
     }
     match old {
-        Object::Pod(_) => Fate::Keep,
+        Object::Pod(_) => Departure::Keep,
         _ => leave_if(is_deleting(meta_of(old)) && finalizers.as_slice().is_empty()),
     }
 }
 
-fn leave_if(leaves: bool) -> Fate
+fn leave_if(leaves: bool) -> Departure
     ensures { result ≡ leave_if leaves }
 {
-    if leaves { Fate::Leave } else { Fate::Keep }
+    if leaves { Departure::Leave } else { Departure::Keep }
 }

@@ -34,12 +34,12 @@ pub fn is_current(mine: &[Entry], node: &Text, epoch: u64) -> bool
 
 /// The pod with the UID, scheduled, on the node, deleting.
 #[derive(Drop)]
-struct Ending<'a> {
+struct EndingPod<'a> {
     uid: Uid,
     node: &'a Text,
 }
 
-impl<'a> PodTest for Ending<'a> {
+impl<'a> PodTest for EndingPod<'a> {
     ghost allows = { λ t p. IsEndingPod t.uid t.node.now p };
 
     fn test(&self, pod: &Pod) -> bool {
@@ -63,7 +63,7 @@ pub fn may_unmount(mine: &[Entry], node: &Text, epoch: u64, pod: Uid) -> bool
     if !is_current(mine, node, epoch) {
         return false;
     }
-    let test = Ending { uid: pod, node };
+    let test = EndingPod { uid: pod, node };
     told_pod(&test, mine)
 }
 
@@ -162,7 +162,7 @@ pub fn may_finish(mine: &[Entry], key: &Key, pod: Uid, node: &Text, epoch: u64) 
             if !was_told_unmounted(since, node, epoch, pod) {
                 return false;
             }
-            let test = Ending { uid: pod, node };
+            let test = EndingPod { uid: pod, node };
             told_pod(&test, mine)
         }
     }

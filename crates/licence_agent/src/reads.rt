@@ -20,12 +20,12 @@ use plain_data::copies::Plain;
 
 /// The pod is scheduled to a node that the seat took, and names the claim of the key.
 #[derive(Drop)]
-struct Names<'a> {
+struct ClaimNames<'a> {
     mine: &'a [Entry],
     key: &'a Key,
 }
 
-impl<'a> SharedTest for Names<'a> {
+impl<'a> SharedTest for ClaimNames<'a> {
     ghost allows = { λ t o. IsPodWith (IsNaming t.key.now) o };
 
     ghost pairs = { λ t o x. AreOnOneNode o x };
@@ -118,6 +118,6 @@ pub fn asks_for_mount(mine: &[Entry], key: &Key) -> bool
 fn is_named(mine: &[Entry], key: &Key) -> bool
     ensures { IsTrue result ↔ ToldPod (NamesClaim (reverse mine.now) key.now) (reverse mine.now) }
 {
-    let names = Names { mine, key };
+    let names = ClaimNames { mine, key };
     told_shared(&names, mine)
 }

@@ -92,13 +92,13 @@ pub fn newest_pod<'a, R: Record>(seat: &'a R, key: &Key) -> Option<&'a Pod>
 /// The newest told of the key is an object of which both conditions hold, where the first holds of one
 /// that was told.
 #[derive(Drop)]
-struct NewestOfKey<'a, R, T, U> {
+struct NewestRecorded<'a, R, T, U> {
     may: &'a T,
     row: &'a U,
     seat: &'a R,
 }
 
-impl<'a, R: Record, T: ObjectTest, U: SureTest> NewestOfKey<'a, R, T, U> {
+impl<'a, R: Record, T: ObjectTest, U: SureTest> NewestRecorded<'a, R, T, U> {
     fn has(&self, kind: Kind, namespace: &str, name: &str) -> bool
         ensures { Judges (R.whole self.now.seat.now × U.sure self.now.row.now) result (IsNewestWith (λ x. T.allows self.now.may.now x × U.allows self.now.row.now x) (R.told self.now.seat.now) (record { kind = kind; namespace = namespace.now; name = name.now })) }
     {
@@ -114,7 +114,7 @@ impl<'a, R: Record, T: ObjectTest, U: SureTest> NewestOfKey<'a, R, T, U> {
     }
 }
 
-impl<'a, R: Record, T: ObjectTest, U: SureTest> SureShared for NewestOfKey<'a, R, T, U> {
+impl<'a, R: Record, T: ObjectTest, U: SureTest> SureShared for NewestRecorded<'a, R, T, U> {
     ghost allows = { λ t o. T.allows t.may.now o };
 
     ghost pairs = { λ t o x. key_of o ≡ key_of x };
@@ -153,6 +153,6 @@ pub fn some_newest<R: Record, T: ObjectTest, U: SureTest>(
     requires all { R.whole seat.now → reverse page.now ≡ R.told seat.now }
     ensures { Judges (R.whole seat.now × U.sure row.now) result (SomeNewest (λ o. T.allows may.now o × U.allows row.now o) (R.told seat.now)) }
 {
-    let newest = NewestOfKey { may, row, seat };
+    let newest = NewestRecorded { may, row, seat };
     told_shared(&newest, page)
 }

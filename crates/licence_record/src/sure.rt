@@ -108,12 +108,12 @@ pub trait SureShared {
 
 /// The first part holds of the object, and it is alike to the given one.
 #[derive(Drop)]
-struct Alike<'a, T> {
+struct RecordedAlike<'a, T> {
     test: &'a T,
     given: &'a Object,
 }
 
-impl<'a, T: SureShared> ObjectTest for Alike<'a, T> {
+impl<'a, T: SureShared> ObjectTest for RecordedAlike<'a, T> {
     ghost allows = { λ t o. T.allows t.test.now o × T.pairs t.test.now t.given.now o };
 
     fn test(&self, object: &Object) -> bool {
@@ -126,12 +126,12 @@ impl<'a, T: SureShared> ObjectTest for Alike<'a, T> {
 
 /// Both parts hold of the object, and the newer entries told none that is alike.
 #[derive(Drop)]
-struct FirstAlike<'a, T> {
+struct FirstRecordedAlike<'a, T> {
     test: &'a T,
     newer: &'a [Entry],
 }
 
-impl<'a, T: SureShared> SureTest for FirstAlike<'a, T> {
+impl<'a, T: SureShared> SureTest for FirstRecordedAlike<'a, T> {
     ghost allows = { λ t o. IsFirstAlike (T.allows t.test.now) (T.pairs t.test.now) (T.holds t.test.now) (reverse t.newer.now) o };
 
     ghost sure = { λ t. T.sure t.test.now };
@@ -140,7 +140,7 @@ impl<'a, T: SureShared> SureTest for FirstAlike<'a, T> {
         if !self.test.may(object) {
             return false;
         }
-        let alike = Alike {
+        let alike = RecordedAlike {
             test: self.test,
             given: object,
         };
@@ -161,7 +161,7 @@ pub fn told_shared<T: SureShared>(test: &T, mine: &[Entry]) -> bool
     while left > 0 {
         let (_, newer) = mine.split_at(left);
         left -= 1;
-        let first = FirstAlike { test, newer };
+        let first = FirstRecordedAlike { test, newer };
         if tells(&first, &mine[left]) {
             return true;
         }
@@ -181,11 +181,11 @@ pub trait SureClaim {
 
 /// The object is a claim, and the condition holds of it.
 #[derive(Drop)]
-pub struct OfClaims<'a, T> {
+pub struct OfRecordedClaims<'a, T> {
     pub test: &'a T,
 }
 
-impl<'a, T: SureClaim> SureTest for OfClaims<'a, T> {
+impl<'a, T: SureClaim> SureTest for OfRecordedClaims<'a, T> {
     ghost allows = { λ t o. IsClaimWith (T.allows t.test.now) o };
 
     ghost sure = { λ t. T.sure t.test.now };
@@ -200,14 +200,14 @@ impl<'a, T: SureClaim> SureTest for OfClaims<'a, T> {
 
 /// The write is at the object, and the condition holds of it.
 #[derive(Drop)]
-struct WrittenAt<'a, T> {
+struct RecordedAt<'a, T> {
     given: Option<Version>,
     namespace: &'a Text,
     name: &'a Text,
     row: &'a T,
 }
 
-impl<'a, T: SureTest> SureShared for WrittenAt<'a, T> {
+impl<'a, T: SureTest> SureShared for RecordedAt<'a, T> {
     ghost allows = { λ t o. IsWrittenAt t.given t.namespace.now t.name.now (meta_of o) };
 
     ghost pairs = { λ t o x. o ≡ x };
@@ -243,7 +243,7 @@ fn told_object_at<T: SureTest>(
 ) -> bool
     ensures { Judges (T.sure row.now) result (ToldObject (λ o. IsWrittenAt given namespace.now name.now (meta_of o) × T.allows row.now o) (reverse mine.now)) }
 {
-    let at = WrittenAt {
+    let at = RecordedAt {
         given,
         namespace,
         name,
@@ -262,6 +262,6 @@ pub fn told_claim_at<T: SureClaim>(
 ) -> bool
     ensures { Judges (T.sure row.now) result (ToldClaim (λ c. IsWrittenAt given namespace.now name.now c.meta × T.allows row.now c) (reverse mine.now)) }
 {
-    let claims = OfClaims { test: row };
+    let claims = OfRecordedClaims { test: row };
     told_object_at(&claims, mine, given, namespace, name)
 }

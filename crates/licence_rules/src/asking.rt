@@ -14,9 +14,9 @@ use kube_types::key::Key;
 use kube_types::objects::{Claim, Object, Volume};
 use licence_record::newest::{newest_volume_of, some_newest};
 use licence_record::record::Record;
-use licence_record::sure::{OfClaims, SureClaim, SureTest};
+use licence_record::sure::{OfRecordedClaims, SureClaim, SureTest};
 use licence_rows::asking::{NamesClaim, NamesVolume, is_to_erase};
-use licence_scans::rows::{OfClaims as OfSomeClaims, OfVolumes};
+use licence_scans::rows::{OfRecordedClaims as OfSomeClaims, OfVolumes};
 
 /// Whether the volume names a claim with a UID, and what was told newest of the key is none with this.
 fn is_lacking<R: Record>(seat: &R, key: &Key, volume: &Volume) -> bool
@@ -86,7 +86,7 @@ pub(crate) fn asks_for_volume<R: Record>(seat: &R, page: &[Entry], key: &Key) ->
     let names = NamesVolume { key };
     let completed = Completed {};
     let may = OfSomeClaims { test: &names };
-    let row = OfClaims { test: &completed };
+    let row = OfRecordedClaims { test: &completed };
     some_newest(&may, &row, page, seat)
 }
 

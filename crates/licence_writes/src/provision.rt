@@ -18,8 +18,8 @@ use kube_types::pairs::Pairs;
 use kube_types::text::Text;
 use licence_record::newest::{newest_class, newest_node, some_newest};
 use licence_record::record::Record;
-use licence_record::sure::{OfClaims, SureClaim};
-use licence_scans::rows::OfClaims as OfSomeClaims;
+use licence_record::sure::{OfRecordedClaims, SureClaim};
+use licence_scans::rows::OfRecordedClaims as OfSomeClaims;
 
 /// Whether the labels are those of the newest told node of the name.
 fn are_labels_of<R: Record>(seat: &R, name: &Text, labels: &Option<Pairs>) -> bool
@@ -121,6 +121,6 @@ pub fn may_provision<R: Record>(
         labels,
     };
     let may = OfSomeClaims { test: &asked };
-    let row = OfClaims { test: &provided };
+    let row = OfRecordedClaims { test: &provided };
     some_newest(&may, &row, seat.provisioned(name, Sought::Last), seat)
 }

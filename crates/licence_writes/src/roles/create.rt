@@ -186,12 +186,12 @@ fn are_terms_for(terms: &Option<NodeTerms>, topology: &Option<(Text, Text)>) -> 
 
 /// A Provision for the claim of the UID gave the data and the place that the volume shows.
 #[derive(Drop)]
-struct Shown<'a> {
+struct ShownData<'a> {
     uid: Uid,
     new: &'a Volume,
 }
 
-impl<'a> EntryTest for Shown<'a> {
+impl<'a> EntryTest for ShownData<'a> {
     ghost allows = { λ t e. TellsShown (data_name t.uid) t.new.now e };
 
     fn test(&self, entry: &Entry) -> bool {
@@ -227,7 +227,7 @@ fn was_given(mine: &[Entry], uid: Uid, new: &Volume) -> bool
 {
     let test = WithUid { uid };
     let told = OfClaims { test: &test };
-    let shown = Shown { uid, new };
+    let shown = ShownData { uid, new };
     after(&told, &shown, mine)
 }
 

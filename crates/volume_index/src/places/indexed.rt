@@ -21,17 +21,17 @@ use std::cmp::Ordering;
 
 /// A volume that is looked for by its name.
 #[derive(Clone, Copy)]
-struct Sought<'a> {
+struct SoughtPlace<'a> {
     volume: &'a Volume,
 }
 
-impl<'a> Ranked<Sought<'a>> for Object {
+impl<'a> Ranked<SoughtPlace<'a>> for Object {
     ghost use Rattle.kube_objects.specs.declared.objects.Object.TheVariants.{Volume as VolumeObject};
     ghost use Rattle.kube_objects.specs.Keys.{key_of, key_cmp};
 
     ghost rank = { λ o k. key_cmp (key_of o) (key_of (VolumeObject k.volume.now)) };
 
-    fn rank(&self, key: &Sought<'a>) -> Ordering {
+    fn rank(&self, key: &SoughtPlace<'a>) -> Ordering {
         let (meta, other) = (meta_of(self), &key.volume.meta);
         kind_index(kind_of(self))
             .cmp(&kind_index(Kind::PersistentVolume))
@@ -44,7 +44,7 @@ impl<'a> Ranked<Sought<'a>> for Object {
 fn place_in(objects: &[Object], volume: &Volume) -> Option<usize>
     ensures { IsPlaceOf objects.now volume.now result }
 {
-    match place_of(objects, &Sought { volume }) {
+    match place_of(objects, &SoughtPlace { volume }) {
         Ok(at) => Some(at),
         Err(_) => None,
     }
