@@ -11,8 +11,8 @@ use Rattle.call_types.specs.declared.request.SeatKind.{SeatKind}
 use Rattle.call_types.specs.declared.reply.Reply.{Reply}
 use Rattle.binder_model.specs.Reading.{Unlisted, following_of, follows}
 use Rattle.call_types.specs.Kinds.{reads_kind}
-use Rattle.informer_cache.specs.declared.cache.Ask.{Ask}
-use Rattle.informer_cache.specs.declared.cache.Ask.TheVariants as asks
+use Rattle.informer_cache.specs.declared.cache.NextRead.{NextRead}
+use Rattle.informer_cache.specs.declared.cache.NextRead.TheVariants as asks
 use Rattle.informer_cache.specs.Cache.{IsTold, ask_from, ask_of, watch_from}
 use Rattle.informer_cache.specs.All.{AllKnown, cache_of}
 use Rattle.model_laws.proofs.Lists.{one, none_some}
@@ -68,7 +68,7 @@ no_news kind (e ∷ recent) earlier quiet = by (e.told && reads_kind kind e.requ
     by true own more = rw own (rw own at quiet)
     by false other more = rw other (more (rw other at quiet))
 
-abbrev is_list : Ask → Bool
+abbrev is_list : NextRead → Bool
 is_list asks.List = true
 is_list (asks.Watch from) = false
 
@@ -96,7 +96,7 @@ module _ (s : ActorState) (earlier recent : List Entry) (e : Entry) (request : R
       under (Some u) way c = kept_pass s.role s.pass recent e pass (λ kind. task_reads_none u.task e.request kind
           (under_calls s.role u (recent ++ earlier) way ∙ ap Some (one u.call request c ∙ sym is.asked)))
 
-      read : (k : Kind) (a : Ask) → ask_of (cache_of k s.caches) ≡ a → read_request k a ≡ request → PassStands s.role (pass_after s.pass (is_passing (passing s) k) request reply) (e ∷ recent)
+      read : (k : Kind) (a : NextRead) → ask_of (cache_of k s.caches) ≡ a → read_request k a ≡ request → PassStands s.role (pass_after s.pass (is_passing (passing s) k) request reply) (e ∷ recent)
       read k asks.List at r =
           let from = (stands.caches.each k).from ∙ ap (λ x. watch_from (following_of (recent ++ earlier) x)) (stands.caches.kinds k) in
           subst (λ q. PassStands s.role (pass_after s.pass (is_passing (passing s) k) q reply) (e ∷ recent)) r

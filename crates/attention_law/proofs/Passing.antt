@@ -8,8 +8,8 @@ use Rattle.call_types.specs.declared.request.Request.TheVariants as requests
 use Rattle.call_types.specs.declared.reply.Refusal.TheVariants.{Gone}
 use Rattle.call_types.specs.declared.reply.Reply.{Reply}
 use Rattle.call_types.specs.declared.reply.Reply.TheVariants as replies
-use Rattle.informer_cache.specs.declared.cache.Ask.{Ask}
-use Rattle.informer_cache.specs.declared.cache.Ask.TheVariants as asks
+use Rattle.informer_cache.specs.declared.cache.NextRead.{NextRead}
+use Rattle.informer_cache.specs.declared.cache.NextRead.TheVariants as asks
 use Rattle.informer_cache.specs.Cache.{IsTold, ask_of}
 use Rattle.informer_cache.specs.All.{AllKnown, cache_of}
 use Rattle.model_laws.proofs.Lists.{none_some, one}
@@ -47,7 +47,7 @@ module _ (s : ActorState) (mine : List Entry) (kind : Kind) (from : ℕ) (stands
   kind_watched (requests.Watch k f) = Some k
   kind_watched r = None
 
-  read_kind : (k : Kind) (ask : Ask) → Some (read_request k ask) ≡ Some (requests.Watch kind from) → k ≡ kind
+  read_kind : (k : Kind) (ask : NextRead) → Some (read_request k ask) ≡ Some (requests.Watch kind from) → k ≡ kind
   read_kind k asks.List e = none_some (ap kind_watched (one _ (requests.Watch kind from) e))
   read_kind k (asks.Watch f) e = one k kind (ap kind_watched (one _ (requests.Watch kind from) e))
 

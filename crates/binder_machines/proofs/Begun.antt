@@ -33,8 +33,8 @@ use Rattle.volume_sync.specs.declared.action.VolumeAction.{VolumeAction}
 use Rattle.volume_sync.specs.declared.action.VolumeAction.TheVariants as actions
 use Rattle.model_laws.proofs.Lists.{none_some}
 use Rattle.model_laws.proofs.Newest.{newest_claim, newest_volume}
-use Rattle.binder_machines.specs.declared.decide.First.{First}
-use Rattle.binder_machines.specs.declared.decide.First.TheVariants.{Begins}
+use Rattle.binder_machines.specs.declared.decide.FirstMachine.{FirstMachine}
+use Rattle.binder_machines.specs.declared.decide.FirstMachine.TheVariants.{Begins}
 use Rattle.binder_machines.specs.declared.machine.Machine.{Machine}
 use Rattle.binder_machines.specs.declared.machine.Machine.TheVariants.{Binds, ReadsClaim, ReadsVolume, AssignsClass}
 use Rattle.binder_machines.specs.Machines.{machine_for}
@@ -45,7 +45,7 @@ use Rattle.binder_machines.proofs.Shown.{completed_of, is_for_completed}
 use Rattle.binder_machines.proofs.Tests.{empty_is}
 
 -- the machine that begins, if one does
-abbrev pub machine_in : First → Option Machine
+abbrev pub machine_in : FirstMachine → Option Machine
 machine_in (Begins machine) = Some machine
 machine_in _ = None
 

@@ -34,7 +34,7 @@ use Rattle.volume_sync.specs.VolumeDecision.{free_action, refers_by_uid, referre
 use Rattle.volume_sync.specs.declared.action.VolumeAction.{VolumeAction}
 use Rattle.volume_sync.specs.declared.action.VolumeAction.TheVariants as actions
 use Rattle.model_laws.proofs.Lists.{none_some, one}
-use Rattle.binder_machines.specs.declared.decide.First.TheVariants.{Begins}
+use Rattle.binder_machines.specs.declared.decide.FirstMachine.TheVariants.{Begins}
 use Rattle.binder_machines.specs.declared.machine.Machine.{Machine}
 use Rattle.binder_machines.specs.declared.machine.Machine.TheVariants.{Frees, Binds, MarksBound, ReadsClaim, Releases, Unbinds, ReadsVolume, AssignsClass, Loses}
 use Rattle.binder_machines.specs.BeginLaw.{AreStored, BegunHaveCalls, ReadHaveCalls}

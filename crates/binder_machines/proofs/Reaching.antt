@@ -25,8 +25,8 @@ use Rattle.volume_sync.specs.VolumeDecision.{volume_decision}
 use Rattle.volume_sync.specs.declared.action.VolumeAction.{VolumeAction}
 use Rattle.volume_sync.specs.declared.action.VolumeAction.TheVariants as actions
 use Rattle.model_laws.proofs.Lists.{none_some, one}
-use Rattle.binder_machines.specs.declared.decide.First.{First}
-use Rattle.binder_machines.specs.declared.decide.First.TheVariants.{Queues}
+use Rattle.binder_machines.specs.declared.decide.FirstMachine.{FirstMachine}
+use Rattle.binder_machines.specs.declared.decide.FirstMachine.TheVariants.{Queues}
 use Rattle.binder_machines.specs.declared.machine.Machine.{Machine}
 use Rattle.binder_machines.specs.declared.machine.Machine.TheVariants.{Frees, Binds, MarksBound, ReadsClaim, Releases, Unbinds, ReadsVolume, AssignsClass, Loses}
 use Rattle.binder_machines.specs.FirstSteps.{IsClaimFirst, IsFirst, first_of, queue_of, volume_first}
@@ -85,7 +85,7 @@ calls_read_no_kind machine request kind e = call_reads_none (call_of machine) re
 
 -- the key that is queued
 
-abbrev queued_in : First → Option Key
+abbrev queued_in : FirstMachine → Option Key
 queued_in (Queues key) = Some key
 queued_in first = None
 

@@ -14,8 +14,8 @@ use Rattle.claim_sync.specs.declared.action.ClaimStep.TheVariants as steps
 use Rattle.volume_sync.specs.VolumeDecision.{seen_claim, volume_decision}
 use Rattle.volume_sync.specs.declared.action.VolumeAction.{VolumeAction}
 use Rattle.volume_sync.specs.declared.action.VolumeAction.TheVariants as actions
-use Rattle.binder_machines.specs.declared.decide.First.{First}
-use Rattle.binder_machines.specs.declared.decide.First.TheVariants.{Begins}
+use Rattle.binder_machines.specs.declared.decide.FirstMachine.{FirstMachine}
+use Rattle.binder_machines.specs.declared.decide.FirstMachine.TheVariants.{Begins}
 use Rattle.binder_machines.specs.declared.machine.Machine.TheVariants as machines
 use Rattle.binder_machines.specs.FirstSteps.{claim_first, queue_of, volume_first}
 use Rattle.binder_machines.specs.Machines.{confirmed_for, machine_for, moved, parks_at, volume_read, claim_read}
@@ -24,7 +24,7 @@ use Rattle.binder_machines.proofs.Shown.{claim_reads, is_for_completed, unseen, 
 
 -- whether a read begins
 
-abbrev reads_claim : First → Bool
+abbrev reads_claim : FirstMachine → Bool
 reads_claim (Begins (machines.ReadsClaim v)) = true
 reads_claim _ = false
 
@@ -53,7 +53,7 @@ claim_read_decides rows v reply live first = by reply live
     by (replies.Refused refusals.NotFound) Absent is = ap (machine_for v) (sym (volume_reads rows v Absent refl none))
     by _ _ is = absurd is
 
-abbrev reads_volume : First → Bool
+abbrev reads_volume : FirstMachine → Bool
 reads_volume (Begins (machines.ReadsVolume c)) = true
 reads_volume _ = false
 

@@ -9,7 +9,7 @@ use Rattle.kube_objects.specs.declared.objects.Object.TheVariants.{Class, Volume
 use Rattle.kube_objects.specs.Keys.{AreRows, meta_of, row_at}
 use Rattle.call_types.specs.declared.request.Request.{Request}
 use Rattle.call_types.specs.declared.reply.Reply.{Reply}
-use Rattle.binder_machines.specs.declared.decide.First.TheVariants.{Begins}
+use Rattle.binder_machines.specs.declared.decide.FirstMachine.TheVariants.{Begins}
 use Rattle.binder_machines.specs.declared.machine.Machine.{Machine}
 use Rattle.binder_machines.specs.declared.machine.Machine.TheVariants.{ReadsClaim, ReadsVolume}
 use Rattle.binder_machines.specs.FirstSteps.{IsFirst}

@@ -8,7 +8,7 @@ use Rattle.kube_objects.specs.declared.objects.Object.{Object}
 use Rattle.kube_objects.specs.Keys.{row_at}
 use Rattle.call_types.specs.declared.request.Request.{Request}
 use Rattle.call_types.specs.Kinds.{reads_kind}
-use Rattle.binder_machines.specs.declared.decide.First.TheVariants.{Queues}
+use Rattle.binder_machines.specs.declared.decide.FirstMachine.TheVariants.{Queues}
 use Rattle.binder_machines.specs.declared.machine.Machine.{Machine}
 use Rattle.binder_machines.specs.FirstSteps.{IsFirst}
 use Rattle.binder_machines.specs.Machines.{call_of}

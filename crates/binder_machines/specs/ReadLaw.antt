@@ -11,7 +11,7 @@ use Rattle.call_types.specs.declared.reply.Reply.{Reply}
 use Rattle.call_types.specs.declared.reply.Reply.TheVariants.{Found, Refused}
 use Rattle.claim_sync.specs.ClaimDecision.{claim_decision}
 use Rattle.volume_sync.specs.VolumeDecision.{volume_decision}
-use Rattle.binder_machines.specs.declared.decide.First.TheVariants.{Begins}
+use Rattle.binder_machines.specs.declared.decide.FirstMachine.TheVariants.{Begins}
 use Rattle.binder_machines.specs.declared.machine.Machine.{Machine}
 use Rattle.binder_machines.specs.declared.machine.Machine.TheVariants.{ReadsClaim, ReadsVolume}
 use Rattle.binder_machines.specs.FirstSteps.{claim_first, volume_first}

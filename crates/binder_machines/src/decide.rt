@@ -25,20 +25,24 @@ use volume_sync::{VolumeAction, decide_volume};
 
 /// What is done about a key: nothing, another key is queued, or a machine begins.
 #[derive(Drop)]
-pub enum First {
+pub enum FirstMachine {
     Drops,
     Queues(Key),
     Begins(Machine),
 }
 
 /// What is done about the key.
-pub fn first_for<L: Lookup>(alloc: Global, lookup: &L, key: &Key) -> Result<First, OutOfMemory>
+pub fn first_for<L: Lookup>(
+    alloc: Global,
+    lookup: &L,
+    key: &Key,
+) -> Result<FirstMachine, OutOfMemory>
     ensures { IfOk result (λ first. IsFirst (L.rows lookup.now) (row_at key.now (L.rows lookup.now)) first) }
 {
     match lookup.row(key) {
         Some(Object::Volume(volume)) => first_of_volume(alloc, lookup, volume),
         Some(Object::Claim(claim)) => first_of_claim(alloc, lookup, claim),
-        _ => Ok(First::Drops),
+        _ => Ok(FirstMachine::Drops),
     }
 }
 
@@ -46,7 +50,7 @@ fn first_of_volume<L: Lookup>(
     alloc: Global,
     lookup: &L,
     volume: &Shared<Volume>,
-) -> Result<First, OutOfMemory>
+) -> Result<FirstMachine, OutOfMemory>
     ensures { IfOk result (λ first. first ≡ volume_first volume.now (volume_decision (L.rows lookup.now) volume.now NotAsked)) }
 {
     match decide_volume(lookup, volume, Live::NotAsked) {
@@ -60,22 +64,22 @@ fn first_with(
     alloc: Global,
     volume: &Shared<Volume>,
     action: VolumeAction,
-) -> Result<First, OutOfMemory>
+) -> Result<FirstMachine, OutOfMemory>
     ensures { IfOk result (λ first. first ≡ first_of (machine_for volume.now action)) }
 {
     match machine_for(alloc, volume, action)? {
-        Some(machine) => Ok(First::Begins(machine)),
-        None => Ok(First::Drops),
+        Some(machine) => Ok(FirstMachine::Begins(machine)),
+        None => Ok(FirstMachine::Drops),
     }
 }
 
 /// The claim that the reference names is queued.
-fn queue_of(alloc: Global, reference: &Option<Ref>) -> Result<First, OutOfMemory>
+fn queue_of(alloc: Global, reference: &Option<Ref>) -> Result<FirstMachine, OutOfMemory>
     ensures { IfOk result (λ first. first ≡ queue_of reference.now) }
 {
     match reference {
-        None => Ok(First::Drops),
-        Some(reference) => Ok(First::Queues(claim_key(
+        None => Ok(FirstMachine::Drops),
+        Some(reference) => Ok(FirstMachine::Queues(claim_key(
             alloc,
             &reference.namespace,
             &reference.name,
@@ -87,31 +91,33 @@ fn first_of_claim<L: Lookup>(
     alloc: Global,
     lookup: &L,
     claim: &Shared<Claim>,
-) -> Result<First, OutOfMemory>
+) -> Result<FirstMachine, OutOfMemory>
     ensures { IfOk result (λ first. IsClaimFirst (L.rows lookup.now) claim.now (claim_decision (L.rows lookup.now) claim.now NotAsked) first) }
 {
     match decide_claim(lookup, claim, Live::NotAsked) {
-        ClaimAction::Nothing => Ok(First::Drops),
-        ClaimAction::ReadVolume => Ok(First::Begins(Machine::ReadsVolume(claim.copy(alloc)?))),
+        ClaimAction::Nothing => Ok(FirstMachine::Drops),
+        ClaimAction::ReadVolume => Ok(FirstMachine::Begins(Machine::ReadsVolume(claim.copy(
+            alloc,
+        )?))),
         ClaimAction::Lost => {
             if is_empty(&claim.volume_name) {
-                return Ok(First::Begins(Machine::Loses(claim.copy(alloc)?)));
+                return Ok(FirstMachine::Begins(Machine::Loses(claim.copy(alloc)?)));
             }
-            Ok(First::Begins(Machine::ReadsVolume(claim.copy(alloc)?)))
+            Ok(FirstMachine::Begins(Machine::ReadsVolume(claim.copy(alloc)?)))
         }
         ClaimAction::Bind(place) => match volume_at(lookup, place) {
             Some(volume) => {
                 let volume = volume.copy(alloc)?;
-                Ok(First::Begins(Machine::Binds(volume, claim.copy(alloc)?)))
+                Ok(FirstMachine::Begins(Machine::Binds(volume, claim.copy(alloc)?)))
             }
-            None => Ok(First::Drops),
+            None => Ok(FirstMachine::Drops),
         },
         ClaimAction::AssignClass(place) => match class_at(lookup, place) {
             Some(class) => {
                 let class = class.copy(alloc)?;
-                Ok(First::Begins(Machine::AssignsClass(claim.copy(alloc)?, class)))
+                Ok(FirstMachine::Begins(Machine::AssignsClass(claim.copy(alloc)?, class)))
             }
-            None => Ok(First::Drops),
+            None => Ok(FirstMachine::Drops),
         },
     }
 }

@@ -8,7 +8,7 @@ ghost use Rattle.call_types.specs.declared.request.Request.{Request};
 ghost use Rattle.call_types.specs.declared.request.SeatKind.TheVariants.{Binder};
 ghost use Rattle.binder_model.specs.Licence.{AreOfKind, Licensed};
 ghost use Rattle.informer_cache.specs.All.{AllKnown, AllStandFor, all_objects};
-ghost use Rattle.binder_machines.specs.declared.decide.First.TheVariants.{Begins};
+ghost use Rattle.binder_machines.specs.declared.decide.FirstMachine.TheVariants.{Begins};
 ghost use Rattle.binder_machines.specs.declared.machine.Machine.{Machine};
 ghost use Rattle.binder_machines.specs.BeginLaw.{BegunHaveCalls, ReadHaveCalls};
 ghost use Rattle.binder_machines.specs.Evidence.{MachineKeeps};

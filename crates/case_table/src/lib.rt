@@ -10,4 +10,4 @@ mod rows;
 mod table;
 
 pub use rows::{CaseRow, Need};
-pub use table::{Table, TableError};
+pub use table::{CaseTable, TableError};

@@ -11,11 +11,11 @@ use std::marker::Model;
 
 /// A table in which each list of conditions fits exactly one row. Contracts see its rows.
 #[derive(Drop)]
-pub struct Table<const K: usize, const N: usize> {
+pub struct CaseTable<const K: usize, const N: usize> {
     rows: [CaseRow<K>; N],
 }
 
-impl<const K: usize, const N: usize> Model for Table<K, N> {
+impl<const K: usize, const N: usize> Model for CaseTable<K, N> {
     ghost use Rattle.std.specs.Prelude.{List};
     ghost use Rattle.case_table.specs.declared.rows.CaseRow.{CaseRow};
     ghost use Rattle.case_table.specs.Cases.{IsExact};
@@ -53,10 +53,10 @@ fn first_fault<const K: usize>(rows: &[CaseRow<K>]) -> Option<TableError<K>>
     }
 }
 
-impl<const K: usize, const N: usize> Table<K, N> {
+impl<const K: usize, const N: usize> CaseTable<K, N> {
     /// The table of the rows, where each list of conditions fits exactly one. Else the least list
     /// that no row fits; where there is none, the least pair of rows that fit one list.
-    pub fn new(rows: [CaseRow<K>; N]) -> Result<Table<K, N>, TableError<K>>
+    pub fn new(rows: [CaseRow<K>; N]) -> Result<CaseTable<K, N>, TableError<K>>
         requires conditions { K ≤ 12 }
         requires rows { N ≤ 4096 }
         ensures ok { IsOk result ↔ IsExact rows.entry }
@@ -65,16 +65,16 @@ impl<const K: usize, const N: usize> Table<K, N> {
     {
         match first_fault(&rows) {
             Some(fault) => Err(fault),
-            None => Ok(Table { rows }),
+            None => Ok(CaseTable { rows }),
         }
     }
 
     /// The table of rows of which each list of conditions fits exactly one.
-    pub fn exact(rows: [CaseRow<K>; N]) -> Table<K, N>
+    pub fn exact(rows: [CaseRow<K>; N]) -> CaseTable<K, N>
         requires { IsExact rows }
         ensures { result ≡ rows.entry }
     {
-        Table { rows }
+        CaseTable { rows }
     }
 
     /// The action of the row that the conditions fit.

@@ -6,7 +6,7 @@ ghost use Rattle.claim_sync.specs.ClaimTable.{claim_rows, completed_rows, row, u
 
 use crate::action::ClaimStep;
 use case_table::Need::{Any, No, Yes};
-use case_table::{CaseRow, Need, Table};
+use case_table::{CaseRow, CaseTable, Need};
 
 fn row(needs: [Need; 12], step: ClaimStep) -> CaseRow<12>
     ensures { result ≡ row needs step }
@@ -136,8 +136,8 @@ pub fn claim_rows() -> [CaseRow<12>; 17]
 }
 
 /// The table of these rows.
-pub fn claim_table() -> Table<12, 17>
+pub fn claim_table() -> CaseTable<12, 17>
     ensures { result ≡ claim_rows }
 {
-    Table::exact(claim_rows())
+    CaseTable::exact(claim_rows())
 }

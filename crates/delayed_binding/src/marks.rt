@@ -12,11 +12,11 @@ use volume_match::Places;
 
 /// Places, as a mark for each place up to the last of them.
 #[derive(Debug, Drop)]
-pub(crate) struct Marks {
+pub(crate) struct PassedMarks {
     marks: Vec<bool>,
 }
 
-impl Model for Marks {
+impl Model for PassedMarks {
     ghost use Rattle.std.specs.Prelude.{List, ℕ};
     ghost use Rattle.delayed_binding.specs.Steps.Marks.{marked};
 
@@ -25,12 +25,12 @@ impl Model for Marks {
     ghost view = { λ m. marked 0 m.marks.items };
 }
 
-impl Marks {
+impl PassedMarks {
     /// No places. It takes no memory.
-    pub(crate) fn new(alloc: Global) -> Marks
+    pub(crate) fn new(alloc: Global) -> PassedMarks
         ensures { result ≡ [] }
     {
-        Marks {
+        PassedMarks {
             marks: Vec::new(alloc),
         }
     }
@@ -49,7 +49,7 @@ impl Marks {
     }
 }
 
-impl Places for Marks {
+impl Places for PassedMarks {
     ghost places = { λ m. m };
 
     fn hold(&self, place: usize) -> bool {

@@ -18,7 +18,7 @@ ghost use Rattle.delayed_binding.specs.Steps.Sharing.{ArePassed, ArePassedIn, Ar
 
 use crate::choice::Choice;
 use crate::counts::{all_ask_like, are_fewer};
-use crate::marks::Marks;
+use crate::marks::PassedMarks;
 use crate::nodes::node_in_turn;
 use crate::volumes::{all_fixed_admit, are_alike, has_carrier, set_aside, volume_at};
 use kube_types::bindings::{NO_PROVISIONER, class_of_claim, is_completed};
@@ -98,8 +98,8 @@ fn compare(left: &Claim, right: &Claim) -> Ordering
 /// among the free volumes of the index.
 #[derive(Debug, Drop)]
 struct Shares {
-    taken: Marks,
-    passed: Marks,
+    taken: PassedMarks,
+    passed: PassedMarks,
     binds: Vec<(Key, Key)>,
     provisions: Vec<Key>,
 }
@@ -201,8 +201,8 @@ fn best_left<L: Lookup>(
     index: Option<&VolumeIndex>,
     node: &Node,
     claim: &Claim,
-    taken: &Marks,
-    passed: &Marks,
+    taken: &PassedMarks,
+    passed: &PassedMarks,
 ) -> Option<Found>
     requires index { IsIndexOf (L.rows lookup.now) (option_copied index) }
     requires passed { ArePassedIn (L.rows lookup.now) (option_copied index) passed.now taken.now }
@@ -277,7 +277,7 @@ fn shares_on<L: Lookup>(
     let index = lookup.volumes();
     let mut shares = Shares {
         taken: set_aside(alloc, lookup)?,
-        passed: Marks::new(alloc),
+        passed: PassedMarks::new(alloc),
         binds: Vec::new(alloc),
         provisions: Vec::new(alloc),
     };

@@ -13,7 +13,7 @@ ghost use Rattle.delayed_binding.specs.Steps.Alike.{AreAlike, admits_alike, alik
 ghost use Rattle.delayed_binding.specs.Steps.Places.{admits_at, admits_unless_other, carries_at, is_in_namespace};
 ghost use Rattle.delayed_binding.specs.Steps.Sharing.{AreSame};
 
-use crate::marks::Marks;
+use crate::marks::PassedMarks;
 use kube_types::bindings::{carries, is_completed, is_empty};
 use kube_types::copies::OutOfMemory;
 use kube_types::key::meta_of;
@@ -205,11 +205,11 @@ pub(crate) fn are_alike<L: Lookup>(lookup: &L, one: &Node, other: &Node) -> bool
 }
 
 /// The places of the volumes that stand in a namespace, which no claim takes.
-pub(crate) fn set_aside<L: Lookup>(alloc: Global, lookup: &L) -> Result<Marks, OutOfMemory>
+pub(crate) fn set_aside<L: Lookup>(alloc: Global, lookup: &L) -> Result<PassedMarks, OutOfMemory>
     ensures places { IfOk result (λ places. AreSame places (set_aside (L.rows lookup.now))) }
     ensures order { AreRows (L.rows lookup.now) }
 {
-    let mut places = Marks::new(alloc);
+    let mut places = PassedMarks::new(alloc);
     for place in 0..lookup.count(Kind::PersistentVolume) {
         let aside = is_in_namespace(lookup.at(Kind::PersistentVolume, place));
         note_if(aside, place, &mut places)?;
@@ -217,7 +217,7 @@ pub(crate) fn set_aside<L: Lookup>(alloc: Global, lookup: &L) -> Result<Marks, O
     Ok(places)
 }
 
-fn note_if(aside: bool, place: usize, places: &mut Marks) -> Result<(), OutOfMemory>
+fn note_if(aside: bool, place: usize, places: &mut PassedMarks) -> Result<(), OutOfMemory>
     ensures { OnOk result (AreSame places.new (if aside then place ∷ places.old else places.old)) }
 {
     if aside {

@@ -20,7 +20,7 @@ use call_types::entry::Entry;
 use call_types::reply::Reply;
 use call_types::request::Request;
 use evidence_pages::newest::newest_of;
-use evidence_pages::parts::Parts;
+use evidence_pages::parts::KeyParts;
 use informer_cache::caches::Caches;
 use kube_types::bindings::{
     carries, is_completed, is_deleting, is_protected_claim, is_scheduled, is_uid,
@@ -331,7 +331,7 @@ fn is_pod_on(uid: Uid, node: &Text, pod: &Pod) -> bool
 fn is_newest_staying(caches: &Caches, uid: Uid, pod: &Pod) -> bool
     ensures { (mine : List Entry) → AllStandFor caches.now mine → IsTrue result → IsStaying mine uid pod.now }
 {
-    let key = Parts {
+    let key = KeyParts {
         kind: Kind::Pod,
         namespace: pod.meta.namespace.as_str(),
         name: pod.meta.name.as_str(),

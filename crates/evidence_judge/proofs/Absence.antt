@@ -16,8 +16,8 @@ use Rattle.binder_model.specs.Reading.{Following, IsFrom, Unlisted, follow_on, f
 use Rattle.binder_model.specs.Told.{IsAbsenceOf, IsNewest, IsNewestAbsent, Telling, later, newest, object_of, tells_of}
 use Rattle.informer_cache.specs.All.{AllKnown, AllStandFor, all_objects, cache_of}
 use Rattle.informer_cache.specs.Cache.{ask_of}
-use Rattle.informer_cache.specs.declared.cache.Ask.{Ask}
-use Rattle.informer_cache.specs.declared.cache.Ask.TheVariants as asks
+use Rattle.informer_cache.specs.declared.cache.NextRead.{NextRead}
+use Rattle.informer_cache.specs.declared.cache.NextRead.TheVariants as asks
 use Rattle.model_laws.proofs.Follows.{watched_before}
 use Rattle.model_laws.proofs.Lists.{none_some}
 use Rattle.evidence_pages.proofs.Reading.{from_by}
@@ -67,7 +67,7 @@ absence : (t : Option Telling) → (t ≡ None → ⊥) → object_of t ≡ None
 absence None some none = absurd (some refl)
 absence (Some t) some none = none
 
-pub absent_by : (c : AllKnown) (mine : List Entry) (name : List ℕ) (found : Option Object) (ask : Ask) (from : ℕ)
+pub absent_by : (c : AllKnown) (mine : List Entry) (name : List ℕ) (found : Option Object) (ask : NextRead) (from : ℕ)
     → found ≡ row_at (node_key name) (all_objects c) → found ≡ None → ask ≡ ask_of (cache_of kinds.Node c) → ask ≡ asks.Watch from → AllStandFor c mine → IsNewestAbsent mine (node_key name)
 absent_by c mine name found ask from is none asked watch all =
     absence (newest mine (node_key name)) (told_of_each name mine from (from_by c mine kinds.Node ask from asked watch all)) (sym (all.rows (node_key name)) ∙ sym is ∙ none)

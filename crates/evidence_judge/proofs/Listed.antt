@@ -3,7 +3,7 @@ use Rattle.std.proofs.Common.{◌≡◌, ℕ, List, Bool, true, false, if◌then
 use Rattle.kube_parts.specs.declared.parts.Kind.{Kind}
 use Rattle.call_types.specs.declared.entry.Entry.{Entry}
 use Rattle.binder_model.specs.Reading.{Following, Unlisted, ListedAt, IsFrom, following_of, reached_on}
-use Rattle.evidence_judge.specs.declared.lists.Lists.{Lists}
+use Rattle.evidence_judge.specs.declared.lists.LastLists.{LastLists}
 use Rattle.evidence_judge.specs.Steps.Lists.{AreListsOf, list_version, version_in}
 
 -- what a watch is told leaves the list
@@ -18,5 +18,5 @@ from_listed : (f : Following) (from : ℕ) → list_version f ≡ Some from → 
 from_listed Unlisted from is = cc
 from_listed (ListedAt version reached) from is = inl (let e : version ≡ from = cc in sym e)
 
-pub listed_from : (x : Lists) (mine : List Entry) (kind : Kind) (from : ℕ) → AreListsOf x mine → version_in x kind ≡ Some from → IsFrom from (following_of mine kind)
+pub listed_from : (x : LastLists) (mine : List Entry) (kind : Kind) (from : ℕ) → AreListsOf x mine → version_in x kind ≡ Some from → IsFrom from (following_of mine kind)
 listed_from x mine kind from are is = from_listed (following_of mine kind) from (sym (are kind) ∙ is)

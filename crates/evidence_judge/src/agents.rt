@@ -16,7 +16,7 @@ use evidence_agent::by_place::topics::{About, Matter};
 use evidence_agent::finish::may_finish;
 use evidence_agent::index::AgentIndex;
 use evidence_agent::reads::may_get;
-use evidence_pages::index::Index;
+use evidence_pages::index::PageIndex;
 use kube_types::copies::OutOfMemory;
 use kube_types::key::Key;
 use kube_types::objects::{DataId, Volume};
@@ -86,7 +86,7 @@ pub(crate) fn shows_current(agents: &Agents, entries: &[Entry], node: &Text, epo
 /// Whether the places and the index show that the pod may be mounted with these claims.
 pub(crate) fn shows_mount(
     agents: &Agents,
-    index: &Index,
+    index: &PageIndex,
     entries: &[Entry],
     node: &Text,
     epoch: u64,
@@ -150,7 +150,7 @@ pub(crate) fn shows_finish(
 }
 
 /// Whether the places and the index show that an agent may read the claim or volume of the key.
-pub(crate) fn shows_read(agents: &Agents, index: &Index, entries: &[Entry], key: &Key) -> bool
+pub(crate) fn shows_read(agents: &Agents, index: &PageIndex, entries: &[Entry], key: &Key) -> bool
     requires agents { AreAgentsOf agents.now (reverse entries.now) }
     requires index { IsIndexOf index.now (reverse entries.now) }
     ensures { IsTrue result → AsksForMount (reverse entries.now) key.now }

@@ -9,14 +9,14 @@ ghost use Rattle.evidence_judge.specs.Steps.Kept.{AreAgentsOf};
 use crate::agents::{
     Agents, shows_current, shows_finish, shows_mount, shows_over, shows_read, shows_unmount,
 };
-use crate::lists::Lists;
+use crate::lists::LastLists;
 use crate::lookups::{
     is_kind_of, newest_in, shows_absent, shows_default, shows_from, shows_lacking, shows_unlisted,
 };
 use crate::references::{References, about};
 use call_types::entry::Entry;
 use call_types::request::{Request, SeatKind};
-use evidence_pages::index::Index;
+use evidence_pages::index::PageIndex;
 use evidence_pages::sought::Sought;
 use kube_types::copies::{OutOfMemory, Plain};
 use kube_types::items::Items;
@@ -35,9 +35,9 @@ use std::marker::Model;
 pub struct Evidence {
     alloc: Global,
     entries: Items<Entry>,
-    index: Index,
+    index: PageIndex,
     agents: Agents,
-    lists: Lists,
+    lists: LastLists,
     references: References,
 }
 
@@ -88,7 +88,7 @@ fn next_place(entries: &[Entry]) -> usize
 /// Takes the entry into the index of what the newest told objects refer to, and into that of the entries.
 fn learn(
     alloc: Global,
-    index: &mut Index,
+    index: &mut PageIndex,
     references: &mut References,
     entry: &Entry,
     first: bool,
@@ -105,7 +105,7 @@ fn learn(
 fn take(
     alloc: Global,
     entries: &mut Items<Entry>,
-    index: &mut Index,
+    index: &mut PageIndex,
     agents: &mut Agents,
     references: &mut References,
     entry: &Entry,
@@ -133,9 +133,9 @@ impl Evidence {
         Evidence {
             alloc,
             entries: Items::new(alloc),
-            index: Index::new(alloc),
+            index: PageIndex::new(alloc),
             agents: Agents::new(alloc),
-            lists: Lists::new(),
+            lists: LastLists::new(),
             references: References::new(alloc),
         }
     }
@@ -161,7 +161,7 @@ impl Evidence {
                 Ok(())
             }
             Err(OutOfMemory) => {
-                self.index = Index::lost(alloc);
+                self.index = PageIndex::lost(alloc);
                 self.agents = Agents::lost(alloc);
                 self.references = References::new(alloc);
                 Err(OutOfMemory)

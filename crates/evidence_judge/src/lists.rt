@@ -15,7 +15,7 @@ use kube_types::parts::Kind;
 
 /// Of each kind the version of the list that was told last, where no watch was told Gone since.
 #[derive(Clone, Copy)]
-pub struct Lists {
+pub struct LastLists {
     pub classes: Option<Version>,
     pub nodes: Option<Version>,
     pub volumes: Option<Version>,
@@ -76,12 +76,12 @@ fn version_after(kind: Kind, entry: &Entry, before: Option<Version>) -> Option<V
     }
 }
 
-impl Lists {
+impl LastLists {
     /// No kind was listed.
-    pub(crate) fn new() -> Lists
+    pub(crate) fn new() -> LastLists
         ensures { AreListsOf result [] }
     {
-        Lists {
+        LastLists {
             classes: None,
             nodes: None,
             volumes: None,
@@ -91,10 +91,10 @@ impl Lists {
     }
 
     /// The versions after one more entry.
-    pub(crate) fn after(&self, entry: &Entry) -> Lists
+    pub(crate) fn after(&self, entry: &Entry) -> LastLists
         ensures { (mine : List Entry) → AreListsOf self.now mine → AreListsOf result (entry.now ∷ mine) }
     {
-        Lists {
+        LastLists {
             classes: version_after(Kind::StorageClass, entry, self.classes),
             nodes: version_after(Kind::Node, entry, self.nodes),
             volumes: version_after(Kind::PersistentVolume, entry, self.volumes),

@@ -9,18 +9,18 @@ ghost use Rattle.binder_model.specs.ObjectKeys.{node_key};
 ghost use Rattle.binder_model.specs.Reading.{IsFrom, IsUnlisted, LacksUid, following_of};
 ghost use Rattle.binder_model.specs.Told.{IsNewest, IsNewestAbsent, newest, object_of};
 ghost use Rattle.informer_cache.specs.All.{AllStandFor, all_objects};
-ghost use Rattle.informer_cache.specs.declared.cache.Ask.TheVariants as asks;
+ghost use Rattle.informer_cache.specs.declared.cache.NextRead.TheVariants as asks;
 ghost use Rattle.licence_scans.specs.Keyed.{key_at};
 ghost use Rattle.licence_record.specs.Defaulted.{IsDefaultNamed};
 ghost use Rattle.evidence_pages.specs.Indexed.{IsIndexOf};
 ghost use Rattle.evidence_judge.specs.Steps.Lists.{AreListsOf};
 
-use crate::lists::Lists;
+use crate::lists::LastLists;
 use call_types::request::SeatKind;
-use evidence_pages::index::Index;
+use evidence_pages::index::PageIndex;
 use evidence_pages::newest::newest_of;
-use evidence_pages::parts::Parts;
-use informer_cache::cache::Ask;
+use evidence_pages::parts::KeyParts;
+use informer_cache::cache::NextRead;
 use informer_cache::caches::Caches;
 use kube_types::copies::Plain;
 use kube_types::defaults::default_class;
@@ -32,7 +32,7 @@ use kube_types::uid::Uid;
 use licence_rows::asking::lacks_uid;
 
 /// Whether all entries had this kind.
-pub(crate) fn is_kind_of(index: &Index, kind: SeatKind) -> bool
+pub(crate) fn is_kind_of(index: &PageIndex, kind: SeatKind) -> bool
     ensures { (mine : List Entry) → IsIndexOf index.now mine → IsTrue result → AreOfKind kind mine }
 {
     match index.kind {
@@ -43,7 +43,7 @@ pub(crate) fn is_kind_of(index: &Index, kind: SeatKind) -> bool
 
 /// The newest told object of the key, where the caches know.
 pub(crate) fn newest_in<'a>(
-    index: &'a Index,
+    index: &'a PageIndex,
     kind: Kind,
     namespace: &str,
     name: &str,
@@ -53,7 +53,7 @@ pub(crate) fn newest_in<'a>(
     if !index.known {
         return None;
     }
-    let key = Parts {
+    let key = KeyParts {
         kind,
         namespace,
         name,
@@ -68,7 +68,7 @@ pub(crate) fn newest_in<'a>(
 fn is_absent(caches: &Caches, name: &str) -> bool
     ensures { (mine : List Entry) → AllStandFor caches.now mine → IsTrue result → IsNewestAbsent mine (node_key name.now) }
 {
-    let key = Parts {
+    let key = KeyParts {
         kind: Kind::Node,
         namespace: "",
         name,
@@ -83,17 +83,17 @@ fn is_absent(caches: &Caches, name: &str) -> bool
 }
 
 /// From which version a kind is watched that was listed.
-fn watched_from(ask: Ask) -> Option<Version>
+fn watched_from(ask: NextRead) -> Option<Version>
     ensures { IfSome result (λ from. ask ≡ asks.Watch from) }
 {
     match ask {
-        Ask::Watch { from } => Some(from),
-        Ask::List => None,
+        NextRead::Watch { from } => Some(from),
+        NextRead::List => None,
     }
 }
 
 /// Whether the newest told of the node is that there is none.
-pub(crate) fn shows_absent(index: &Index, name: &str) -> bool
+pub(crate) fn shows_absent(index: &PageIndex, name: &str) -> bool
     ensures { (mine : List Entry) → IsIndexOf index.now mine → IsTrue result → IsNewestAbsent mine (node_key name.now) }
 {
     if !index.known {
@@ -103,7 +103,7 @@ pub(crate) fn shows_absent(index: &Index, name: &str) -> bool
 }
 
 /// Whether the newest told of the key is no claim with this UID.
-pub(crate) fn shows_lacking(index: &Index, key: &Key, uid: Uid) -> bool
+pub(crate) fn shows_lacking(index: &PageIndex, key: &Key, uid: Uid) -> bool
     ensures { (mine : List Entry) → IsIndexOf index.now mine → IsTrue result → LacksUid (object_of (newest mine key.now)) uid }
 {
     if !index.known {
@@ -161,7 +161,7 @@ fn has_default(caches: &Caches, name: &str) -> bool
 }
 
 /// Whether the class of this name is the default one of those that were told newest.
-pub(crate) fn shows_default(index: &Index, name: &str) -> bool
+pub(crate) fn shows_default(index: &PageIndex, name: &str) -> bool
     ensures { (mine : List Entry) → IsIndexOf index.now mine → IsTrue result → IsDefaultNamed mine name.now }
 {
     if !index.known {
@@ -172,24 +172,24 @@ pub(crate) fn shows_default(index: &Index, name: &str) -> bool
 
 // lists and watches
 
-fn is_ask(ask: Ask, other: Ask) -> bool
+fn is_ask(ask: NextRead, other: NextRead) -> bool
     ensures { IsTrue result ↔ (ask ≡ other) }
 {
     ask == other
 }
 
 /// Whether the kind is to be listed.
-pub(crate) fn shows_unlisted(index: &Index, kind: Kind) -> bool
+pub(crate) fn shows_unlisted(index: &PageIndex, kind: Kind) -> bool
     ensures { (mine : List Entry) → IsIndexOf index.now mine → IsTrue result → IsUnlisted (following_of mine kind) }
 {
     if !index.known {
         return false;
     }
-    is_ask(index.caches.ask(kind), Ask::List)
+    is_ask(index.caches.ask(kind), NextRead::List)
 }
 
 /// Whether a watch of the kind may begin at this version: the one of its list, or the one reached since.
-pub(crate) fn shows_from(index: &Index, lists: &Lists, kind: Kind, from: Version) -> bool
+pub(crate) fn shows_from(index: &PageIndex, lists: &LastLists, kind: Kind, from: Version) -> bool
     ensures { (mine : List Entry) → IsIndexOf index.now mine → AreListsOf lists.now mine → IsTrue result → IsFrom from (following_of mine kind) }
 {
     if lists.has(kind, from) {
@@ -198,5 +198,5 @@ pub(crate) fn shows_from(index: &Index, lists: &Lists, kind: Kind, from: Version
     if !index.known {
         return false;
     }
-    is_ask(index.caches.ask(kind), Ask::Watch { from })
+    is_ask(index.caches.ask(kind), NextRead::Watch { from })
 }

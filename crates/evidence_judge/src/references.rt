@@ -8,9 +8,9 @@ ghost use Rattle.evidence_pages.specs.Indexed.{IsIndexOf};
 use call_types::entry::Entry;
 use call_types::reply::{Event, Reply};
 use call_types::request::{Request, SeatKind};
-use evidence_pages::index::Index;
+use evidence_pages::index::PageIndex;
 use evidence_pages::newest::newest_of;
-use evidence_pages::parts::Parts;
+use evidence_pages::parts::KeyParts;
 use evidence_pages::sought::Sought;
 use informer_cache::caches::Caches;
 use kube_types::bindings::is_completed;
@@ -59,13 +59,13 @@ impl Drop for Referred {
     }
 }
 
-impl<'a> Ranked<Parts<'a>> for Referred {
+impl<'a> Ranked<KeyParts<'a>> for Referred {
     ghost use Rattle.kube_objects.specs.Keys.{key_cmp};
     ghost use Rattle.evidence_pages.specs.Keyed.{key_by};
 
     ghost rank = { λ r k. key_cmp r.key (key_by k) };
 
-    fn rank(&self, key: &Parts<'a>) -> Ordering {
+    fn rank(&self, key: &KeyParts<'a>) -> Ordering {
         kind_index(self.key.kind)
             .cmp(&kind_index(key.kind))
             .then(self.key.namespace.as_str().cmp(key.namespace))
@@ -83,13 +83,13 @@ fn number_of(uid: Option<Uid>) -> u128 {
 }
 
 /// The claim with a UID to which a volume refers.
-fn referred_claim(volume: &Volume) -> Option<(Parts<'_>, Reference)> {
+fn referred_claim(volume: &Volume) -> Option<(KeyParts<'_>, Reference)> {
     match &volume.claim_ref {
         None => None,
         Some(reference) => match reference.uid {
             None => None,
             Some(to) => Some((
-                Parts {
+                KeyParts {
                     kind: Kind::PersistentVolumeClaim,
                     namespace: reference.namespace.as_str(),
                     name: reference.name.as_str(),
@@ -104,12 +104,12 @@ fn referred_claim(volume: &Volume) -> Option<(Parts<'_>, Reference)> {
 }
 
 /// The volume that a completed claim names.
-fn named_volume(claim: &Claim) -> Option<(Parts<'_>, Reference)> {
+fn named_volume(claim: &Claim) -> Option<(KeyParts<'_>, Reference)> {
     if !is_completed(claim) {
         return None;
     }
     Some((
-        Parts {
+        KeyParts {
             kind: Kind::PersistentVolume,
             namespace: "",
             name: claim.volume_name.as_str(),
@@ -121,7 +121,7 @@ fn named_volume(claim: &Claim) -> Option<(Parts<'_>, Reference)> {
     ))
 }
 
-fn reference_of(object: &Object) -> Option<(Parts<'_>, Reference)> {
+fn reference_of(object: &Object) -> Option<(KeyParts<'_>, Reference)> {
     match object {
         Object::Volume(volume) => referred_claim(volume),
         Object::Claim(claim) => named_volume(claim),
@@ -134,7 +134,7 @@ fn newest_like<'a>(caches: &'a Caches, object: &Object) -> Option<&'a Object> {
     let meta = meta_of(object);
     newest_of(
         caches,
-        &Parts {
+        &KeyParts {
             kind: kind_of(object),
             namespace: meta.namespace.as_str(),
             name: meta.name.as_str(),
@@ -239,7 +239,7 @@ impl References {
     fn put(
         &mut self,
         alloc: Global,
-        key: &Parts<'_>,
+        key: &KeyParts<'_>,
         reference: Reference,
         referrer: Referrer,
     ) -> Result<(), OutOfMemory> {
@@ -340,7 +340,7 @@ impl References {
 
     /// An object that refers to the key, and not to this UID where there is such a one. References stand in the order of
     /// UIDs, so it is the first or the last.
-    fn referrer(&self, key: &Parts<'_>, uid: u128) -> Option<&Referrer> {
+    fn referrer(&self, key: &KeyParts<'_>, uid: u128) -> Option<&Referrer> {
         match place_of(&self.rows, key) {
             Err(_) => None,
             Ok(at) => {
@@ -363,7 +363,7 @@ impl References {
 }
 
 /// The UID of the newest told object of the key.
-fn uid_at(caches: &Caches, key: &Parts<'_>) -> u128 {
+fn uid_at(caches: &Caches, key: &KeyParts<'_>) -> u128 {
     match newest_of(caches, key) {
         None => 0,
         Some(object) => number_of(meta_of(object).uid),
@@ -372,7 +372,7 @@ fn uid_at(caches: &Caches, key: &Parts<'_>) -> u128 {
 
 /// What is sought on the page of the key.
 fn on_page<'a>(
-    index: &'a Index,
+    index: &'a PageIndex,
     kind: Kind,
     namespace: &str,
     name: &str,
@@ -384,7 +384,7 @@ fn on_page<'a>(
 }
 
 /// What tells the object in its version.
-fn telling<'a>(index: &'a Index, referrer: &Referrer) -> &'a [Entry]
+fn telling<'a>(index: &'a PageIndex, referrer: &Referrer) -> &'a [Entry]
     ensures { (mine : List Entry) → IsIndexOf index.now mine → IsPart (reverse result.now) mine }
 {
     let key = &referrer.key;
@@ -400,7 +400,7 @@ fn telling<'a>(index: &'a Index, referrer: &Referrer) -> &'a [Entry]
 
 /// What tells an object that refers to the key and was told newest of its own: one that refers to another UID than what
 /// stands under the key has, where there is one.
-fn referring<'a>(index: &'a Index, references: &References, key: &Parts<'_>) -> &'a [Entry]
+fn referring<'a>(index: &'a PageIndex, references: &References, key: &KeyParts<'_>) -> &'a [Entry]
     ensures { (mine : List Entry) → IsIndexOf index.now mine → IsPart (reverse result.now) mine }
 {
     match references.referrer(key, uid_at(&index.caches, key)) {
@@ -411,7 +411,7 @@ fn referring<'a>(index: &'a Index, references: &References, key: &Parts<'_>) -> 
 
 /// What is sought among the entries that speak of the key. What refers to it is found by the references.
 pub(crate) fn about<'a>(
-    index: &'a Index,
+    index: &'a PageIndex,
     references: &References,
     kind: Kind,
     namespace: &str,
@@ -420,7 +420,7 @@ pub(crate) fn about<'a>(
 ) -> &'a [Entry]
     ensures { (mine : List Entry) → IsIndexOf index.now mine → IsPart (reverse result.now) mine }
 {
-    let key = Parts {
+    let key = KeyParts {
         kind,
         namespace,
         name,

@@ -21,16 +21,16 @@ use Rattle.binder_model.specs.Reading.{AsksForClaim, AsksForEnded, AsksForVolume
 use Rattle.binder_model.specs.Told.{IsClaimWith}
 use Rattle.informer_cache.specs.All.{AllKnown, AllStandFor, all_objects, cache_of}
 use Rattle.informer_cache.specs.Cache.{ask_from, ask_of, watch_from}
-use Rattle.informer_cache.specs.declared.cache.Ask.{Ask}
-use Rattle.informer_cache.specs.declared.cache.Ask.TheVariants as asks
+use Rattle.informer_cache.specs.declared.cache.NextRead.{NextRead}
+use Rattle.informer_cache.specs.declared.cache.NextRead.TheVariants as asks
 use Rattle.evidence_pages.specs.Parts.{IsPart}
 use Rattle.evidence_pages.proofs.Growing.{told_grows}
 
-is_list : Ask → Bool
+is_list : NextRead → Bool
 is_list asks.List = true
 is_list (asks.Watch from) = false
 
-from_of : Ask → ℕ
+from_of : NextRead → ℕ
 from_of asks.List = 0
 from_of (asks.Watch from) = from
 
@@ -44,15 +44,15 @@ from_is : (f : Following) (from : ℕ) → ask_from (watch_from f) ≡ asks.Watc
 unfolding is_list from_of
 from_is Unlisted from h = absurd (true≢false (ap is_list h))
 from_is (ListedAt version None) from h = inl (sym (ap from_of h))
-from_is (ListedAt version (Some upto)) from h = inr (ap (λ (a : Ask). Some (from_of a)) h)
+from_is (ListedAt version (Some upto)) from h = inr (ap (λ (a : NextRead). Some (from_of a)) h)
 
 asks_all : (c : AllKnown) (mine : List Entry) (kind : Kind) → AllStandFor c mine → ask_of (cache_of kind c) ≡ ask_from (watch_from (following_of mine kind))
 asks_all c mine kind all = ap ask_from ((all.each kind).from ∙ ap (λ k. watch_from (following_of mine k)) (all.kinds kind))
 
-pub unlisted_by : (c : AllKnown) (mine : List Entry) (kind : Kind) (ask : Ask) → ask ≡ ask_of (cache_of kind c) → ask ≡ asks.List → AllStandFor c mine → IsUnlisted (following_of mine kind)
+pub unlisted_by : (c : AllKnown) (mine : List Entry) (kind : Kind) (ask : NextRead) → ask ≡ ask_of (cache_of kind c) → ask ≡ asks.List → AllStandFor c mine → IsUnlisted (following_of mine kind)
 unlisted_by c mine kind ask is list all = unlisted (following_of mine kind) (sym (asks_all c mine kind all) ∙ sym is ∙ list)
 
-pub from_by : (c : AllKnown) (mine : List Entry) (kind : Kind) (ask : Ask) (from : ℕ) → ask ≡ ask_of (cache_of kind c) → ask ≡ asks.Watch from
+pub from_by : (c : AllKnown) (mine : List Entry) (kind : Kind) (ask : NextRead) (from : ℕ) → ask ≡ ask_of (cache_of kind c) → ask ≡ asks.Watch from
     → AllStandFor c mine → IsFrom from (following_of mine kind)
 from_by c mine kind ask from is watch all = from_is (following_of mine kind) from (sym (asks_all c mine kind all) ∙ sym is ∙ watch)
 

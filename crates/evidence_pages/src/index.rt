@@ -18,16 +18,16 @@ use std::alloc::Global;
 
 /// What is looked up in place of the entries. Where the caches do not know, or there is no kind, the
 /// entries themselves are read.
-pub struct Index {
+pub struct PageIndex {
     pub pages: Pages,
     pub caches: Caches,
     pub known: bool,
     pub kind: Option<SeatKind>,
 }
 
-impl Drop for Index {
+impl Drop for PageIndex {
     fn drop(self) {
-        let Index {
+        let PageIndex {
             pages,
             caches,
             known: _,
@@ -62,12 +62,12 @@ fn absorb(caches: &mut Caches, entry: &Entry) -> Result<(), OutOfMemory>
     Ok(())
 }
 
-impl Index {
+impl PageIndex {
     /// The index of no entries.
-    pub fn new(alloc: Global) -> Index
+    pub fn new(alloc: Global) -> PageIndex
         ensures { IsIndexOf result [] }
     {
-        Index {
+        PageIndex {
             pages: Pages::new(alloc),
             caches: Caches::new(alloc),
             known: true,
@@ -76,10 +76,10 @@ impl Index {
     }
 
     /// An index that knows nothing, whatever the entries are.
-    pub fn lost(alloc: Global) -> Index
+    pub fn lost(alloc: Global) -> PageIndex
         ensures { (mine : List Entry) → IsIndexOf result mine }
     {
-        Index {
+        PageIndex {
             pages: Pages::new(alloc),
             caches: Caches::new(alloc),
             known: false,

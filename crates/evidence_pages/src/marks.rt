@@ -459,7 +459,10 @@ impl EntryMarks {
                 self.since_version(Kind::PersistentVolume, given, MarkMatter::Failed)
             }
             Sought::Erased(volume) => {
-                self.between(mark_of(MarkMatter::Ended, volume), mark_alone(MarkMatter::Erased))
+                self.between(
+                    mark_of(MarkMatter::Ended, volume),
+                    mark_alone(MarkMatter::Erased),
+                )
             }
             Sought::Exhausted(given) => {
                 self.since_version(Kind::PersistentVolumeClaim, given, MarkMatter::Exhausted)

@@ -7,7 +7,7 @@ ghost use Rattle.kube_objects.specs.Keys.{AreRows, IsRowAt, IsRowGap, row_at};
 ghost use Rattle.informer_cache.specs.All.{all_objects};
 ghost use Rattle.evidence_pages.specs.Keyed.{key_by};
 
-use crate::parts::Parts;
+use crate::parts::KeyParts;
 use informer_cache::caches::Caches;
 use kube_types::copies::Plain;
 use kube_types::key::{kind_index, kind_of, meta_of};
@@ -15,13 +15,13 @@ use kube_types::objects::Object;
 use kube_types::rows::{Ranked, place_of};
 use std::cmp::Ordering;
 
-impl<'a> Ranked<Parts<'a>> for Object {
+impl<'a> Ranked<KeyParts<'a>> for Object {
     ghost use Rattle.kube_objects.specs.Keys.{key_cmp, key_of};
     ghost use Rattle.evidence_pages.specs.Keyed.{key_by};
 
     ghost rank = { λ o k. key_cmp (key_of o) (key_by k) };
 
-    fn rank(&self, key: &Parts<'a>) -> Ordering {
+    fn rank(&self, key: &KeyParts<'a>) -> Ordering {
         let meta = meta_of(self);
         kind_index(kind_of(self))
             .cmp(&kind_index(key.kind))
@@ -31,7 +31,7 @@ impl<'a> Ranked<Parts<'a>> for Object {
 }
 
 /// Where the row of the key is, or where it would stand.
-fn row_place(rows: &[Object], key: &Parts<'_>) -> Result<usize, usize>
+fn row_place(rows: &[Object], key: &KeyParts<'_>) -> Result<usize, usize>
     requires { AreRows rows.now }
     ensures bound { IsSearchInRange result (length rows.now) }
     ensures at { IfOk result (IsRowAt rows.now (key_by key.now)) }
@@ -41,7 +41,7 @@ fn row_place(rows: &[Object], key: &Parts<'_>) -> Result<usize, usize>
 }
 
 /// The object of the key among rows in order.
-fn row_of<'a>(rows: &'a [Object], key: &Parts<'_>) -> Option<&'a Object>
+fn row_of<'a>(rows: &'a [Object], key: &KeyParts<'_>) -> Option<&'a Object>
     requires { AreRows rows.now }
     ensures { option_copied result ≡ row_at (key_by key.now) rows.now }
 {
@@ -52,7 +52,7 @@ fn row_of<'a>(rows: &'a [Object], key: &Parts<'_>) -> Option<&'a Object>
 }
 
 /// The newest told object of the key, unless its absence is newer.
-pub fn newest_of<'a>(caches: &'a Caches, key: &Parts<'_>) -> Option<&'a Object>
+pub fn newest_of<'a>(caches: &'a Caches, key: &KeyParts<'_>) -> Option<&'a Object>
     ensures { option_copied result ≡ row_at (key_by key.now) (all_objects caches.now) }
 {
     caches.stand_together();
@@ -60,7 +60,7 @@ pub fn newest_of<'a>(caches: &'a Caches, key: &Parts<'_>) -> Option<&'a Object>
 }
 
 /// Whether the object is the newest told of the key.
-pub fn is_newest(caches: &Caches, key: &Parts<'_>, object: &Object) -> bool
+pub fn is_newest(caches: &Caches, key: &KeyParts<'_>, object: &Object) -> bool
     ensures { IsTrue result ↔ (row_at (key_by key.now) (all_objects caches.now) ≡ Some object.now) }
 {
     match newest_of(caches, key) {

@@ -6,7 +6,7 @@ ghost use Rattle.call_types.specs.declared.entry.Entry.{Entry};
 ghost use Rattle.evidence_pages.specs.Parts.{ArePages, IsPart, MayStandBehind};
 
 use crate::marks::EntryMarks;
-use crate::parts::{Parts, erased_of, failed_of, uid_in, wanted_by};
+use crate::parts::{KeyParts, erased_of, failed_of, uid_in, wanted_by};
 use crate::sought::Sought;
 use call_types::entry::Entry;
 use call_types::reply::Reply;
@@ -43,13 +43,13 @@ impl Drop for Page {
     }
 }
 
-impl<'a> Ranked<Parts<'a>> for Page {
+impl<'a> Ranked<KeyParts<'a>> for Page {
     ghost use Rattle.kube_objects.specs.Keys.{key_cmp};
     ghost use Rattle.evidence_pages.specs.Keyed.{key_by};
 
     ghost rank = { λ p k. key_cmp p.key (key_by k) };
 
-    fn rank(&self, key: &Parts<'a>) -> Ordering {
+    fn rank(&self, key: &KeyParts<'a>) -> Ordering {
         kind_index(self.key.kind)
             .cmp(&kind_index(key.kind))
             .then(self.key.namespace.as_str().cmp(key.namespace))
@@ -81,14 +81,14 @@ impl Model for Pages {
 }
 
 /// Where the page of the key is, or where it would stand.
-fn page_place(pages: &[Page], key: &Parts<'_>) -> Result<usize, usize>
+fn page_place(pages: &[Page], key: &KeyParts<'_>) -> Result<usize, usize>
     ensures { IsSearchInRange result (length pages.now) }
 {
     place_of(pages, key)
 }
 
 /// A page with one entry.
-fn new_page(alloc: Global, key: &Parts<'_>, entry: Entry) -> Result<Page, OutOfMemory>
+fn new_page(alloc: Global, key: &KeyParts<'_>, entry: Entry) -> Result<Page, OutOfMemory>
     ensures { IfOk result (λ page. page.entries ≡ entry ∷ []) }
 {
     let mut entries = Items::new(alloc);
@@ -172,7 +172,7 @@ fn has_entry(page: &Page, entry: &Entry) -> bool {
 fn add_to(
     alloc: Global,
     pages: &mut Vec<Page>,
-    key: &Parts<'_>,
+    key: &KeyParts<'_>,
     entry: Entry,
 ) -> Result<(), OutOfMemory>
     ensures { OnOk result ((mine after : List Entry) → MayStandBehind entry mine after → ArePages pages.old.items mine → ArePages pages.new.items after) }
@@ -239,7 +239,7 @@ fn sought_on<'a>(page: &'a Page, sought: Sought) -> &'a [Entry]
 }
 
 /// What is sought on the page of the key.
-fn entries_at<'a>(pages: &'a [Page], key: &Parts<'_>, sought: Sought) -> &'a [Entry]
+fn entries_at<'a>(pages: &'a [Page], key: &KeyParts<'_>, sought: Sought) -> &'a [Entry]
     ensures { (mine : List Entry) → ArePages pages.now mine → IsPart (reverse result.now) mine }
 {
     match page_place(pages, key) {
@@ -249,7 +249,7 @@ fn entries_at<'a>(pages: &'a [Page], key: &Parts<'_>, sought: Sought) -> &'a [En
 }
 
 /// What is sought on the page of the key, where there is one.
-fn entries_of_some<'a>(pages: &'a [Page], key: Option<Parts<'_>>, sought: Sought) -> &'a [Entry]
+fn entries_of_some<'a>(pages: &'a [Page], key: Option<KeyParts<'_>>, sought: Sought) -> &'a [Entry]
     ensures { (mine : List Entry) → ArePages pages.now mine → IsPart (reverse result.now) mine }
 {
     match key {
@@ -308,7 +308,7 @@ impl Pages {
     }
 
     /// The page of the calls by which the data of the volume were erased.
-    fn erased_key(&self, volume: Uid) -> Option<Parts<'_>> {
+    fn erased_key(&self, volume: Uid) -> Option<KeyParts<'_>> {
         match self.sources.get(&volume.0) {
             None => None,
             Some(id) => Some(erased_of(id)),
@@ -316,7 +316,7 @@ impl Pages {
     }
 
     /// The page of the calls that failed to erase the data of the volume that was told under the key in the version.
-    fn failed_key(&self, key: &Parts<'_>, given: Option<Version>) -> Option<Parts<'_>> {
+    fn failed_key(&self, key: &KeyParts<'_>, given: Option<Version>) -> Option<KeyParts<'_>> {
         match uid_among(entries_at(&self.list, key, Sought::Version(given)), given) {
             None => None,
             Some(uid) => match self.sources.get(&uid.0) {
@@ -327,7 +327,12 @@ impl Pages {
     }
 
     /// Puts the entry last on the page of the key.
-    pub fn add(&mut self, alloc: Global, key: &Parts<'_>, entry: Entry) -> Result<(), OutOfMemory>
+    pub fn add(
+        &mut self,
+        alloc: Global,
+        key: &KeyParts<'_>,
+        entry: Entry,
+    ) -> Result<(), OutOfMemory>
         ensures { OnOk result ((mine after : List Entry) → MayStandBehind entry mine after → ArePages self.old mine → ArePages self.new after) }
     {
         add_to(alloc, &mut self.list, key, entry)
@@ -337,7 +342,7 @@ impl Pages {
     pub fn about(&self, kind: Kind, namespace: &str, name: &str, sought: Sought) -> &[Entry]
         ensures { (mine : List Entry) → ArePages self.now mine → IsPart (reverse result.now) mine }
     {
-        let key = Parts {
+        let key = KeyParts {
             kind,
             namespace,
             name,

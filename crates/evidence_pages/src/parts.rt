@@ -9,7 +9,7 @@ use kube_types::parts::Kind;
 
 /// The kind, namespace and name of an object.
 #[derive(Drop)]
-pub struct Parts<'a> {
+pub struct KeyParts<'a> {
     pub kind: Kind,
     pub namespace: &'a str,
     pub name: &'a str,
@@ -23,10 +23,10 @@ pub fn uid_in<'a>(name: &'a str) -> Option<&'a str>
 }
 
 /// The page of what is provisioned for the claim with the UID of this text. No claim has such a key.
-pub fn wanted_by<'a>(uid: &'a str) -> Parts<'a>
+pub fn wanted_by<'a>(uid: &'a str) -> KeyParts<'a>
     ensures { key_by result ≡ claim_key [] uid.now }
 {
-    Parts {
+    KeyParts {
         kind: Kind::PersistentVolumeClaim,
         namespace: "",
         name: uid,
@@ -35,8 +35,8 @@ pub fn wanted_by<'a>(uid: &'a str) -> Parts<'a>
 
 /// The page of the volumes that have ended over the data, and of the calls by which these were erased. No volume has such a
 /// key, since none is in a namespace.
-pub(crate) fn erased_of<'a>(id: &'a DataId) -> Parts<'a> {
-    Parts {
+pub(crate) fn erased_of<'a>(id: &'a DataId) -> KeyParts<'a> {
+    KeyParts {
         kind: Kind::PersistentVolume,
         namespace: id.driver.as_str(),
         name: id.id.as_str(),
@@ -44,8 +44,8 @@ pub(crate) fn erased_of<'a>(id: &'a DataId) -> Parts<'a> {
 }
 
 /// The same of the calls that failed to erase them. No node has such a key.
-pub(crate) fn failed_of<'a>(id: &'a DataId) -> Parts<'a> {
-    Parts {
+pub(crate) fn failed_of<'a>(id: &'a DataId) -> KeyParts<'a> {
+    KeyParts {
         kind: Kind::Node,
         namespace: id.driver.as_str(),
         name: id.id.as_str(),

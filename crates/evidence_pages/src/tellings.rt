@@ -9,7 +9,7 @@ ghost use Rattle.evidence_pages.specs.Parts.{ArePages};
 
 use crate::marks::is_ended_for_good;
 use crate::pages::Pages;
-use crate::parts::{Parts, erased_of, failed_of, uid_in, wanted_by};
+use crate::parts::{KeyParts, erased_of, failed_of, uid_in, wanted_by};
 use call_types::entry::Entry;
 use call_types::reply::{Change, Event, Refusal, Reply};
 use call_types::request::{Request, SeatKind};
@@ -42,7 +42,7 @@ fn alone(alloc: Global, entry: &Entry, object: &Object) -> Result<Entry, OutOfMe
 fn tell_at(
     alloc: Global,
     pages: &mut Pages,
-    key: &Parts<'_>,
+    key: &KeyParts<'_>,
     entry: &Entry,
     object: &Object,
 ) -> Result<(), OutOfMemory>
@@ -104,7 +104,7 @@ fn tell_referring(
     match &volume.claim_ref {
         None => Ok(()),
         Some(reference) => {
-            let key = Parts {
+            let key = KeyParts {
                 kind: Kind::PersistentVolumeClaim,
                 namespace: reference.namespace.as_str(),
                 name: reference.name.as_str(),
@@ -141,7 +141,7 @@ fn tell_named(
     if claim.volume_name.as_str().is_empty() {
         return Ok(());
     }
-    let key = Parts {
+    let key = KeyParts {
         kind: Kind::PersistentVolume,
         namespace: "",
         name: claim.volume_name.as_str(),
@@ -162,7 +162,7 @@ fn tell_deleting(
     if !is_deleting(&claim.meta) {
         return Ok(());
     }
-    let key = Parts {
+    let key = KeyParts {
         kind: Kind::Pod,
         namespace: claim.meta.namespace.as_str(),
         name: "",
@@ -187,7 +187,7 @@ fn tell_claims(
         return Ok(());
     }
     for name in pod.claims.as_slice() {
-        let key = Parts {
+        let key = KeyParts {
             kind: Kind::PersistentVolumeClaim,
             namespace: pod.meta.namespace.as_str(),
             name: name.as_str(),
@@ -261,7 +261,7 @@ fn tell_object(
     ensures { OnOk result ((mine : List Entry) → ToldObject (λ x. x ≡ object.now) mine → ArePages pages.old mine → ArePages pages.new mine) }
 {
     let meta = meta_of(object);
-    let key = Parts {
+    let key = KeyParts {
         kind: kind_of(object),
         namespace: meta.namespace.as_str(),
         name: meta.name.as_str(),
@@ -330,7 +330,7 @@ fn tell_reply(alloc: Global, pages: &mut Pages, entry: &Entry) -> Result<(), Out
 fn keep_at(
     alloc: Global,
     pages: &mut Pages,
-    key: &Parts<'_>,
+    key: &KeyParts<'_>,
     entry: &Entry,
 ) -> Result<(), OutOfMemory>
     ensures { OnOk result ((mine : List Entry) → ArePages pages.old mine → ArePages pages.new (entry.now ∷ mine)) }
@@ -355,7 +355,7 @@ fn keep_provision(
 }
 
 /// The page of the calls that were answered as this one, which was to erase the data.
-fn page_of_erase<'a>(id: &'a DataId, reply: &Reply) -> Option<Parts<'a>> {
+fn page_of_erase<'a>(id: &'a DataId, reply: &Reply) -> Option<KeyParts<'a>> {
     match reply {
         Reply::Erased { removed: _ } => Some(erased_of(id)),
         Reply::Refused(Refusal::BackFault { planned: _ }) => Some(failed_of(id)),
@@ -390,7 +390,7 @@ fn keep_list(
 {
     match (kind, namespace) {
         (Kind::Pod, Some(namespace)) => {
-            let key = Parts {
+            let key = KeyParts {
                 kind: Kind::Pod,
                 namespace: namespace.as_str(),
                 name: "",
@@ -408,7 +408,7 @@ fn keep_asked(alloc: Global, pages: &mut Pages, entry: &Entry) -> Result<(), Out
 {
     match &entry.request {
         Request::Get { key } => {
-            let key = Parts {
+            let key = KeyParts {
                 kind: key.kind,
                 namespace: key.namespace.as_str(),
                 name: key.name.as_str(),

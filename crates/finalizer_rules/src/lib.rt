@@ -94,5 +94,9 @@ pub fn on_update(old: &Object, finalizers: &Names) -> Departure
 fn leave_if(leaves: bool) -> Departure
     ensures { result ≡ leave_if leaves }
 {
-    if leaves { Departure::Leave } else { Departure::Keep }
+    if leaves {
+        Departure::Leave
+    } else {
+        Departure::Keep
+    }
 }

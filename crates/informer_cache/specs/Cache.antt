@@ -13,8 +13,8 @@ use Rattle.call_types.specs.declared.reply.Reply.{Reply}
 use Rattle.call_types.specs.declared.reply.Reply.TheVariants.{Done, Left, Listed, Events}
 use Rattle.binder_model.specs.Told.{Telling, later, newest, object_of, presence, told_of}
 use Rattle.binder_model.specs.Reading.{Following, Unlisted, ListedAt, following_of, follow_on}
-use Rattle.informer_cache.specs.declared.cache.Ask.{Ask}
-use Rattle.informer_cache.specs.declared.cache.Ask.TheVariants as asks
+use Rattle.informer_cache.specs.declared.cache.NextRead.{NextRead}
+use Rattle.informer_cache.specs.declared.cache.NextRead.TheVariants as asks
 use Rattle.informer_cache.specs.Knowledge.{RowState, ListState, telling_in, told_at, tells_key}
 
 -- what a cache knows, and the version from which its kind may be watched, where it is listed
@@ -42,12 +42,12 @@ watch_from (ListedAt version None) = Some version
 watch_from (ListedAt version (Some upto)) = Some upto
 
 -- the read that keeps the cache up to date
-abbrev pub ask_from : Option ℕ → Ask
+abbrev pub ask_from : Option ℕ → NextRead
 ask_from None = asks.List
 ask_from (Some version) = asks.Watch version
 
 -- what the cache asks next: a list, or a watch from where it is
-abbrev pub ask_of : Known → Ask
+abbrev pub ask_of : Known → NextRead
 ask_of c = ask_from c.from
 
 -- what the cache of a kind knows is what the seat with these entries was told: of each key the newest, an object in its

@@ -27,7 +27,7 @@ use volume_index::index::VolumeIndex;
 
 /// The read that keeps a cache up to date.
 #[derive(Clone, Copy, Debug, PartialEq, Eq)]
-pub enum Ask {
+pub enum NextRead {
     List,
     Watch { from: Version },
 }
@@ -111,12 +111,12 @@ impl Cache {
     }
 
     /// The read that keeps the cache up to date.
-    pub fn ask(&self) -> Ask
+    pub fn ask(&self) -> NextRead
         ensures { result ≡ ask_of self.now }
     {
         match self.from {
-            None => Ask::List,
-            Some(from) => Ask::Watch { from },
+            None => NextRead::List,
+            Some(from) => NextRead::Watch { from },
         }
     }
 

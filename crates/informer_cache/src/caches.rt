@@ -10,7 +10,7 @@ ghost use Rattle.informer_cache.specs.Cache.{CacheStandsFor, IsDone, IsLeft, IsT
 ghost use Rattle.informer_cache.specs.Knowledge.{AreOfKind};
 ghost use Rattle.informer_cache.specs.All.{AllStandFor, AreCaches, EachStandsFor, all_objects, cache_of};
 
-use crate::cache::{Ask, Cache};
+use crate::cache::{Cache, NextRead};
 use crate::learn::keys_in;
 use call_types::reply::Reply;
 use call_types::request::Request;
@@ -125,7 +125,7 @@ impl Caches {
     }
 
     /// The read that keeps the cache of the kind up to date.
-    pub fn ask(&self, kind: Kind) -> Ask
+    pub fn ask(&self, kind: Kind) -> NextRead
         ensures { result ≡ ask_of (cache_of kind self.now) }
     {
         self.cache(kind).ask()

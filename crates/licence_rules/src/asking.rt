@@ -16,7 +16,7 @@ use licence_record::newest::{newest_volume_of, some_newest};
 use licence_record::record::Record;
 use licence_record::sure::{OfRecordedClaims, SureClaim, SureTest};
 use licence_rows::asking::{NamesClaim, NamesVolume, is_to_erase};
-use licence_scans::rows::{OfRecordedClaims as OfSomeClaims, OfVolumes};
+use licence_scans::rows::{OfClaims as OfSomeClaims, OfVolumes};
 
 /// Whether the volume names a claim with a UID, and what was told newest of the key is none with this.
 fn is_lacking<R: Record>(seat: &R, key: &Key, volume: &Volume) -> bool

@@ -19,7 +19,7 @@ use kube_types::text::Text;
 use licence_record::newest::{newest_class, newest_node, some_newest};
 use licence_record::record::Record;
 use licence_record::sure::{OfRecordedClaims, SureClaim};
-use licence_scans::rows::OfRecordedClaims as OfSomeClaims;
+use licence_scans::rows::OfClaims as OfSomeClaims;
 
 /// Whether the labels are those of the newest told node of the name.
 fn are_labels_of<R: Record>(seat: &R, name: &Text, labels: &Option<Pairs>) -> bool

@@ -7,7 +7,7 @@ ghost use Rattle.settle_check.specs.ClaimDues.{claim_binder_row, claim_due_rows,
 
 use crate::numbers::due_number;
 use case_table::Need::{Any, No, Yes};
-use case_table::{CaseRow, Need, Table};
+use case_table::{CaseRow, CaseTable, Need};
 use claim_sync::{ClaimStep, claim_rows};
 use kube_types::names::Due;
 
@@ -79,8 +79,8 @@ pub fn claim_due_rows() -> [CaseRow<12>; 18]
 }
 
 /// The table of these rows.
-pub fn claim_due_table() -> Table<12, 18>
+pub fn claim_due_table() -> CaseTable<12, 18>
     ensures { result ≡ claim_due_rows }
 {
-    Table::exact(claim_due_rows())
+    CaseTable::exact(claim_due_rows())
 }

@@ -12,7 +12,7 @@ use crate::agent::agent_due;
 use crate::claims::kept_due;
 use crate::provision::provision_due;
 use crate::scheduling::scheduling_due;
-use case_table::Table;
+use case_table::CaseTable;
 use kube_types::bindings::is_scheduled;
 use kube_types::copies::OutOfMemory;
 use kube_types::names::Due;
@@ -25,7 +25,7 @@ pub(crate) fn due_of_claim(
     alloc: Global,
     world: &World,
     claim: &Claim,
-    table: &Table<12, 18>,
+    table: &CaseTable<12, 18>,
 ) -> Result<Option<Due>, OutOfMemory>
     requires stands { row_at (claim_key claim.now.meta.namespace claim.now.meta.name) (world_of world.now).store.rows ≡ Some (objects.Claim claim.now) }
     requires table { table.now ≡ claim_due_rows }

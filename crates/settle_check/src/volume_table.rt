@@ -7,7 +7,7 @@ ghost use Rattle.settle_check.specs.VolumeDues.{volume_binder_row, ended_rows, i
 
 use crate::numbers::due_number;
 use case_table::Need::{Any, No, Yes};
-use case_table::{CaseRow, Need, Table};
+use case_table::{CaseRow, CaseTable, Need};
 use kube_types::names::Due;
 use volume_sync::{VolumeAction, volume_rows};
 
@@ -137,8 +137,8 @@ pub fn volume_due_rows() -> [CaseRow<11>; 21]
 }
 
 /// The table of these rows.
-pub fn volume_due_table() -> Table<11, 21>
+pub fn volume_due_table() -> CaseTable<11, 21>
     ensures { result ≡ volume_due_rows }
 {
-    Table::exact(volume_due_rows())
+    CaseTable::exact(volume_due_rows())
 }

@@ -3,7 +3,7 @@ use Rattle.std.proofs.Common.{◌≡◌, Bool, true, false, ◌||◌, cond, List
 use Rattle.std.specs.List.{list_any}
 use Rattle.std.proofs.lemmas.Bool.{or_parts}
 use Rattle.kube_objects.specs.declared.key.Key.{Key}
-use Rattle.sync_queue.specs.declared.lanes.Stage.{Stage}
+use Rattle.sync_queue.specs.declared.lanes.KeyStage.{KeyStage}
 use Rattle.kube_objects.specs.Keys.{same_key}
 use Rattle.sync_queue.specs.Work.{Taken, AreOnce, without_waiting, is_of, mark, mark_of}
 use Rattle.sync_queue.specs.Steps.Lanes.{IsLane, IsSet, marks, is_again}
@@ -82,15 +82,15 @@ once-append (x ∷ xs) ys h o apart = (
   once-append xs ys h.1 o (λ q e. apart q (ap (λ b. same_key q x || b) e ∙ or_true (same_key q x))),
 )
 
-pub any-marks : (stage : Key → Option Stage) (k : Key) (ks : List Key) → list_any (is_of k) (marks stage ks) ≡ list_any (same_key k) ks
+pub any-marks : (stage : Key → Option KeyStage) (k : Key) (ks : List Key) → list_any (is_of k) (marks stage ks) ≡ list_any (same_key k) ks
 any-marks stage k [] = refl
 any-marks stage k (j ∷ js) = ap (λ b. same_key k j || b) (any-marks stage k js)
 
-pub keys-marks : (stage : Key → Option Stage) (ks : List Key) → map (λ (t : Taken). t.key) (marks stage ks) ≡ ks
+pub keys-marks : (stage : Key → Option KeyStage) (ks : List Key) → map (λ (t : Taken). t.key) (marks stage ks) ≡ ks
 keys-marks stage [] = refl
 keys-marks stage (j ∷ js) = ap (λ ys. j ∷ ys) (keys-marks stage js)
 
-pub marks-without : (stage : Key → Option Stage) (k : Key) (ks : List Key) → marks stage (without_waiting (same_key k) ks) ≡ without_waiting (is_of k) (marks stage ks)
+pub marks-without : (stage : Key → Option KeyStage) (k : Key) (ks : List Key) → marks stage (without_waiting (same_key k) ks) ≡ without_waiting (is_of k) (marks stage ks)
 marks-without stage k [] = refl
 marks-without stage k (j ∷ js) = by (same_key k j) (marks-without stage k js)
   where
@@ -99,11 +99,11 @@ marks-without stage k (j ∷ js) = by (same_key k j) (marks-without stage k js)
     by true rest = refl
     by false rest = ap (λ ys. (record { key = j; again = is_again (stage j) }) ∷ ys) rest
 
-pub marks-push : (stage : Key → Option Stage) (ks : List Key) (k : Key) → marks stage (ks ++ k ∷ []) ≡ marks stage ks ++ (record { key = k; again = is_again (stage k) }) ∷ []
+pub marks-push : (stage : Key → Option KeyStage) (ks : List Key) (k : Key) → marks stage (ks ++ k ∷ []) ≡ marks stage ks ++ (record { key = k; again = is_again (stage k) }) ∷ []
 marks-push stage [] k = refl
 marks-push stage (j ∷ js) k = ap (λ ys. (record { key = j; again = is_again (stage j) }) ∷ ys) (marks-push stage js k)
 
-pub mark_of-marks : (stage : Key → Option Stage) (k : Key) (ks : List Key) → mark_of k (marks stage ks) ≡ cond (list_any (same_key k) ks) (Some (is_again (stage k))) None
+pub mark_of-marks : (stage : Key → Option KeyStage) (k : Key) (ks : List Key) → mark_of k (marks stage ks) ≡ cond (list_any (same_key k) ks) (Some (is_again (stage k))) None
 mark_of-marks stage k [] = refl
 mark_of-marks stage k (j ∷ js) = by (same_key k j) refl (mark_of-marks stage k js)
   where
@@ -113,7 +113,7 @@ mark_of-marks stage k (j ∷ js) = by (same_key k j) refl (mark_of-marks stage k
     by false e rest = rest
 
 -- the key k has the stage s after, and each other key what it had
-module _ (stage after : Key → Option Stage) (k : Key) (s : Option Stage) (set : IsSet stage k s after) where
+module _ (stage after : Key → Option KeyStage) (k : Key) (s : Option KeyStage) (set : IsSet stage k s after) where
   pub after_self : after k ≡ s
   after_self = set k ∙ ap (λ b. cond b s (stage k)) (same_key_itself k)
 
@@ -121,7 +121,7 @@ module _ (stage after : Key → Option Stage) (k : Key) (s : Option Stage) (set 
   after_other q e = set q ∙ ap (λ b. cond b s (stage q)) e
 
   -- a list whose test tells the two stages of k not apart
-  pub lane-kept : (test : Option Stage → Bool) (ks : List Key) → test (stage k) ≡ test s → IsLane test stage ks → IsLane test after ks
+  pub lane-kept : (test : Option KeyStage → Bool) (ks : List Key) → test (stage k) ≡ test s → IsLane test stage ks → IsLane test after ks
   lane-kept test ks alike l = record { says = λ q. l.says q ∙ sym (ap test (set q) ∙ by q (same_key k q) refl); once = l.once }
     where
       by : (q : Key) (b : Bool) → same_key k q ≡ b → test (cond b s (stage q)) ≡ test (stage q)
@@ -129,7 +129,7 @@ module _ (stage after : Key → Option Stage) (k : Key) (s : Option Stage) (set 
       by q false e = refl
 
   -- the list on which k comes
-  pub lane-push : (test : Option Stage → Bool) (ks : List Key) → test (stage k) ≡ false → test s ≡ true → IsLane test stage ks → IsLane test after (ks ++ k ∷ [])
+  pub lane-push : (test : Option KeyStage → Bool) (ks : List Key) → test (stage k) ≡ false → test s ≡ true → IsLane test stage ks → IsLane test after (ks ++ k ∷ [])
   lane-push test ks off on l = record { says = λ q. any-push (same_key q) ks k ∙ (ap (λ b. b || same_key q k) (l.says q) ∙ by q (same_key k q) refl); once = once-push ks k l.once (l.says k ∙ off) }
     where
       by : (q : Key) (b : Bool) → same_key k q ≡ b → (test (stage q) || same_key q k) ≡ test (after q)
@@ -137,7 +137,7 @@ module _ (stage after : Key → Option Stage) (k : Key) (s : Option Stage) (set 
       by q false e = ap (λ b. test (stage q) || b) (same_key_equivalence.symm q k ∙ e) ∙ (or_none (test (stage q)) ∙ sym (ap test (after_other q e)))
 
   -- the list from which k goes
-  pub lane-drop : (test : Option Stage → Bool) (ks : List Key) → test s ≡ false → IsLane test stage ks → IsLane test after (without_waiting (same_key k) ks)
+  pub lane-drop : (test : Option KeyStage → Bool) (ks : List Key) → test s ≡ false → IsLane test stage ks → IsLane test after (without_waiting (same_key k) ks)
   lane-drop test ks off l = record { says = λ q. any-without k q ks l.once ∙ (ap (λ b. cond (same_key k q) false b) (l.says q) ∙ by q (same_key k q) refl); once = once-without k ks l.once }
     where
       by : (q : Key) (b : Bool) → same_key k q ≡ b → cond b false (test (stage q)) ≡ test (after q)
@@ -145,7 +145,7 @@ module _ (stage after : Key → Option Stage) (k : Key) (s : Option Stage) (set 
       by q false e = sym (ap test (after_other q e))
 
   -- the same, where k is the first
-  pub lane-pop : (test : Option Stage → Bool) (ks : List Key) → test s ≡ false → IsLane test stage (k ∷ ks) → IsLane test after ks
+  pub lane-pop : (test : Option KeyStage → Bool) (ks : List Key) → test s ≡ false → IsLane test stage (k ∷ ks) → IsLane test after ks
   lane-pop test ks off l = subst (IsLane test after) (ap (λ b. cond b ks (k ∷ without_waiting (same_key k) ks)) (same_key_itself k)) (lane-drop test (k ∷ ks) off l)
 
   pub marks-other : (ks : List Key) → list_any (same_key k) ks ≡ false → marks after ks ≡ marks stage ks

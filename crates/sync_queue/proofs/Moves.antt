@@ -2,9 +2,9 @@
 use Rattle.std.proofs.Common.{◌≡◌, Bool, true, false, true≢false, ◌||◌, List, [], ◌∷◌, ◌++◌, Option, Some, None, refl, sym, ap, subst, ◌∙◌}
 use Rattle.std.specs.List.{list_any}
 use Rattle.kube_objects.specs.declared.key.Key.{Key}
-use Rattle.sync_queue.specs.declared.lanes.Stage.{Stage}
-use Rattle.sync_queue.specs.declared.lanes.Stage.TheVariants.{Waiting, Again, Parked, Gone}
-use Rattle.sync_queue.specs.declared.lanes.Stage.TheVariants.{Taken as Begun}
+use Rattle.sync_queue.specs.declared.lanes.KeyStage.{KeyStage}
+use Rattle.sync_queue.specs.declared.lanes.KeyStage.TheVariants.{Waiting, Again, Parked, Gone}
+use Rattle.sync_queue.specs.declared.lanes.KeyStage.TheVariants.{Taken as Begun}
 use Rattle.kube_objects.specs.Keys.{same_key}
 use Rattle.sync_queue.specs.Work.{Work, AreOnce, StandsOnce, without_waiting, queued, put_aside, marked, unparked, released, begun}
 use Rattle.sync_queue.specs.Steps.Lanes.{woken_first, AreLanes, IsSet, work_of, is_taken, is_waiting, is_parked}
@@ -12,7 +12,7 @@ use Rattle.kube_objects.proofs.SameKeys.{same_key_itself}
 use Rattle.sync_queue.proofs.LaneFacts.{lane-kept, lane-push, lane-drop, lane-pop, marks-other, marks-drop, marks-come, marks-mark, once-append, any-append, keys-marks}
 
 -- a taken key neither waits nor is parked
-taken_alone : (x : Option Stage) → is_taken x ≡ true → (is_waiting x ≡ false) × (is_parked x ≡ false)
+taken_alone : (x : Option KeyStage) → is_taken x ≡ true → (is_waiting x ≡ false) × (is_parked x ≡ false)
 taken_alone None h = absurd (true≢false (sym h))
 taken_alone (Some Waiting) h = absurd (true≢false (sym h))
 taken_alone (Some Begun) h = (refl, refl)
@@ -20,7 +20,7 @@ taken_alone (Some Again) h = (refl, refl)
 taken_alone (Some Parked) h = absurd (true≢false (sym h))
 taken_alone (Some Gone) h = absurd (true≢false (sym h))
 
-parked_alone : (x : Option Stage) → is_parked x ≡ true → (is_waiting x ≡ false) × (is_taken x ≡ false)
+parked_alone : (x : Option KeyStage) → is_parked x ≡ true → (is_waiting x ≡ false) × (is_taken x ≡ false)
 parked_alone None h = absurd (true≢false (sym h))
 parked_alone (Some Waiting) h = absurd (true≢false (sym h))
 parked_alone (Some Begun) h = absurd (true≢false (sym h))
@@ -28,7 +28,7 @@ parked_alone (Some Again) h = absurd (true≢false (sym h))
 parked_alone (Some Parked) h = (refl, refl)
 parked_alone (Some Gone) h = absurd (true≢false (sym h))
 
-waiting_alone : (x : Option Stage) → is_waiting x ≡ true → (is_taken x ≡ false) × (is_parked x ≡ false)
+waiting_alone : (x : Option KeyStage) → is_waiting x ≡ true → (is_taken x ≡ false) × (is_parked x ≡ false)
 waiting_alone None h = absurd (true≢false (sym h))
 waiting_alone (Some Waiting) h = (refl, refl)
 waiting_alone (Some Begun) h = absurd (true≢false (sym h))
@@ -37,23 +37,23 @@ waiting_alone (Some Parked) h = absurd (true≢false (sym h))
 waiting_alone (Some Gone) h = absurd (true≢false (sym h))
 
 -- a key that stands on no list
-pub record IsAway (x : Option Stage) : Type 0 where
+pub record IsAway (x : Option KeyStage) : Type 0 where
   pub waiting : is_waiting x ≡ false
   pub taken : is_taken x ≡ false
   pub parked : is_parked x ≡ false
 
-pub away_none : (x : Option Stage) → x ≡ None → IsAway x
+pub away_none : (x : Option KeyStage) → x ≡ None → IsAway x
 away_none x e = subst IsAway (sym e) (record { waiting = refl; taken = refl; parked = refl })
 
-pub away_gone : (x : Option Stage) → x ≡ Some Gone → IsAway x
+pub away_gone : (x : Option KeyStage) → x ≡ Some Gone → IsAway x
 away_gone x e = subst IsAway (sym e) (record { waiting = refl; taken = refl; parked = refl })
 
 -- the lists are sound, and stand for this work
-pub record Moved (after : Key → Option Stage) (ws ts ps : List Key) (w : Work) : Type 0 where
+pub record Moved (after : Key → Option KeyStage) (ws ts ps : List Key) (w : Work) : Type 0 where
   pub lanes : AreLanes after ws ts ps
   pub work : work_of after ws ts ps ≡ w
 
-module _ (stage after : Key → Option Stage) (k : Key) (ws ts ps : List Key) (sound : AreLanes stage ws ts ps) where
+module _ (stage after : Key → Option KeyStage) (k : Key) (ws ts ps : List Key) (sound : AreLanes stage ws ts ps) where
   pub admit-moved : IsSet stage k (Some Waiting) after → IsAway (stage k) → (ws' : List Key) → ws' ≡ ws ++ k ∷ [] → Moved after ws' ts ps (queued k (work_of stage ws ts ps))
   admit-moved set away ws' e =
       let move : Moved after (ws ++ k ∷ []) ts ps (queued k (work_of stage ws ts ps)) = record {
@@ -138,7 +138,7 @@ module _ (stage after : Key → Option Stage) (k : Key) (ws ts ps : List Key) (s
       subst (λ vs. Moved after ws vs ps (released k (work_of stage ws ts ps))) (sym e) move
 
 -- a key stands on one list alone
-module _ (stage : Key → Option Stage) (ws ts ps : List Key) (sound : AreLanes stage ws ts ps) where
+module _ (stage : Key → Option KeyStage) (ws ts ps : List Key) (sound : AreLanes stage ws ts ps) where
   pub stands_once : StandsOnce (work_of stage ws ts ps)
   stands_once =
       let keys = sym (keys-marks stage ts) in
@@ -151,7 +151,7 @@ module _ (stage : Key → Option Stage) (ws ts ps : List Key) (sound : AreLanes 
       by q false e h = (taken_alone (stage q) (sym (sound.taken.says q) ∙ (sym (ap (λ b. b || list_any (same_key q) ts) e) ∙ h))).1
 
 -- the oldest waiting key is taken
-module _ (stage after : Key → Option Stage) (k : Key) (ws ts ps : List Key) where
+module _ (stage after : Key → Option KeyStage) (k : Key) (ws ts ps : List Key) where
   head_any : (ks : List Key) → list_any (same_key k) (k ∷ ks) ≡ true
   head_any ks = ap (λ b. b || list_any (same_key k) ks) (same_key_itself k)
 

@@ -3,9 +3,9 @@ use Rattle.std.proofs.Common.{◌≡◌, ℕ, ◌<◌, ◌≤◌, Bool, List, []
 use Rattle.std.specs.Prelude.{remove}
 use Rattle.kube_objects.specs.declared.key.Key.{Key}
 use Rattle.kube_objects.specs.Keys.{same_key}
-use Rattle.sync_queue.specs.declared.lanes.Stage.{Stage}
-use Rattle.sync_queue.specs.declared.lanes.Stage.TheVariants.{Waiting, Again, Parked, Gone}
-use Rattle.sync_queue.specs.declared.lanes.Stage.TheVariants.{Taken as Begun}
+use Rattle.sync_queue.specs.declared.lanes.KeyStage.{KeyStage}
+use Rattle.sync_queue.specs.declared.lanes.KeyStage.TheVariants.{Waiting, Again, Parked, Gone}
+use Rattle.sync_queue.specs.declared.lanes.KeyStage.TheVariants.{Taken as Begun}
 use Rattle.sync_queue.specs.Work.{Work, without_waiting, queued, put_aside, marked, unparked, released, begun}
 use Rattle.sync_queue.specs.Steps.Lanes.{woken_first, AreLanes, IsLane, IsSet, work_of, is_taken, is_parked}
 use Rattle.sync_queue.specs.Steps.Places.{AreBelow, key_there, keys_at}
@@ -13,7 +13,7 @@ use Rattle.sync_queue.proofs.MapPlaces.{any_there, below_at, below_more, below_p
 use Rattle.sync_queue.proofs.Moves.{IsAway, Moved, admit-moved, begin-moved, mark-moved, park-moved, release-moved, requeue-moved, unpark-moved, wake-moved}
 
 -- the lists of places are sound, and stand for this work
-pub record Stands (after : Key → Option Stage) (ks : List Key) (ws ts ps : List ℕ) (w : Work) : Type 0 where
+pub record Stands (after : Key → Option KeyStage) (ks : List Key) (ws ts ps : List ℕ) (w : Work) : Type 0 where
   pub lanes : AreLanes after (keys_at ks ws) (keys_at ks ts) (keys_at ks ps)
   pub work : work_of after (keys_at ks ws) (keys_at ks ts) (keys_at ks ps) ≡ w
   pub waiting : AreBelow (length ks) ws
@@ -21,7 +21,7 @@ pub record Stands (after : Key → Option Stage) (ks : List Key) (ws ts ps : Lis
   pub parked : AreBelow (length ks) ps
 
 -- the map's keys are these
-stands : (after : Key → Option Stage) (js ks : List Key) (ws ts ps : List ℕ) (w : Work) → js ≡ ks → Moved after (keys_at ks ws) (keys_at ks ts) (keys_at ks ps) w
+stands : (after : Key → Option KeyStage) (js ks : List Key) (ws ts ps : List ℕ) (w : Work) → js ≡ ks → Moved after (keys_at ks ws) (keys_at ks ts) (keys_at ks ps) w
     → AreBelow (length ks) ws → AreBelow (length ks) ts → AreBelow (length ks) ps → Stands after js ws ts ps w
 stands after js ks ws ts ps w e m bw bt bp = subst (λ ls. Stands after ls ws ts ps w) (sym e) (record { lanes = m.lanes; work = m.work; waiting = bw; taken = bt; parked = bp })
 
@@ -37,7 +37,7 @@ module _ (ks : List Key) where
   pushed us us' place e = ap (keys_at ks) e ∙ keys_push ks us place
 
   -- what stands there on a list goes from it
-  module _ (test : Option Stage → Bool) (stage : Key → Option Stage) (us : List ℕ) (lane : IsLane test stage (keys_at ks us)) (at : ℕ) (lt : at < length us) where
+  module _ (test : Option KeyStage → Bool) (stage : Key → Option KeyStage) (us : List ℕ) (lane : IsLane test stage (keys_at ks us)) (at : ℕ) (lt : at < length us) where
     within : at < length (keys_at ks us)
     within = subst (λ n. at < n) (sym (length-keys_at ks us)) lt
 
@@ -47,7 +47,7 @@ module _ (ks : List Key) where
     tested : test (stage (key_there (keys_at ks us) at)) ≡ true
     tested = sym (lane.says (key_there (keys_at ks us) at)) ∙ any_there (keys_at ks us) at within
 
-  module _ (stage after : Key → Option Stage) (ws ts ps : List ℕ) (lanes : AreLanes stage (keys_at ks ws) (keys_at ks ts) (keys_at ks ps))
+  module _ (stage after : Key → Option KeyStage) (ws ts ps : List ℕ) (lanes : AreLanes stage (keys_at ks ws) (keys_at ks ts) (keys_at ks ps))
       (bw : AreBelow (length ks) ws) (bt : AreBelow (length ks) ts) (bp : AreBelow (length ks) ps) (js : List Key) (same : js ≡ ks) (at place : ℕ) where
     -- a taken key
     module _ (there : slice_get ts at ≡ Some place) (lt : at < length ts) where
@@ -57,7 +57,7 @@ module _ (ks : List Key) where
       named : key_there (keys_at ks ts) at ≡ key_there ks place
       named = there_at ks ts at place there
 
-      set_for : (s : Stage) → IsSet stage (key_there ks place) (Some s) after → IsSet stage (key_there (keys_at ks ts) at) (Some s) after
+      set_for : (s : KeyStage) → IsSet stage (key_there ks place) (Some s) after → IsSet stage (key_there (keys_at ks ts) at) (Some s) after
       set_for s set = subst (λ (j : Key). IsSet stage j (Some s) after) (sym named) set
 
       last : (us us' : List ℕ) → us' ≡ us ++ place ∷ [] → keys_at ks us' ≡ keys_at ks us ++ key_there (keys_at ks ts) at ∷ []
@@ -93,7 +93,7 @@ module _ (ks : List Key) where
           (below_pushed _ ws ws' place e (below_at (length ks) ps at place there bp) bw) bt (below_out _ ps ps' at f bp)
 
   -- the oldest waiting key
-  pub begin-at : (stage after : Key → Option Stage) (vs ws ts ps : List ℕ) (place : ℕ) → vs ≡ place ∷ ws
+  pub begin-at : (stage after : Key → Option KeyStage) (vs ws ts ps : List ℕ) (place : ℕ) → vs ≡ place ∷ ws
       → AreLanes stage (keys_at ks vs) (keys_at ks ts) (keys_at ks ps) → AreBelow (length ks) vs → AreBelow (length ks) ts → AreBelow (length ks) ps
       → (js : List Key) → js ≡ ks → IsSet stage (key_there ks place) (Some Begun) after → (ts' : List ℕ) → ts' ≡ ts ++ place ∷ []
       → Stands after js ws ts' ps (begun (work_of stage (keys_at ks vs) (keys_at ks ts) (keys_at ks ps)))
@@ -104,7 +104,7 @@ module _ (ks : List Key) where
       b.1 (below_pushed _ ts ts' place f b.0 bt) bp
 
   -- the key that was parked first
-  pub wake-at : (stage after : Key → Option Stage) (ws ts vs ps : List ℕ) (place : ℕ) → vs ≡ place ∷ ps
+  pub wake-at : (stage after : Key → Option KeyStage) (ws ts vs ps : List ℕ) (place : ℕ) → vs ≡ place ∷ ps
       → AreLanes stage (keys_at ks ws) (keys_at ks ts) (keys_at ks vs) → AreBelow (length ks) ws → AreBelow (length ks) ts → AreBelow (length ks) vs
       → (js : List Key) → js ≡ ks → IsSet stage (key_there ks place) (Some Waiting) after → (ws' : List ℕ) → ws' ≡ ws ++ place ∷ []
       → Stands after js ws' ts ps (woken_first (work_of stage (keys_at ks ws) (keys_at ks ts) (keys_at ks vs)))
@@ -115,7 +115,7 @@ module _ (ks : List Key) where
       (below_pushed _ ws ws' place f b.0 bw) bt b.1
 
   -- a key that was let go
-  pub readmit-at : (stage after : Key → Option Stage) (ws ts ps : List ℕ) (place : ℕ) → place < length ks
+  pub readmit-at : (stage after : Key → Option KeyStage) (ws ts ps : List ℕ) (place : ℕ) → place < length ks
       → AreLanes stage (keys_at ks ws) (keys_at ks ts) (keys_at ks ps) → AreBelow (length ks) ws → AreBelow (length ks) ts → AreBelow (length ks) ps
       → (js : List Key) → js ≡ ks → IsSet stage (key_there ks place) (Some Waiting) after → IsAway (stage (key_there ks place)) → (ws' : List ℕ)
       → ws' ≡ ws ++ place ∷ [] → Stands after js ws' ts ps (queued (key_there ks place) (work_of stage (keys_at ks ws) (keys_at ks ts) (keys_at ks ps)))
@@ -124,13 +124,13 @@ module _ (ks : List Key) where
       (below_pushed _ ws ws' place e lt bw) bt bp
 
   -- a taken key is marked
-  pub mark-at : (stage after : Key → Option Stage) (ws ts ps : List ℕ) (k : Key) → AreLanes stage (keys_at ks ws) (keys_at ks ts) (keys_at ks ps)
+  pub mark-at : (stage after : Key → Option KeyStage) (ws ts ps : List ℕ) (k : Key) → AreLanes stage (keys_at ks ws) (keys_at ks ts) (keys_at ks ps)
       → AreBelow (length ks) ws → AreBelow (length ks) ts → AreBelow (length ks) ps
       → (js : List Key) → js ≡ ks → IsSet stage k (Some Again) after → is_taken (stage k) ≡ true → Stands after js ws ts ps (marked k (work_of stage (keys_at ks ws) (keys_at ks ts) (keys_at ks ps)))
   mark-at stage after ws ts ps k lanes bw bt bp js same set at = stands after js ks ws ts ps _ same (mark-moved stage after k (keys_at ks ws) (keys_at ks ts) (keys_at ks ps) lanes set at) bw bt bp
 
 -- a new key, which stands last in the map
-pub admit-at : (ks : List Key) (k : Key) (js : List Key) (stage after : Key → Option Stage) (ws ts ps : List ℕ) (place : ℕ) → js ≡ ks ++ k ∷ [] → place ≡ length ks
+pub admit-at : (ks : List Key) (k : Key) (js : List Key) (stage after : Key → Option KeyStage) (ws ts ps : List ℕ) (place : ℕ) → js ≡ ks ++ k ∷ [] → place ≡ length ks
     → AreLanes stage (keys_at ks ws) (keys_at ks ts) (keys_at ks ps) → AreBelow (length ks) ws → AreBelow (length ks) ts → AreBelow (length ks) ps
     → IsSet stage k (Some Waiting) after → IsAway (stage k)
     → (ws' : List ℕ) → ws' ≡ ws ++ place ∷ [] → Stands after js ws' ts ps (queued k (work_of stage (keys_at ks ws) (keys_at ks ts) (keys_at ks ps)))

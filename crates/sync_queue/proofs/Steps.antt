@@ -2,13 +2,13 @@
 use Rattle.std.proofs.Common.{◌≡◌, ◌<◌, Bool, true, false, true≢false, cond, List, [], ◌∷◌, length, Option, Some, None, is_some, refl, sym, ap, ◌∙◌, append_assoc, append-nil, arith}
 use Rattle.std.specs.Prelude.{if◌then◌else◌}
 use Rattle.kube_objects.specs.declared.key.Key.{Key}
-use Rattle.sync_queue.specs.declared.lanes.Stage.{Stage}
+use Rattle.sync_queue.specs.declared.lanes.KeyStage.{KeyStage}
 use Rattle.kube_objects.specs.Keys.{same_key}
 use Rattle.sync_queue.specs.Work.{Work, Taken, oldest_of, added, queued, unparked, marked, done_by, finished, retry_by, put_off, woken}
 use Rattle.sync_queue.specs.Steps.Lanes.{woken_first, AreLanes, marks, work_of, is_taken, is_again, is_waiting, is_parked}
 use Rattle.sync_queue.proofs.LaneFacts.{any-marks, mark_of-marks, without-absent}
 
-module _ (stage : Key → Option Stage) (k : Key) (ws ts ps : List Key) (sound : AreLanes stage ws ts ps) (s : Option Stage) (at : stage k ≡ s) where
+module _ (stage : Key → Option KeyStage) (k : Key) (ws ts ps : List Key) (sound : AreLanes stage ws ts ps) (s : Option KeyStage) (at : stage k ≡ s) where
   pub added-at : added k (work_of stage ws ts ps) ≡ (if is_taken s then marked k (work_of stage ws ts ps) else if is_waiting s then work_of stage ws
       ts ps else queued k (unparked k (work_of stage ws ts ps)))
   added-at =

@@ -7,12 +7,12 @@ ghost use Rattle.std.specs.Option.{option_map};
 ghost use Rattle.std.specs.VecDeque.{deque_len, deque_capacity};
 ghost use Rattle.indexmap.specs.IndexMap.{get, keys};
 ghost use Rattle.kube_objects.specs.Keys.{same_key};
-ghost use Rattle.sync_queue.specs.declared.lanes.Stage.TheVariants as stages;
+ghost use Rattle.sync_queue.specs.declared.lanes.KeyStage.TheVariants as stages;
 ghost use Rattle.sync_queue.specs.Steps.Lanes.{woken_first, IsSet, IsSound, HasRoomForOne, is_again, is_parked, is_taken, key_in, stage_in, taken_in, work_in};
 ghost use Rattle.sync_queue.specs.Steps.Places.{AreBelow, key_there, keys_at};
 ghost use Rattle.sync_queue.specs.Work.{without_waiting, no_work, queued, put_aside, marked, unparked, released, oldest_of, begun};
 
-use crate::slot::{Asked, Slot};
+use crate::slot::{AskedKey, Slot};
 use indexmap::IndexMap;
 use kube_types::key::Key;
 use plain_data::copies::OutOfMemory;
@@ -22,7 +22,7 @@ use std::collections::VecDeque;
 
 /// On which list a key stands, and whether it is marked.
 #[derive(Clone, Copy, Debug, PartialEq, Eq)]
-pub(crate) enum Stage {
+pub(crate) enum KeyStage {
     Waiting,
     Taken,
     /// Taken, and added again since.
@@ -33,7 +33,7 @@ pub(crate) enum Stage {
 }
 
 /// All keys that were added, and the stage of each. The map owns the keys, and none leaves its place.
-pub(crate) type Stages = IndexMap<Slot, Stage>;
+pub(crate) type Stages = IndexMap<Slot, KeyStage>;
 
 /// The keys of a queue: the stage of each, and the lists of their places in the map. Each list has room
 /// for all keys that stand on one, so that a key goes from one to another without memory.
@@ -73,7 +73,7 @@ impl Lanes {
     }
 
     /// The place of a key in the map, and its stage, in constant time.
-    pub(crate) fn find(&self, key: &Asked<'_>) -> Option<(usize, Stage)>
+    pub(crate) fn find(&self, key: &AskedKey<'_>) -> Option<(usize, KeyStage)>
         ensures stage { option_map (λ found. found.1) result ≡ stage_in self.now key.now }
         ensures key { IfSome result (λ found. key_in self.now found.0 ≡ key.now) }
         ensures within { IfSome result (λ found. found.0 < length (keys self.now.stages)) }
@@ -98,7 +98,7 @@ impl Lanes {
     }
 
     /// Puts a new key last on the waiting list.
-    pub(crate) fn admit(&mut self, alloc: Global, key: &Asked<'_>) -> Result<(), OutOfMemory>
+    pub(crate) fn admit(&mut self, alloc: Global, key: &AskedKey<'_>) -> Result<(), OutOfMemory>
         requires sound { IsSound self.old }
         requires absent { stage_in self.old key.now ≡ None }
         ensures sound { IsSound self.new }
@@ -108,7 +108,7 @@ impl Lanes {
         let owned = Slot::new(alloc, key)?;
         self.make_room()?;
         let place = self.stages.len();
-        self.stages.insert(owned, Stage::Waiting)?;
+        self.stages.insert(owned, KeyStage::Waiting)?;
         put_last(&mut self.waiting, place);
         Ok(())
     }
@@ -123,7 +123,7 @@ impl Lanes {
         ensures err { OnErr result (work_in self.new ≡ work_in self.old) }
     {
         self.make_room()?;
-        set_stage(&mut self.stages, place, Stage::Waiting);
+        set_stage(&mut self.stages, place, KeyStage::Waiting);
         put_last(&mut self.waiting, place);
         Ok(())
     }
@@ -136,11 +136,11 @@ impl Lanes {
         ensures sound { IsSound self.new }
         ensures work { work_in self.new ≡ marked (key_in self.old place) (work_in self.old) }
     {
-        set_stage(&mut self.stages, place, Stage::Again);
+        set_stage(&mut self.stages, place, KeyStage::Again);
     }
 
     /// Puts a parked key last on the waiting list.
-    pub(crate) fn unpark(&mut self, key: &Asked<'_>)
+    pub(crate) fn unpark(&mut self, key: &AskedKey<'_>)
         requires sound { IsSound self.old }
         requires parked { is_parked (stage_in self.old key.now) ≡ true }
         ensures sound { IsSound self.new }
@@ -148,13 +148,13 @@ impl Lanes {
     {
         if let Some(at) = place_in(&self.stages, &self.parked, key) {
             let place = take_out(&mut self.parked, at);
-            set_stage(&mut self.stages, place, Stage::Waiting);
+            set_stage(&mut self.stages, place, KeyStage::Waiting);
             put_last(&mut self.waiting, place);
         }
     }
 
     /// Where a key stands among those that are taken, and whether it is marked.
-    pub(crate) fn taken_place(&self, key: &Asked<'_>) -> Option<(usize, bool)>
+    pub(crate) fn taken_place(&self, key: &AskedKey<'_>) -> Option<(usize, bool)>
         requires sound { IsSound self.now }
         ensures within { IfSome result (λ found. found.0 < deque_len self.now.taken) }
         ensures key { IfSome result (λ found. taken_in self.now found.0 ≡ key.now) }
@@ -174,7 +174,7 @@ impl Lanes {
         ensures work { work_in self.new ≡ queued (taken_in self.old at) (released (taken_in self.old at) (work_in self.old)) }
     {
         let place = take_out(&mut self.taken, at);
-        set_stage(&mut self.stages, place, Stage::Waiting);
+        set_stage(&mut self.stages, place, KeyStage::Waiting);
         put_last(&mut self.waiting, place);
     }
 
@@ -186,7 +186,7 @@ impl Lanes {
         ensures work { work_in self.new ≡ put_aside (taken_in self.old at) (released (taken_in self.old at) (work_in self.old)) }
     {
         let place = take_out(&mut self.taken, at);
-        set_stage(&mut self.stages, place, Stage::Parked);
+        set_stage(&mut self.stages, place, KeyStage::Parked);
         put_last(&mut self.parked, place);
     }
 
@@ -198,7 +198,7 @@ impl Lanes {
         ensures work { work_in self.new ≡ released (taken_in self.old at) (work_in self.old) }
     {
         let place = take_out(&mut self.taken, at);
-        set_stage(&mut self.stages, place, Stage::Gone);
+        set_stage(&mut self.stages, place, KeyStage::Gone);
     }
 
     /// Takes the oldest waiting key, and answers its place in the map.
@@ -211,7 +211,7 @@ impl Lanes {
         ensures work { work_in self.new ≡ begun (work_in self.old) }
     {
         let place = self.waiting.pop_front()?;
-        set_stage(&mut self.stages, place, Stage::Taken);
+        set_stage(&mut self.stages, place, KeyStage::Taken);
         put_last(&mut self.taken, place);
         Some(place)
     }
@@ -225,7 +225,7 @@ impl Lanes {
     }
 
     /// The stage of the key at a place of the map.
-    fn stage(&self, place: usize) -> Stage
+    fn stage(&self, place: usize) -> KeyStage
         requires { place < length (keys self.now.stages) }
         ensures { stage_in self.now (key_in self.now place) ≡ Some result }
     {
@@ -245,7 +245,7 @@ impl Lanes {
         match self.parked.pop_front() {
             None => false,
             Some(place) => {
-                set_stage(&mut self.stages, place, Stage::Waiting);
+                set_stage(&mut self.stages, place, KeyStage::Waiting);
                 put_last(&mut self.waiting, place);
                 true
             }
@@ -254,17 +254,17 @@ impl Lanes {
 }
 
 /// Whether this is the stage of a taken key that is marked.
-fn is_marked(stage: Stage) -> bool
+fn is_marked(stage: KeyStage) -> bool
     ensures { result ≡ is_again (Some stage) }
 {
     match stage {
-        Stage::Again => true,
-        Stage::Waiting | Stage::Taken | Stage::Parked | Stage::Gone => false,
+        KeyStage::Again => true,
+        KeyStage::Waiting | KeyStage::Taken | KeyStage::Parked | KeyStage::Gone => false,
     }
 }
 
 /// Gives the key at a place another stage.
-fn set_stage(stages: &mut Stages, place: usize, stage: Stage)
+fn set_stage(stages: &mut Stages, place: usize, stage: KeyStage)
     requires { place < length (keys stages.old) }
     ensures set { IsSet (get same_key stages.old) (key_there (keys stages.old) place) (Some stage) (get same_key stages.new) }
     ensures keys { keys stages.new ≡ keys stages.old }
@@ -298,7 +298,7 @@ pub(crate) fn put_last(list: &mut VecDeque<usize>, place: usize)
 }
 
 /// Where a key stands first in a list, in time that grows with the place.
-pub(crate) fn place_in(stages: &Stages, list: &VecDeque<usize>, key: &Asked<'_>) -> Option<usize>
+pub(crate) fn place_in(stages: &Stages, list: &VecDeque<usize>, key: &AskedKey<'_>) -> Option<usize>
     requires below { AreBelow (length (keys stages.now)) list.now.items }
     ensures within { IfSome result (λ at. at < deque_len list.now) }
     ensures key { IfSome result (λ at. key_there (keys_at (keys stages.now) list.now.items) at ≡ key.now) }

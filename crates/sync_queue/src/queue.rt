@@ -6,8 +6,8 @@ ghost use Rattle.std.specs.Borrow.{sem};
 ghost use Rattle.std.specs.Option.{option_copied};
 ghost use Rattle.sync_queue.specs.Work.{no_work, added, oldest_of, begun, finished, put_off, woken, StandsOnce};
 
-use crate::lanes::{Lanes, Stage};
-use crate::slot::Asked;
+use crate::lanes::{KeyStage, Lanes};
+use crate::slot::AskedKey;
 use kube_types::key::Key;
 use kube_types::objects::Object;
 use plain_data::copies::{OutOfMemory, Plain};
@@ -63,7 +63,7 @@ impl Queue {
         ensures ok { OnOk result (self.new ≡ added key.now self.old) }
         ensures err { OnErr result (self.new ≡ self.old) }
     {
-        self.add_asked(&Asked::of(key))
+        self.add_asked(&AskedKey::of(key))
     }
 
     /// Adds the key of the object, as `add` does. No key is made where it was added before.
@@ -71,20 +71,20 @@ impl Queue {
         ensures ok { OnOk result (self.new ≡ added (key_of object.now) self.old) }
         ensures err { OnErr result (self.new ≡ self.old) }
     {
-        self.add_asked(&Asked::of_object(object))
+        self.add_asked(&AskedKey::of_object(object))
     }
 
-    fn add_asked(&mut self, key: &Asked<'_>) -> Result<(), OutOfMemory>
+    fn add_asked(&mut self, key: &AskedKey<'_>) -> Result<(), OutOfMemory>
         ensures ok { OnOk result (self.new ≡ added key.now self.old) }
         ensures err { OnErr result (self.new ≡ self.old) }
     {
         match self.lanes.find(key) {
             None => self.lanes.admit(self.alloc, key)?,
-            Some((place, Stage::Gone)) => self.lanes.readmit(place)?,
-            Some((_, Stage::Waiting)) => return Ok(()),
-            Some((place, Stage::Taken)) => self.lanes.mark(place),
-            Some((place, Stage::Again)) => self.lanes.mark(place),
-            Some((_, Stage::Parked)) => self.lanes.unpark(key),
+            Some((place, KeyStage::Gone)) => self.lanes.readmit(place)?,
+            Some((_, KeyStage::Waiting)) => return Ok(()),
+            Some((place, KeyStage::Taken)) => self.lanes.mark(place),
+            Some((place, KeyStage::Again)) => self.lanes.mark(place),
+            Some((_, KeyStage::Parked)) => self.lanes.unpark(key),
         }
         Ok(())
     }
@@ -115,7 +115,7 @@ impl Queue {
     pub fn done(&mut self, key: &Key)
         ensures { self.new ≡ finished key.now self.old }
     {
-        match self.lanes.taken_place(&Asked::of(key)) {
+        match self.lanes.taken_place(&AskedKey::of(key)) {
             Some((at, false)) => self.lanes.release(at),
             Some((at, true)) => self.lanes.requeue(at),
             None => {}
@@ -127,7 +127,7 @@ impl Queue {
     pub fn retry_later(&mut self, key: &Key)
         ensures { self.new ≡ put_off key.now self.old }
     {
-        match self.lanes.taken_place(&Asked::of(key)) {
+        match self.lanes.taken_place(&AskedKey::of(key)) {
             Some((at, false)) => self.lanes.park(at),
             Some((at, true)) => self.lanes.requeue(at),
             None => {}

@@ -41,7 +41,7 @@ impl Model for Slot {
 
 impl Slot {
     /// A key of its own, of these parts.
-    pub(crate) fn new(alloc: Global, key: &Asked<'_>) -> Result<Slot, OutOfMemory>
+    pub(crate) fn new(alloc: Global, key: &AskedKey<'_>) -> Result<Slot, OutOfMemory>
         ensures { IfOk result (λ slot. slot ≡ key.now) }
     {
         let own = Key {
@@ -90,13 +90,13 @@ impl Hash for Slot {
 
 /// A key that is asked for by its parts, which another has.
 #[derive(Drop)]
-pub(crate) struct Asked<'q> {
+pub(crate) struct AskedKey<'q> {
     kind: Kind,
     namespace: &'q str,
     name: &'q str,
 }
 
-impl<'q> Model for Asked<'q> {
+impl<'q> Model for AskedKey<'q> {
     ghost use Rattle.kube_objects.specs.declared.key.Key.{Key};
 
     ghost Value = { Key };
@@ -104,11 +104,11 @@ impl<'q> Model for Asked<'q> {
     ghost view = { λ a. record { kind = a.kind; namespace = a.namespace.now; name = a.name.now } };
 }
 
-impl<'q> Asked<'q> {
-    pub(crate) fn of(key: &'q Key) -> Asked<'q>
+impl<'q> AskedKey<'q> {
+    pub(crate) fn of(key: &'q Key) -> AskedKey<'q>
         ensures { result ≡ key.now }
     {
-        Asked {
+        AskedKey {
             kind: key.kind,
             namespace: key.namespace.as_str(),
             name: key.name.as_str(),
@@ -116,11 +116,11 @@ impl<'q> Asked<'q> {
     }
 
     /// The key of the object.
-    pub(crate) fn of_object(object: &'q Object) -> Asked<'q>
+    pub(crate) fn of_object(object: &'q Object) -> AskedKey<'q>
         ensures { result ≡ key_of object.now }
     {
         let meta = meta_of(object);
-        Asked {
+        AskedKey {
             kind: kind_of(object),
             namespace: meta.namespace.as_str(),
             name: meta.name.as_str(),
@@ -137,23 +137,23 @@ impl<'q> Asked<'q> {
     }
 }
 
-impl<'q> PartialEq for Asked<'q> {
+impl<'q> PartialEq for AskedKey<'q> {
     ghost eq = { same_key };
 
     ghost laws = { partial_equiv_from_equiv same_key_equivalence };
 
-    fn eq(&self, other: &Asked<'q>) -> bool {
+    fn eq(&self, other: &AskedKey<'q>) -> bool {
         same_kind(self.kind, other.kind)
             && self.namespace == other.namespace
             && self.name == other.name
     }
 }
 
-impl<'q> Eq for Asked<'q> {
+impl<'q> Eq for AskedKey<'q> {
     ghost laws = { same_key_equivalence };
 }
 
-impl<'q> Hash for Asked<'q> {
+impl<'q> Hash for AskedKey<'q> {
     ghost hash_input = { λ k. fed.u8 (kind_index k.kind) ++ fed.str k.namespace ++ fed.str k.name };
 
     ghost respects_eq = { λ k q e. ap (λ (x : Key). fed.u8 (kind_index x.kind) ++ fed.str x.namespace ++ fed.str x.name) ((same_key-Decides k q).0 e) };
@@ -165,7 +165,7 @@ impl<'q> Hash for Asked<'q> {
     }
 }
 
-impl<'q> Equivalent<Slot> for &Asked<'q> {
+impl<'q> Equivalent<Slot> for &AskedKey<'q> {
     ghost equivalent = { λ q. same_key q.now };
 
     ghost respects_hash = { λ q k e. ap (λ (x : Key). fed.u8 (kind_index x.kind) ++ fed.str x.namespace ++ fed.str x.name) ((same_key-Decides q.now k).0 e) };

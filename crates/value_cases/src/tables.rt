@@ -1,7 +1,7 @@
 //! Lines of decision tables: their rows.
 
 use crate::words::word;
-use case_table::{CaseRow, Need, Table, TableError};
+use case_table::{CaseRow, CaseTable, Need, TableError};
 use plain_data::copies::OutOfMemory;
 use std::alloc::Global;
 
@@ -54,7 +54,7 @@ fn of_two(alloc: Global, error: TableError<2>) -> Result<String, OutOfMemory> {
 }
 
 fn single(alloc: Global, row: &str) -> Result<String, OutOfMemory> {
-    match Table::<1, 1>::new([row_of_one(row, 1)]) {
+    match CaseTable::<1, 1>::new([row_of_one(row, 1)]) {
         Err(error) => of_one(alloc, error),
         Ok(table) => {
             let no = table.pick([false]);
@@ -65,7 +65,7 @@ fn single(alloc: Global, row: &str) -> Result<String, OutOfMemory> {
 }
 
 fn pair(alloc: Global, first: &str, second: &str) -> Result<String, OutOfMemory> {
-    match Table::<1, 2>::new([row_of_one(first, 1), row_of_one(second, 2)]) {
+    match CaseTable::<1, 2>::new([row_of_one(first, 1), row_of_one(second, 2)]) {
         Err(error) => of_one(alloc, error),
         Ok(table) => {
             let no = table.pick([false]);
@@ -77,13 +77,13 @@ fn pair(alloc: Global, first: &str, second: &str) -> Result<String, OutOfMemory>
 
 // Two rows of two conditions.
 fn two(alloc: Global, first: &str, second: &str) -> Result<String, OutOfMemory> {
-    match Table::<2, 2>::new([row_of_two(first, 1), row_of_two(second, 2)]) {
+    match CaseTable::<2, 2>::new([row_of_two(first, 1), row_of_two(second, 2)]) {
         Err(error) => of_two(alloc, error),
         Ok(table) => picks(alloc, &table),
     }
 }
 
-fn picks<const N: usize>(alloc: Global, table: &Table<2, N>) -> Result<String, OutOfMemory> {
+fn picks<const N: usize>(alloc: Global, table: &CaseTable<2, N>) -> Result<String, OutOfMemory> {
     let first = table.pick([false, false]);
     let second = table.pick([false, true]);
     let third = table.pick([true, false]);
@@ -97,7 +97,7 @@ fn three(alloc: Global, first: &str, second: &str, third: &str) -> Result<String
         row_of_two(second, 2),
         row_of_two(third, 3),
     ];
-    match Table::<2, 3>::new(rows) {
+    match CaseTable::<2, 3>::new(rows) {
         Err(error) => of_two(alloc, error),
         Ok(table) => picks(alloc, &table),
     }

@@ -6,7 +6,7 @@ ghost use Rattle.volume_sync.specs.VolumeTable.{free_rows, referred_rows, row, v
 
 use crate::action::VolumeAction;
 use case_table::Need::{Any, No, Yes};
-use case_table::{CaseRow, Need, Table};
+use case_table::{CaseRow, CaseTable, Need};
 
 fn row(needs: [Need; 9], action: VolumeAction) -> CaseRow<9>
     ensures { result ≡ row needs action }
@@ -101,8 +101,8 @@ pub fn volume_rows() -> [CaseRow<9>; 10]
 }
 
 /// The table of these rows.
-pub fn volume_table() -> Table<9, 10>
+pub fn volume_table() -> CaseTable<9, 10>
     ensures { result ≡ volume_rows }
 {
-    Table::exact(volume_rows())
+    CaseTable::exact(volume_rows())
 }

@@ -8,8 +8,8 @@ use Rattle.call_types.specs.declared.reply.Reply.{Reply}
 use Rattle.binder_model.specs.Licence.{Licensed}
 use Rattle.binder_model.specs.Told.{later, newest, object_of, tells_of}
 use Rattle.binder_model.specs.Reading.{Following, Unlisted, ListedAt, following_of}
-use Rattle.informer_cache.specs.declared.cache.Ask.{Ask}
-use Rattle.informer_cache.specs.declared.cache.Ask.TheVariants as asks
+use Rattle.informer_cache.specs.declared.cache.NextRead.{NextRead}
+use Rattle.informer_cache.specs.declared.cache.NextRead.TheVariants as asks
 use Rattle.informer_cache.specs.Cache.{IsTold, ask_from, ask_of, kind_known, watch_from}
 use Rattle.informer_cache.specs.All.{AllKnown, AllStandFor, cache_of}
 use Rattle.informer_cache.proofs.Stands.{quiet_stands, untold_quiet}
@@ -62,7 +62,7 @@ untold_memory s mine e is lost = is ∙ ap (λ b. if b then memory_after s.role 
 
 -- the whole
 
-abbrev is_list : Ask → Bool
+abbrev is_list : NextRead → Bool
 is_list asks.List = true
 is_list (asks.Watch from) = false
 
@@ -104,7 +104,7 @@ module _ (s : ActorState) (mine : List Entry) (e : Entry) (request : Request) (b
       start_read : s.given ≡ Some givens.Start → (k : Kind) → reads_kind k e.request ≡ false
       start_read eg k = start_reads_none s.role.kind s.role.node s.memory e.request k (ap (given_call s) (sym eg) ∙ ask ∙ ap Some (sym asks_it))
 
-      read : (k : Kind) (ask : Ask) → ask_of (cache_of k s.caches) ≡ ask → read_request k ask ≡ request → PassStands s.role (pass_after s.pass (is_passing (passing s) k) request reply) (e ∷ mine)
+      read : (k : Kind) (ask : NextRead) → ask_of (cache_of k s.caches) ≡ ask → read_request k ask ≡ request → PassStands s.role (pass_after s.pass (is_passing (passing s) k) request reply) (e ∷ mine)
       read k asks.List at r =
           let from = (stands.caches.each k).from ∙ ap (λ x. watch_from (following_of mine x)) (stands.caches.kinds k) in
           subst (λ q. PassStands s.role (pass_after s.pass (is_passing (passing s) k) q reply) (e ∷ mine)) r

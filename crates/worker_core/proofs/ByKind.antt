@@ -14,8 +14,8 @@ use Rattle.binder_model.specs.AgentLicence.{epoch_told, last_epoch}
 use Rattle.binder_model.specs.Licence.{Licensed, RowAllows}
 use Rattle.binder_model.specs.Reading.{IsFrom, MayRead, following_of, follows}
 use Rattle.binder_model.specs.Told.{first_some}
-use Rattle.informer_cache.specs.declared.cache.Ask.{Ask}
-use Rattle.informer_cache.specs.declared.cache.Ask.TheVariants as asks
+use Rattle.informer_cache.specs.declared.cache.NextRead.{NextRead}
+use Rattle.informer_cache.specs.declared.cache.NextRead.TheVariants as asks
 use Rattle.model_laws.proofs.Lists.{none_some, one}
 use Rattle.pod_scheduler.specs.Tries.{tries_after, tries_of}
 use Rattle.worker_core.specs.declared.role.Role.{Role}
@@ -141,7 +141,7 @@ tries_are_told role mine is = tries_by role.kind role.node mine is
 -- the licence
 
 -- the row of a read
-pub read_row : (kind : SeatKind) (mine : List Entry) (k : Kind) (ask : Ask) → MayRead kind mine (read_request k ask) → RowAllows kind mine (read_request k ask)
+pub read_row : (kind : SeatKind) (mine : List Entry) (k : Kind) (ask : NextRead) → MayRead kind mine (read_request k ask) → RowAllows kind mine (read_request k ask)
 read_row seats.User mine k ask may = tt
 read_row seats.Binder mine k asks.List may = may
 read_row seats.Binder mine k (asks.Watch from) may = may

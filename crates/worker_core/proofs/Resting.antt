@@ -10,13 +10,13 @@ use Rattle.kube_objects.specs.Bindings.{is_deleting, is_empty, is_ended, is_comp
 use Rattle.kube_objects.specs.Keys.{row_at}
 use Rattle.call_types.specs.declared.request.SeatKind.{SeatKind}
 use Rattle.call_types.specs.declared.request.SeatKind.TheVariants as seats
-use Rattle.binder_machines.specs.declared.decide.First.TheVariants as binder_firsts
+use Rattle.binder_machines.specs.declared.decide.FirstMachine.TheVariants as binder_firsts
 use Rattle.binder_machines.specs.FirstSteps.{IsFirst}
 use Rattle.pod_scheduler.specs.Decisions.{BeginsOn}
 use Rattle.pod_scheduler.specs.declared.tries.Tried.{Tried}
 use Rattle.protect_sync.specs.Decisions.{claim_guard_begins, volume_guard_begins}
 use Rattle.reclaim_ops.specs.Decisions.{claim_begins, volume_begins}
-use Rattle.worker_core.specs.declared.task.First.TheVariants as firsts
+use Rattle.worker_core.specs.declared.task.FirstMachine.TheVariants as firsts
 use Rattle.worker_core.specs.Memories.{Memory}
 use Rattle.worker_core.specs.Tasks.{IsFirstOf, claim_guard_first, ops_first, volume_guard_first}
 

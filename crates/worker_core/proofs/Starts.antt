@@ -12,8 +12,8 @@ use Rattle.call_types.specs.declared.request.SeatKind.TheVariants as seats
 use Rattle.call_types.specs.declared.reply.MountRow.{MountRow}
 use Rattle.binder_model.specs.AgentLicence.{epoch_in, last_epoch}
 use Rattle.binder_model.specs.Told.{first_some}
-use Rattle.informer_cache.specs.declared.cache.Ask.{Ask}
-use Rattle.informer_cache.specs.declared.cache.Ask.TheVariants as asks
+use Rattle.informer_cache.specs.declared.cache.NextRead.{NextRead}
+use Rattle.informer_cache.specs.declared.cache.NextRead.TheVariants as asks
 use Rattle.informer_cache.specs.All.{all_objects, cache_of}
 use Rattle.informer_cache.specs.Cache.{ask_of}
 use Rattle.model_laws.proofs.Lists.{one, none_some}
@@ -65,7 +65,7 @@ task_takes_none node (tasks.Provision op) r is e = absurd (true≢false (sym (ap
 task_takes_none node (tasks.Erase op) r is e = absurd (true≢false (sym (ap is_agent is)))
 task_takes_none node (tasks.Schedule op) r is e = absurd (true≢false (sym (ap is_agent is)))
 
-pub read_takes_none : (node : List ℕ) (kind : Kind) (ask : Ask) → is_take_of node (read_request kind ask) ≡ false
+pub read_takes_none : (node : List ℕ) (kind : Kind) (ask : NextRead) → is_take_of node (read_request kind ask) ≡ false
 read_takes_none node kind asks.List = refl
 read_takes_none node kind (asks.Watch from) = refl
 

@@ -9,8 +9,8 @@ use Rattle.call_types.specs.declared.request.Request.{Request}
 use Rattle.call_types.specs.declared.request.Request.TheVariants as requests
 use Rattle.call_types.specs.declared.request.SeatKind.{SeatKind}
 use Rattle.call_types.specs.declared.request.SeatKind.TheVariants as seats
-use Rattle.informer_cache.specs.declared.cache.Ask.{Ask}
-use Rattle.informer_cache.specs.declared.cache.Ask.TheVariants as asks
+use Rattle.informer_cache.specs.declared.cache.NextRead.{NextRead}
+use Rattle.informer_cache.specs.declared.cache.NextRead.TheVariants as asks
 use Rattle.informer_cache.specs.Cache.{ask_of}
 use Rattle.informer_cache.specs.All.{AllKnown, cache_of}
 use Rattle.sync_queue.specs.Work.{Work}
@@ -36,7 +36,7 @@ pub record ActorState : Type 0 where
   pub given : Option Given
 
 -- the list of a kind, or the watch of it, as the cache asks it
-abbrev pub read_request : Kind → Ask → Request
+abbrev pub read_request : Kind → NextRead → Request
 read_request kind asks.List = requests.List kind None
 read_request kind (asks.Watch from) = requests.Watch kind from
 

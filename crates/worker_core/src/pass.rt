@@ -9,7 +9,7 @@ ghost use Rattle.worker_core.specs.Turns.{first_unlisted, is_listed};
 use crate::turn::Pass;
 use call_types::reply::Reply;
 use call_types::request::Request;
-use informer_cache::cache::Ask;
+use informer_cache::cache::NextRead;
 use informer_cache::caches::Caches;
 use kube_types::key::same_kind;
 use kube_types::parts::Kind;
@@ -18,8 +18,8 @@ fn is_listed(caches: &Caches, kind: Kind) -> bool
     ensures { result ≡ is_listed caches.now kind }
 {
     match caches.ask(kind) {
-        Ask::List => false,
-        Ask::Watch { from: _ } => true,
+        NextRead::List => false,
+        NextRead::Watch { from: _ } => true,
     }
 }
 
@@ -40,11 +40,11 @@ pub(crate) fn read_of_kind(caches: &Caches, kind: Kind) -> Request
     ensures { result ≡ read_of_kind caches.now kind }
 {
     match caches.ask(kind) {
-        Ask::List => Request::List {
+        NextRead::List => Request::List {
             kind,
             namespace: None,
         },
-        Ask::Watch { from } => Request::Watch { kind, from },
+        NextRead::Watch { from } => Request::Watch { kind, from },
     }
 }
 

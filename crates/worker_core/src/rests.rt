@@ -7,13 +7,13 @@ ghost use Rattle.std.specs.Option.{option_copied};
 ghost use Rattle.kube_objects.specs.declared.key.Key.{Key};
 ghost use Rattle.kube_objects.specs.declared.objects.Object.{Object};
 ghost use Rattle.kube_objects.specs.Keys.{row_at};
-ghost use Rattle.binder_machines.specs.declared.decide.First.TheVariants as binder_firsts;
+ghost use Rattle.binder_machines.specs.declared.decide.FirstMachine.TheVariants as binder_firsts;
 ghost use Rattle.binder_machines.specs.FirstSteps.{IsFirst};
 ghost use Rattle.pod_scheduler.specs.Decisions.{BeginsOn};
 ghost use Rattle.pod_scheduler.specs.declared.tries.Tried.{Tried};
 ghost use Rattle.protect_sync.specs.Decisions.{claim_guard_begins, volume_guard_begins};
 ghost use Rattle.reclaim_ops.specs.Decisions.{claim_begins, volume_begins};
-ghost use Rattle.worker_core.specs.declared.task.First.TheVariants as firsts;
+ghost use Rattle.worker_core.specs.declared.task.FirstMachine.TheVariants as firsts;
 ghost use Rattle.worker_core.specs.Memories.{Memory};
 ghost use Rattle.worker_core.specs.Tasks.{IsFirstOf, claim_guard_first, ops_first, volume_guard_first};
 

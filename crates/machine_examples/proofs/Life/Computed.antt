@@ -17,8 +17,8 @@ use Rattle.call_types.specs.declared.request.SeatKind.TheVariants as seats
 use Rattle.binder_model.specs.BinderDue.{claim_with}
 use Rattle.binder_model.specs.Told.{Telling, later, listing, newest, object_of}
 use Rattle.volume_sync.specs.VolumeDecision.{volume_decision}
-use Rattle.binder_machines.specs.declared.decide.First.{First as BinderFirst}
-use Rattle.binder_machines.specs.declared.decide.First.TheVariants as binder_firsts
+use Rattle.binder_machines.specs.declared.decide.FirstMachine.{FirstMachine as BinderFirst}
+use Rattle.binder_machines.specs.declared.decide.FirstMachine.TheVariants as binder_firsts
 use Rattle.binder_machines.specs.declared.machine.Machine.{Machine}
 use Rattle.binder_machines.specs.declared.machine.Machine.TheVariants.{Frees, ReadsClaim}
 use Rattle.binder_machines.specs.FirstSteps.{IsFirst, volume_first}

@@ -4,15 +4,15 @@ use Rattle.std.specs.Prelude.{List, [], ◌∷◌, Some}
 use Rattle.kube_parts.specs.declared.parts.VolumePhase.TheVariants as volumes
 use Rattle.kube_objects.specs.declared.objects.Object.{Object}
 use Rattle.kube_objects.specs.declared.objects.Object.TheVariants.{Volume, Claim}
-use Rattle.binder_machines.specs.declared.decide.First.{First}
-use Rattle.binder_machines.specs.declared.decide.First.TheVariants.{Drops, Queues, Begins}
+use Rattle.binder_machines.specs.declared.decide.FirstMachine.{FirstMachine}
+use Rattle.binder_machines.specs.declared.decide.FirstMachine.TheVariants.{Drops, Queues, Begins}
 use Rattle.binder_machines.specs.declared.machine.Machine.TheVariants.{Frees, MarksBound, ReadsClaim, Releases, Unbinds, ReadsVolume, Loses}
 use Rattle.binder_machines.specs.FirstSteps.{IsFirst}
 use Rattle.model_examples.specs.Samples.{a, bound_a, bound_c, bound_for_other, c, elsewhere_c, here_c, in_phase, key_c, nameless_c, other_c, prebound_a, released_a, taken_a}
 use Rattle.model_examples.specs.BinderReleases.{reclaimed_a}
 
 -- where the look-up shows these objects, this is done about the object
-abbrev pub On : List Object → Object → First → Type 0
+abbrev pub On : List Object → Object → FirstMachine → Type 0
 On rows o first = IsFirst rows (Some o) first
 
 pub record VolumeExamples : Type 0 where

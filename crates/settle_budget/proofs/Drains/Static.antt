@@ -15,8 +15,8 @@ use Rattle.call_types.specs.declared.setup.Setup.{Setup}
 use Rattle.binder_model.specs.Promises.{IsRunOf}
 use Rattle.binder_model.specs.Provisioning.{provisions}
 use Rattle.binder_model.specs.Told.{ToldObject, own}
-use Rattle.informer_cache.specs.declared.cache.Ask.{Ask}
-use Rattle.informer_cache.specs.declared.cache.Ask.TheVariants as asks
+use Rattle.informer_cache.specs.declared.cache.NextRead.{NextRead}
+use Rattle.informer_cache.specs.declared.cache.NextRead.TheVariants as asks
 use Rattle.informer_cache.specs.All.{all_objects, cache_of}
 use Rattle.informer_cache.specs.Cache.{ask_of}
 use Rattle.model_laws.specs.Stood.{Stood}
@@ -148,7 +148,7 @@ module _ (setup : Setup) (seat : ℕ) (x : ActorState) (request : Request) (repl
   told_late : ToldNoneLate (own seat h)
   told_late class told = late class (told_is_true setup h seat (Class class) (runs_are_histories setup h (older_run setup (told_entry seat x request reply ∷ []) h called.run).run) told)
 
-  read_none : (k : Kind) (a : Ask) → selects_node seats.Scheduler (read_request k a) ≡ 0
+  read_none : (k : Kind) (a : NextRead) → selects_node seats.Scheduler (read_request k a) ≡ 0
   read_none k asks.List = refl
   read_none k (asks.Watch from) = refl
 

@@ -8,8 +8,8 @@ use Rattle.call_types.specs.declared.request.Request.{Request}
 use Rattle.call_types.specs.declared.request.Request.TheVariants as requests
 use Rattle.call_types.specs.declared.request.SeatKind.{SeatKind}
 use Rattle.call_types.specs.declared.request.SeatKind.TheVariants as seats
-use Rattle.informer_cache.specs.declared.cache.Ask.{Ask}
-use Rattle.informer_cache.specs.declared.cache.Ask.TheVariants as asks
+use Rattle.informer_cache.specs.declared.cache.NextRead.{NextRead}
+use Rattle.informer_cache.specs.declared.cache.NextRead.TheVariants as asks
 use Rattle.informer_cache.specs.All.{AllKnown, cache_of}
 use Rattle.informer_cache.specs.Cache.{ask_of}
 use Rattle.model_laws.proofs.Lists.{none_some, one}
@@ -54,7 +54,7 @@ start_is_read seats.VolumeProtect node m request e = none_some e
 pub kind_is_read : (caches : AllKnown) (kind : Kind) → is_own_read (read_of_kind caches kind) ≡ true
 kind_is_read caches kind = by (ask_of (cache_of kind caches))
   where
-    by : (a : Ask) → is_own_read (read_request kind a) ≡ true
+    by : (a : NextRead) → is_own_read (read_request kind a) ≡ true
     by asks.List = refl
     by (asks.Watch from) = refl
 

@@ -14,8 +14,8 @@ use Rattle.call_types.specs.declared.request.SeatKind.{SeatKind}
 use Rattle.call_types.specs.declared.request.SeatKind.TheVariants as seats
 use Rattle.binder_model.specs.AgentLicence.{has_row}
 use Rattle.binder_model.specs.Reading.{follows}
-use Rattle.binder_machines.specs.declared.decide.First.{First as BinderFirst}
-use Rattle.binder_machines.specs.declared.decide.First.TheVariants as binder_firsts
+use Rattle.binder_machines.specs.declared.decide.FirstMachine.{FirstMachine as BinderFirst}
+use Rattle.binder_machines.specs.declared.decide.FirstMachine.TheVariants as binder_firsts
 use Rattle.binder_machines.specs.declared.machine.Machine.{Machine}
 use Rattle.binder_machines.specs.declared.machine.Machine.TheVariants.{ReadsClaim, Unbinds, ReadsVolume}
 use Rattle.binder_machines.specs.FirstSteps.{IsFirst}

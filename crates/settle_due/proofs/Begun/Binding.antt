@@ -22,11 +22,11 @@ use Rattle.informer_cache.specs.All.{all_objects}
 use Rattle.model_laws.proofs.Histories.{rows_stand_in_order}
 use Rattle.claim_sync.specs.ClaimDecision.{claim_decision}
 use Rattle.volume_sync.specs.VolumeDecision.{volume_decision}
-use Rattle.binder_machines.specs.declared.decide.First.TheVariants as binder_firsts
+use Rattle.binder_machines.specs.declared.decide.FirstMachine.TheVariants as binder_firsts
 use Rattle.binder_machines.specs.declared.machine.Machine.{Machine}
 use Rattle.binder_machines.specs.FirstSteps.{IsClaimFirst, IsFirst, volume_first}
 use Rattle.worker_core.specs.declared.role.Role.{Role}
-use Rattle.worker_core.specs.declared.task.First.TheVariants as firsts
+use Rattle.worker_core.specs.declared.task.FirstMachine.TheVariants as firsts
 use Rattle.worker_core.specs.declared.task.Task.{Task}
 use Rattle.worker_core.specs.declared.task.Task.TheVariants as tasks
 use Rattle.worker_core.specs.declared.task.Under.{Under}

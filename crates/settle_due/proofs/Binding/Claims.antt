@@ -43,8 +43,8 @@ use Rattle.volume_index.specs.VolumeIndex.{as_volume}
 use Rattle.claim_sync.specs.declared.action.ClaimStep.{ClaimStep}
 use Rattle.claim_sync.specs.declared.action.ClaimStep.TheVariants as claim_steps
 use Rattle.claim_sync.specs.ClaimDecision.{IsVolumeFor, claim_decision, completed_step, may_assign, named_step, named_volume, read_step, unless_lost, unnamed_step}
-use Rattle.binder_machines.specs.declared.decide.First.{First as BinderFirst}
-use Rattle.binder_machines.specs.declared.decide.First.TheVariants as binder_firsts
+use Rattle.binder_machines.specs.declared.decide.FirstMachine.{FirstMachine as BinderFirst}
+use Rattle.binder_machines.specs.declared.decide.FirstMachine.TheVariants as binder_firsts
 use Rattle.binder_machines.specs.declared.machine.Machine.{Machine}
 use Rattle.binder_machines.specs.declared.machine.Machine.TheVariants as machines
 use Rattle.binder_machines.specs.FirstSteps.{IsAssignmentOf, IsBindingTo, IsClaimFirst, IsFirst, lost_for}

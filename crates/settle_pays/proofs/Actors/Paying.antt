@@ -18,11 +18,11 @@ use Rattle.binder_model.specs.World.{world}
 use Rattle.informer_cache.specs.All.{all_objects}
 use Rattle.claim_sync.specs.ClaimDecision.{claim_decision}
 use Rattle.volume_sync.specs.VolumeDecision.{volume_decision}
-use Rattle.binder_machines.specs.declared.decide.First.TheVariants as binder_firsts
+use Rattle.binder_machines.specs.declared.decide.FirstMachine.TheVariants as binder_firsts
 use Rattle.binder_machines.specs.declared.machine.Machine.{Machine}
 use Rattle.binder_machines.specs.FirstSteps.{IsClaimFirst, IsFirst, volume_first}
 use Rattle.worker_core.specs.declared.role.Role.{Role}
-use Rattle.worker_core.specs.declared.task.First.TheVariants as firsts
+use Rattle.worker_core.specs.declared.task.FirstMachine.TheVariants as firsts
 use Rattle.worker_core.specs.declared.task.Under.{Under}
 use Rattle.worker_core.specs.States.{ActorState}
 use Rattle.worker_core.specs.Tasks.{GivesCall, IsBinderFirst, IsFirstOf}

@@ -28,7 +28,7 @@ use Rattle.binder_model.specs.World.{effect, world}
 use Rattle.model_laws.proofs.Lists.{none_some, one}
 use Rattle.volume_sync.specs.declared.action.VolumeAction.TheVariants as actions
 use Rattle.volume_sync.specs.VolumeDecision.{claim_by_reference, claim_by_uid, claim_of, claimed_action, free_action, or_else, referred_action, volume_decision}
-use Rattle.binder_machines.specs.declared.decide.First.TheVariants as binder_firsts
+use Rattle.binder_machines.specs.declared.decide.FirstMachine.TheVariants as binder_firsts
 use Rattle.binder_machines.specs.declared.machine.Machine.{Machine}
 use Rattle.binder_machines.specs.declared.machine.Machine.TheVariants as machines
 use Rattle.binder_machines.specs.FirstSteps.{queue_of, volume_first}

@@ -11,8 +11,8 @@ use Rattle.call_types.specs.declared.request.SeatKind.TheVariants as seats
 use Rattle.call_types.specs.declared.setup.Setup.{Setup}
 use Rattle.binder_model.specs.Promises.{IsRunOf, most_entries}
 use Rattle.binder_model.specs.World.{World, effect, reply_to, world}
-use Rattle.informer_cache.specs.declared.cache.Ask.{Ask}
-use Rattle.informer_cache.specs.declared.cache.Ask.TheVariants as asks
+use Rattle.informer_cache.specs.declared.cache.NextRead.{NextRead}
+use Rattle.informer_cache.specs.declared.cache.NextRead.TheVariants as asks
 use Rattle.informer_cache.specs.All.{AllKnown, all_objects, cache_of}
 use Rattle.informer_cache.specs.Cache.{ask_of}
 use Rattle.model_laws.proofs.Growing.{older_parts_are_runs, runs_are_histories}
@@ -62,7 +62,7 @@ module _ (setup : Setup) (w : World) where
   pub read_never : (caches : AllKnown) (k : Kind) (kind : SeatKind) → NeverLasts setup w kind (read_of_kind caches k)
   read_never caches k kind = by (ask_of (cache_of k caches))
     where
-      by : (a : Ask) → NeverLasts setup w kind (read_request k a)
+      by : (a : NextRead) → NeverLasts setup w kind (read_request k a)
       by asks.List = list_never setup w kind k None
       by (asks.Watch from) = watch_never setup w kind k from
 

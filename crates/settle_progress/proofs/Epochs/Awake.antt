@@ -26,8 +26,8 @@ use Rattle.binder_model.specs.Store.{at_version}
 use Rattle.binder_model.specs.Told.{own}
 use Rattle.binder_model.specs.Watching.{oldest}
 use Rattle.binder_model.specs.World.{IsHistory, World, base, effect, on_devices, reply_to, watch, world}
-use Rattle.informer_cache.specs.declared.cache.Ask.{Ask}
-use Rattle.informer_cache.specs.declared.cache.Ask.TheVariants as asks
+use Rattle.informer_cache.specs.declared.cache.NextRead.{NextRead}
+use Rattle.informer_cache.specs.declared.cache.NextRead.TheVariants as asks
 use Rattle.informer_cache.specs.All.{AllKnown, all_objects, cache_of}
 use Rattle.informer_cache.specs.Cache.{ask_of}
 use Rattle.model_laws.proofs.Lists.{none_some, one}
@@ -245,7 +245,7 @@ module _ (setup : Setup) (h : List Entry) (seat : ℕ) (node : List ℕ) (curren
   task_fresh (tasks.Erase op) request is on kept e = absurd (true≢false (sym (ap is_agent is)))
   task_fresh (tasks.Schedule op) request is on kept e = absurd (true≢false (sym (ap is_agent is)))
 
-  read_fresh : (kind : Kind) (ask : Ask) → IsFresh setup (world setup h) (read_request kind ask)
+  read_fresh : (kind : Kind) (ask : NextRead) → IsFresh setup (world setup h) (read_request kind ask)
   read_fresh kind asks.List = list_fresh setup (world setup h) kind
   read_fresh kind (asks.Watch from) = watch_fresh setup (world setup h) kind from
 

@@ -17,8 +17,8 @@ use Rattle.binder_model.specs.Devices.{device_answer, epoch_of, take_node}
 use Rattle.binder_model.specs.Licence.{Licensed}
 use Rattle.binder_model.specs.Told.{first_some, own}
 use Rattle.binder_model.specs.World.{IsHistory, OnDevices, World, effect, on_devices, refused_rule, reply_to, world, world_after}
-use Rattle.informer_cache.specs.declared.cache.Ask.{Ask}
-use Rattle.informer_cache.specs.declared.cache.Ask.TheVariants as asks
+use Rattle.informer_cache.specs.declared.cache.NextRead.{NextRead}
+use Rattle.informer_cache.specs.declared.cache.NextRead.TheVariants as asks
 use Rattle.informer_cache.specs.All.{cache_of}
 use Rattle.informer_cache.specs.Cache.{ask_of}
 use Rattle.model_laws.proofs.Evidence.{own_mine}
@@ -196,7 +196,7 @@ task_takes_none node (tasks.Provision op) r is e = absurd (true≢false (sym (ap
 task_takes_none node (tasks.Erase op) r is e = absurd (true≢false (sym (ap is_agent is)))
 task_takes_none node (tasks.Schedule op) r is e = absurd (true≢false (sym (ap is_agent is)))
 
-read_takes_none : (node : List ℕ) (kind : Kind) (ask : Ask) → is_take_of node (read_request kind ask) ≡ false
+read_takes_none : (node : List ℕ) (kind : Kind) (ask : NextRead) → is_take_of node (read_request kind ask) ≡ false
 read_takes_none node kind asks.List = refl
 read_takes_none node kind (asks.Watch from) = refl
 

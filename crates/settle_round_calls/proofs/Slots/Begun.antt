@@ -15,8 +15,8 @@ use Rattle.call_types.specs.declared.reply.MountRow.{MountRow}
 use Rattle.call_types.specs.declared.request.SeatKind.{SeatKind}
 use Rattle.call_types.specs.declared.request.SeatKind.TheVariants as seats
 use Rattle.binder_model.specs.Reading.{follows}
-use Rattle.binder_machines.specs.declared.decide.First.{First as BinderFirst}
-use Rattle.binder_machines.specs.declared.decide.First.TheVariants as binder_firsts
+use Rattle.binder_machines.specs.declared.decide.FirstMachine.{FirstMachine as BinderFirst}
+use Rattle.binder_machines.specs.declared.decide.FirstMachine.TheVariants as binder_firsts
 use Rattle.binder_machines.specs.declared.machine.Machine.{Machine}
 use Rattle.binder_machines.specs.FirstSteps.{IsClaimFirst, IsFirst, lost_for}
 use Rattle.claim_sync.specs.ClaimDecision.{claim_decision}
@@ -32,7 +32,7 @@ use Rattle.protect_sync.specs.declared.volumes.VolumeGuardOp.{VolumeGuardOp}
 use Rattle.reclaim_ops.specs.declared.erase.EraseOp.{EraseOp}
 use Rattle.reclaim_ops.specs.declared.provision.ProvisionOp.{ProvisionOp}
 use Rattle.reclaim_ops.specs.Decisions.{claim_begins, volume_begins, volume_for}
-use Rattle.worker_core.specs.declared.task.First.TheVariants as firsts
+use Rattle.worker_core.specs.declared.task.FirstMachine.TheVariants as firsts
 use Rattle.worker_core.specs.declared.task.Task.{Task}
 use Rattle.worker_core.specs.declared.task.Task.TheVariants as tasks
 use Rattle.worker_core.specs.Memories.{Memory}

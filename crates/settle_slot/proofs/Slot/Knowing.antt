@@ -14,8 +14,8 @@ use Rattle.binder_model.specs.Licence.{Licensed}
 use Rattle.binder_model.specs.Told.{own}
 use Rattle.binder_model.specs.Watching.{most_events}
 use Rattle.binder_model.specs.World.{IsHistory}
-use Rattle.informer_cache.specs.declared.cache.Ask.{Ask}
-use Rattle.informer_cache.specs.declared.cache.Ask.TheVariants as asks
+use Rattle.informer_cache.specs.declared.cache.NextRead.{NextRead}
+use Rattle.informer_cache.specs.declared.cache.NextRead.TheVariants as asks
 use Rattle.informer_cache.specs.All.{AllKnown, cache_of}
 use Rattle.informer_cache.specs.Cache.{ask_of}
 use Rattle.model_laws.proofs.Lists.{one}
@@ -95,7 +95,7 @@ module _ (setup : Setup) (seat : ℕ) (role : Role) (pass : Pass) (h : List Entr
       → KnowsBehind setup seat role (pass_after pass (is_passing (kind_in_order role pass.behind) kind) e.request e.reply) (e ∷ h)
   read caches kind is starts = by (ask_of (cache_of kind caches)) is
     where
-      by : (a : Ask) → e.request ≡ read_request kind a → KnowsBehind setup seat role (pass_after pass (is_passing (kind_in_order role pass.behind) kind) e.request e.reply) (e ∷ h)
+      by : (a : NextRead) → e.request ≡ read_request kind a → KnowsBehind setup seat role (pass_after pass (is_passing (kind_in_order role pass.behind) kind) e.request e.reply) (e ∷ h)
       by asks.List at = subst (λ r. KnowsBehind setup seat role (pass_after pass (is_passing (kind_in_order role pass.behind) kind) r e.reply) (e ∷ h)) (sym at) kept
       by (asks.Watch from) at = subst (λ r. KnowsBehind setup seat role
           (pass_after pass (is_passing (kind_in_order role pass.behind) kind) r e.reply) (e ∷ h)) (sym at) (watched kind from at (starts from at) e.reply refl)

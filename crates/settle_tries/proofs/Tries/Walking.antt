@@ -37,8 +37,8 @@ use Rattle.settle_slot.proofs.Slot.Knowing.{sees, told_knows}
 use Rattle.settle_slot.proofs.Slot.Slots.{ByCall, ByNone, Called, NotCalled, Stopped, StopsBy, asks_under, decides_gives, decides_stops, none_told, older, run_older, stops_by, told_under}
 use Rattle.kube_objects.proofs.SameKeys.{key_tells}
 use Rattle.call_types.specs.declared.request.SeatKind.TheVariants as seats
-use Rattle.informer_cache.specs.declared.cache.Ask.{Ask}
-use Rattle.informer_cache.specs.declared.cache.Ask.TheVariants as asks
+use Rattle.informer_cache.specs.declared.cache.NextRead.{NextRead}
+use Rattle.informer_cache.specs.declared.cache.NextRead.TheVariants as asks
 use Rattle.informer_cache.specs.Cache.{ask_of}
 use Rattle.model_laws.proofs.Histories.{rows_stand_in_order}
 use Rattle.safety_law.specs.Invariant.Writes.{Writes}
@@ -137,7 +137,7 @@ module _ (setup : Setup) (seat : ℕ) (role : Role) (kind : role.kind ≡ seats.
     Reads : (world setup (e ∷ h)).store ≡ (world setup h).store → EntrySo start e h
     Calls : (c : IsCallOf setup seat role start e h) → c.decided.first.key ≢ key → EntrySo start e h
 
-  no_write : (w : World) (k : SeatKind) (x : Kind) (a : Ask) (o : Object) → Writes w k (read_request x a) o → ⊥
+  no_write : (w : World) (k : SeatKind) (x : Kind) (a : NextRead) (o : Object) → Writes w k (read_request x a) o → ⊥
   no_write w k x asks.List o writes = writes
   no_write w k x (asks.Watch from) o writes = writes
 

@@ -16,8 +16,8 @@ use Rattle.binder_model.specs.Promises.{IsRunOf}
 use Rattle.binder_model.specs.Reading.{follows}
 use Rattle.binder_model.specs.Told.{own}
 use Rattle.binder_model.specs.World.{IsHistory, World, effect, reply_to, world, world_after}
-use Rattle.informer_cache.specs.declared.cache.Ask.{Ask}
-use Rattle.informer_cache.specs.declared.cache.Ask.TheVariants as asks
+use Rattle.informer_cache.specs.declared.cache.NextRead.{NextRead}
+use Rattle.informer_cache.specs.declared.cache.NextRead.TheVariants as asks
 use Rattle.informer_cache.specs.All.{AllKnown, all_objects, cache_of}
 use Rattle.informer_cache.specs.Cache.{ask_of}
 use Rattle.model_laws.proofs.Growing.{runs_are_histories}
@@ -60,7 +60,7 @@ data CallsSo (rows : List Object) (before : ℕ) (given : ActorState) (request :
 read_is : (caches : AllKnown) (k : Kind) → IsRead (read_of_kind caches k)
 read_is caches k = by (ask_of (cache_of k caches))
   where
-    by : (a : Ask) → IsRead (read_request k a)
+    by : (a : NextRead) → IsRead (read_request k a)
     by asks.List = tt
     by (asks.Watch from) = tt
 

@@ -18,8 +18,8 @@ use Rattle.binder_model.specs.Imports.{ImportsPass}
 use Rattle.binder_model.specs.Promises.{IsRunOf}
 use Rattle.binder_model.specs.Watching.{oldest, told_events}
 use Rattle.binder_model.specs.World.{Effect, IsHistory, OnStore, World, base, effect, on_devices, reply_to, watch, world, world_after}
-use Rattle.informer_cache.specs.declared.cache.Ask.{Ask}
-use Rattle.informer_cache.specs.declared.cache.Ask.TheVariants as asks
+use Rattle.informer_cache.specs.declared.cache.NextRead.{NextRead}
+use Rattle.informer_cache.specs.declared.cache.NextRead.TheVariants as asks
 use Rattle.informer_cache.specs.All.{AllKnown, all_objects, cache_of}
 use Rattle.informer_cache.specs.Cache.{ask_of}
 use Rattle.model_laws.proofs.Growing.{runs_are_histories}
@@ -60,7 +60,7 @@ module _ (setup : Setup) (w : World) (kind : SeatKind) where
       else if gone then OnStore (Says (replies.Refused (refusals.Gone (oldest (base setup) w.store.version))))
       else OnStore (Says (replies.Events (told_events k from w.store.version w.log)))
 
-  read_stays : (k : Kind) (a : Ask) → (world_after w (effect setup w kind (read_request k a))).store ≡ w.store
+  read_stays : (k : Kind) (a : NextRead) → (world_after w (effect setup w kind (read_request k a))).store ≡ w.store
   unfolding effect on_devices device_answer outcome list watch world_after after
   read_stays k asks.List = refl
   read_stays k (asks.Watch from) = by (nat_lt w.store.version from) (nat_lt from (oldest (base setup) w.store.version))

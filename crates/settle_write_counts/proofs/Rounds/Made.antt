@@ -33,8 +33,8 @@ use Rattle.binder_model.specs.Reading.{follows}
 use Rattle.binder_model.specs.Store.{at_version, marked_object, with_meta}
 use Rattle.binder_model.specs.Told.{IsNewest, own}
 use Rattle.binder_model.specs.World.{IsHistory, World, effect, world}
-use Rattle.informer_cache.specs.declared.cache.Ask.{Ask}
-use Rattle.informer_cache.specs.declared.cache.Ask.TheVariants as asks
+use Rattle.informer_cache.specs.declared.cache.NextRead.{NextRead}
+use Rattle.informer_cache.specs.declared.cache.NextRead.TheVariants as asks
 use Rattle.informer_cache.specs.All.{AllKnown, cache_of}
 use Rattle.informer_cache.specs.Cache.{ask_of}
 use Rattle.model_laws.proofs.Growing.{runs_are_histories}
@@ -263,7 +263,7 @@ module _ (setup : Setup) (seat : ℕ) (x : ActorState) (request : Request) (repl
   create_over : x.role.kind ≡ seats.Ops → is_create request ≡ true → IsOrdered x → passing x ≡ None
   create_over kind is ordered = by x.given refl ordered
     where
-      read : (k : Kind) (a : Ask) → read_request k a ≡ request → passing x ≡ None
+      read : (k : Kind) (a : NextRead) → read_request k a ≡ request → passing x ≡ None
       read k asks.List e = absurd (true≢false (sym (ap is_create e ∙ is)))
       read k (asks.Watch from) e = absurd (true≢false (sym (ap is_create e ∙ is)))
 

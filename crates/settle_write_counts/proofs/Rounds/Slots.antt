@@ -39,8 +39,8 @@ use Rattle.worker_core.proofs.Machines.{KeepsUnder, keeps_under}
 use Rattle.worker_core.proofs.Owning.{stood}
 use Rattle.actor_rounds.specs.Rounds.{Lets, Runs, told_entry}
 use Rattle.actor_rounds.proofs.RunFacts.{run_grows}
-use Rattle.informer_cache.specs.declared.cache.Ask.{Ask}
-use Rattle.informer_cache.specs.declared.cache.Ask.TheVariants as asks
+use Rattle.informer_cache.specs.declared.cache.NextRead.{NextRead}
+use Rattle.informer_cache.specs.declared.cache.NextRead.TheVariants as asks
 use Rattle.informer_cache.specs.All.{cache_of}
 use Rattle.informer_cache.specs.Cache.{ask_of}
 use Rattle.kube_parts.specs.declared.parts.Kind.{Kind}
@@ -214,7 +214,7 @@ module _ (setup : Setup) (seat : ℕ) (x : ActorState) (request : Request) (repl
           let asked_it : u.call ≡ request = one u.call request c in
           subst (λ r. under_fails (under_after u reply) + phase_written r ≤ under_fails (Some u) + erase_failed r reply) asked_it (fails_go u reply (kept.of_kind ∙ kind) kept.call)
 
-      read : (k : Kind) (a : Ask) (r : Request) → read_request k a ≡ r → phase_written r ≡ 0
+      read : (k : Kind) (a : NextRead) (r : Request) → read_request k a ≡ r → phase_written r ≡ 0
       read k asks.List r e = sym (ap phase_written e)
       read k (asks.Watch from) r e = sym (ap phase_written e)
 

@@ -95,8 +95,8 @@ use Rattle.binder_machines.specs.Evidence.{MachineKeeps, ToldThis, ToldThisClaim
 use Rattle.binder_machines.specs.Machines.{assigned, call_of, read_of, write_class, write_lost}
 use Rattle.binder_machines.proofs.Tests.{empty_is}
 use Rattle.licence_rows.proofs.NewestKeys.{newest_keyed}
-use Rattle.informer_cache.specs.declared.cache.Ask.{Ask}
-use Rattle.informer_cache.specs.declared.cache.Ask.TheVariants as asks
+use Rattle.informer_cache.specs.declared.cache.NextRead.{NextRead}
+use Rattle.informer_cache.specs.declared.cache.NextRead.TheVariants as asks
 use Rattle.informer_cache.specs.All.{cache_of}
 use Rattle.informer_cache.specs.Cache.{ask_of}
 use Rattle.protect_sync.specs.ClaimGuards.{claim_guard_call, claim_guard_call_at, claim_write_over, guarded_claim, unguarded_claim}
@@ -689,7 +689,7 @@ start_writes w by seats.Scheduler node m request o e writes = none_some e
 start_writes w by seats.ClaimProtect node m request o e writes = none_some e
 start_writes w by seats.VolumeProtect node m request o e writes = none_some e
 
-read_writes : (w : World) (by : SeatKind) (kind : Kind) (a : Ask) (o : Object) → Writes w by (read_request kind a) o → ⊥
+read_writes : (w : World) (by : SeatKind) (kind : Kind) (a : NextRead) (o : Object) → Writes w by (read_request kind a) o → ⊥
 read_writes w by kind asks.List o writes = writes
 read_writes w by kind (asks.Watch from) o writes = writes
 

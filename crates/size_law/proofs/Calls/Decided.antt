@@ -42,8 +42,8 @@ use Rattle.claim_sync.specs.ClaimDecision.{IsVolumeFor, claim_decision, complete
 use Rattle.claim_sync.specs.declared.action.ClaimStep.{ClaimStep}
 use Rattle.claim_sync.specs.declared.action.ClaimStep.TheVariants as steps
 use Rattle.model_laws.proofs.Lists.{none_some, one}
-use Rattle.binder_machines.specs.declared.decide.First.{First}
-use Rattle.binder_machines.specs.declared.decide.First.TheVariants.{Begins}
+use Rattle.binder_machines.specs.declared.decide.FirstMachine.{FirstMachine}
+use Rattle.binder_machines.specs.declared.decide.FirstMachine.TheVariants.{Begins}
 use Rattle.binder_machines.specs.declared.machine.Machine.{Machine}
 use Rattle.binder_machines.specs.declared.machine.Machine.TheVariants.{Binds}
 use Rattle.binder_machines.specs.FirstSteps.{IsClaimFirst, IsFirst, lost_for, queue_of, volume_first}
@@ -165,7 +165,7 @@ module _ (rows : List Object) (c : ClaimData) (v : VolumeData) (place : ℕ) (th
 
 -- what begins
 
-abbrev machine_in : First → Option Machine
+abbrev machine_in : FirstMachine → Option Machine
 machine_in (Begins machine) = Some machine
 machine_in first = None
 

@@ -14,8 +14,8 @@ use Rattle.binder_model.specs.World.{IsHistory, effect, reply_to, world}
 use Rattle.model_laws.proofs.Lists.{none_some, one}
 use Rattle.binder_machines.specs.declared.machine.Machine.{Machine}
 use Rattle.binder_machines.specs.Machines as binder
-use Rattle.informer_cache.specs.declared.cache.Ask.{Ask}
-use Rattle.informer_cache.specs.declared.cache.Ask.TheVariants as asks
+use Rattle.informer_cache.specs.declared.cache.NextRead.{NextRead}
+use Rattle.informer_cache.specs.declared.cache.NextRead.TheVariants as asks
 use Rattle.informer_cache.specs.Cache.{ask_of}
 use Rattle.informer_cache.specs.All.{AllKnown, AllStandFor, all_objects, cache_of}
 use Rattle.sync_queue.specs.Work.{Work}
@@ -163,7 +163,7 @@ under_gives role (Some u) mine r o way e =
     let k = keeps_under role u mine o way in
     subst (λ kind. GivesFitting kind mine r) k.of_kind (task_gives u.task mine r k.keeps (under_suits role u mine o way) (k.call ∙ e))
 
-read_gives : (kind : Kind) (a : Ask) (mine : List Entry) → GivesSo mine (read_request kind a)
+read_gives : (kind : Kind) (a : NextRead) (mine : List Entry) → GivesSo mine (read_request kind a)
 read_gives kind asks.List mine = tt
 read_gives kind (asks.Watch from) mine = tt
 

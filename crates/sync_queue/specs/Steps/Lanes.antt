@@ -5,15 +5,15 @@ use Rattle.kube_objects.specs.declared.key.Key.{Key}
 use Rattle.std.specs.VecDeque.{deque_len, deque_capacity}
 use Rattle.indexmap.specs.IndexMap.{get, keys}
 use Rattle.sync_queue.specs.declared.lanes.Lanes.{Lanes}
-use Rattle.sync_queue.specs.declared.lanes.Stage.{Stage}
-use Rattle.sync_queue.specs.declared.lanes.Stage.TheVariants.{Waiting, Taken, Again, Parked, Gone}
+use Rattle.sync_queue.specs.declared.lanes.KeyStage.{KeyStage}
+use Rattle.sync_queue.specs.declared.lanes.KeyStage.TheVariants.{Waiting, Taken, Again, Parked, Gone}
 use Rattle.kube_objects.specs.Keys.{same_key}
 use Rattle.sync_queue.specs.Work.{Work, AreOnce}
 use Rattle.sync_queue.specs.Steps.Places.{AreBelow, key_there, keys_at}
 use Rattle.sync_queue.specs.Work.{Taken as TakenKey}
 
 -- tests of a key's stage, None where the map has no such key
-abbrev pub is_waiting : Option Stage → Bool
+abbrev pub is_waiting : Option KeyStage → Bool
 is_waiting None = false
 is_waiting (Some Waiting) = true
 is_waiting (Some Taken) = false
@@ -22,7 +22,7 @@ is_waiting (Some Parked) = false
 is_waiting (Some Gone) = false
 
 -- the key is taken
-abbrev pub is_taken : Option Stage → Bool
+abbrev pub is_taken : Option KeyStage → Bool
 is_taken None = false
 is_taken (Some Waiting) = false
 is_taken (Some Taken) = true
@@ -31,7 +31,7 @@ is_taken (Some Parked) = false
 is_taken (Some Gone) = false
 
 -- the key is taken, and queued again
-abbrev pub is_again : Option Stage → Bool
+abbrev pub is_again : Option KeyStage → Bool
 is_again None = false
 is_again (Some Waiting) = false
 is_again (Some Taken) = false
@@ -40,7 +40,7 @@ is_again (Some Parked) = false
 is_again (Some Gone) = false
 
 -- the key is parked
-abbrev pub is_parked : Option Stage → Bool
+abbrev pub is_parked : Option KeyStage → Bool
 is_parked None = false
 is_parked (Some Waiting) = false
 is_parked (Some Taken) = false
@@ -49,22 +49,22 @@ is_parked (Some Parked) = true
 is_parked (Some Gone) = false
 
 -- the list has the keys whose stage passes the test, each once
-pub record IsLane (test : Option Stage → Bool) (stage : Key → Option Stage) (ks : List Key) : Type 0 where
+pub record IsLane (test : Option KeyStage → Bool) (stage : Key → Option KeyStage) (ks : List Key) : Type 0 where
   pub says : (k : Key) → list_any (same_key k) ks ≡ test (stage k)
   pub once : AreOnce ks
 
 -- each key stands on the list of its stage
-pub record AreLanes (stage : Key → Option Stage) (ws ts ps : List Key) : Type 0 where
+pub record AreLanes (stage : Key → Option KeyStage) (ws ts ps : List Key) : Type 0 where
   pub waiting : IsLane is_waiting stage ws
   pub taken : IsLane is_taken stage ts
   pub parked : IsLane is_parked stage ps
 
 -- the taken keys, each with its mark
-abbrev pub marks : (Key → Option Stage) → List Key → List TakenKey
+abbrev pub marks : (Key → Option KeyStage) → List Key → List TakenKey
 marks stage ks = map (λ k. record { key = k; again = is_again (stage k) }) ks
 
 -- the work that stages and lists stand for
-abbrev pub work_of : (Key → Option Stage) → List Key → List Key → List Key → Work
+abbrev pub work_of : (Key → Option KeyStage) → List Key → List Key → List Key → Work
 work_of stage ws ts ps = record { waiting = ws; taken = marks stage ts; parked = ps }
 
 -- the key that was parked first, where one is
@@ -77,7 +77,7 @@ abbrev pub woken_first : Work → Work
 woken_first w = wake_oldest w.parked w
 
 -- the key alone has another stage
-abbrev pub IsSet : (Key → Option Stage) → Key → Option Stage → (Key → Option Stage) → Type 0
+abbrev pub IsSet : (Key → Option KeyStage) → Key → Option KeyStage → (Key → Option KeyStage) → Type 0
 IsSet old k s new = (q : Key) → new q ≡ (if same_key k q then s else old q)
 
 -- lists of these lengths and capacities have room for all keys each
@@ -87,7 +87,7 @@ pub record HaveRoom (w t p a b c : ℕ) : Type 0 where
   pub parked : w + t + p ≤ c
 
 -- the stage of a key in the map
-abbrev pub stage_in : Lanes → Key → Option Stage
+abbrev pub stage_in : Lanes → Key → Option KeyStage
 stage_in l = get same_key l.stages
 
 -- the key at a place of the map

@@ -4,7 +4,7 @@ use crate::caches::words::{key, keys_line, objects_line};
 use crate::words::word;
 use call_types::reply::{Change, Event, Events, Refusal, Reply};
 use call_types::request::Request;
-use informer_cache::cache::{Ask, Cache};
+use informer_cache::cache::{Cache, NextRead};
 use informer_cache::caches::Caches;
 use kube_types::key::meta_of;
 use kube_types::lookup::Lookup;
@@ -132,10 +132,10 @@ pub fn forget(alloc: Global, caches: &mut Caches, words: &str) -> Result<String,
     word(alloc, "forgotten")
 }
 
-fn ask_line(alloc: Global, ask: Ask) -> Result<String, OutOfMemory> {
+fn ask_line(alloc: Global, ask: NextRead) -> Result<String, OutOfMemory> {
     match ask {
-        Ask::List => word(alloc, "list"),
-        Ask::Watch { from } => Ok(format!(in alloc; "watch {from}")?),
+        NextRead::List => word(alloc, "list"),
+        NextRead::Watch { from } => Ok(format!(in alloc; "watch {from}")?),
     }
 }
 

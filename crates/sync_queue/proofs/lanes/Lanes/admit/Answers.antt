@@ -5,7 +5,7 @@ use Rattle.sync_queue.specs.Steps.Lanes.{stage_in}
 use Rattle.sync_queue.proofs.PlaceMoves.{admit-at}
 use Rattle.std.specs.Map.{keys_of}
 use Rattle.indexmap.proofs.CallerLemmas.{insert_entry-new}
-use Rattle.sync_queue.specs.declared.lanes.Stage.TheVariants.{Waiting}
+use Rattle.sync_queue.specs.declared.lanes.KeyStage.TheVariants.{Waiting}
 use Rattle.sync_queue.specs.Steps.Lanes.{IsSet}
 use Rattle.sync_queue.specs.Work.{queued}
 use Rattle.sync_queue.proofs.MapPlaces.{keys_of_more, length-keys_of}

@@ -3,7 +3,7 @@ use Rattle.indexmap.specs.IndexMap.{get, keys}
 use Rattle.kube_objects.specs.Keys.{same_key}
 use Rattle.sync_queue.specs.Steps.Lanes.{stage_in}
 use Rattle.sync_queue.proofs.PlaceMoves.{readmit-at}
-use Rattle.sync_queue.specs.declared.lanes.Stage.TheVariants.{Gone}
+use Rattle.sync_queue.specs.declared.lanes.KeyStage.TheVariants.{Gone}
 use Rattle.sync_queue.specs.Steps.Lanes.{work_in}
 use Rattle.sync_queue.specs.Steps.Places.{key_there}
 use Rattle.sync_queue.specs.Work.{queued}

@@ -1,5 +1,5 @@
 use Rattle.std.proofs.Common.{◌≡◌, Some, None, refl, sym, ap, ◌∙◌}
-use Rattle.sync_queue.specs.declared.lanes.Stage.TheVariants.{Waiting, Taken, Again, Parked, Gone}
+use Rattle.sync_queue.specs.declared.lanes.KeyStage.TheVariants.{Waiting, Taken, Again, Parked, Gone}
 use Rattle.sync_queue.specs.Steps.Lanes.{keys_in, stage_in, work_in}
 use Rattle.sync_queue.specs.Work.{added, marked, queued}
 use Rattle.sync_queue.proofs.Steps.{added-at, unparked-none}

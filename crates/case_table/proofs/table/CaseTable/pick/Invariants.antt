@@ -1,6 +1,6 @@
 use Rattle.std.proofs.Common.{◌≡◌, drop}
 use Rattle.case_table.specs.Cases.{action_of}
-use Rattle.case_table.proofs.table.Table.pick.Given as goal
+use Rattle.case_table.proofs.table.CaseTable.pick.Given as goal
 
 -- no row fitted so far
 abbrev pub invariant-loop-i : goal.invariant-loop-i

@@ -1,5 +1,5 @@
 use Rattle.std.proofs.Common.{refl}
-use Rattle.evidence_pages.proofs.index.Index.learn.Goals as goal
+use Rattle.evidence_pages.proofs.index.PageIndex.learn.Goals as goal
 
 pub returns : goal.returns
 returns c = λ mine firsts index. record {

@@ -1,7 +1,7 @@
 use Rattle.std.proofs.Common.{refl}
 use Rattle.std.proofs.lemmas.Bool.{false≢true}
 use Rattle.case_table.proofs.Counting.{exact_rows, no_fault}
-use Rattle.case_table.proofs.table.Table.new.Goals as goal
+use Rattle.case_table.proofs.table.CaseTable.new.Goals as goal
 
 pub returns-in-Some-clause-ok : goal.returns-in-Some-clause-ok
 returns-in-Some-clause-ok g c = (λ e cs whole. absurd (false≢true e), λ exact. absurd (no_fault _ _ c.in-Some.ensures.fault exact))
