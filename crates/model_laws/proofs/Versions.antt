@@ -78,7 +78,7 @@ updated_next : (old new : Object) (n : ℕ) → (meta_of (updated_object old new
 unfolding updated_object
 updated_next old new n = ap (λ m. m.version) (meta-with_meta (with_status_of old new) _)
 
-marked_next : (o : Object) (n : ℕ) (moment : List ℕ) → (meta_of (marked_object o n moment)).version ≡ n
+pub marked_next : (o : Object) (n : ℕ) (moment : List ℕ) → (meta_of (marked_object o n moment)).version ≡ n
 unfolding marked_object
 marked_next o n moment = ap (λ m. m.version) (meta-with_meta o _)
 

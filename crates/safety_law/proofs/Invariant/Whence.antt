@@ -18,6 +18,7 @@ use Rattle.model_laws.proofs.Versions.{meta-with_meta}
 use Rattle.model_laws.proofs.Identity.{key-created, key-updated, key-at_version, key-marked, updated_keeps, at_version_keeps, IsVersionOf, status_kept}
 use Rattle.safety_law.specs.Invariant.Writes.{IsCreate, IsUpdate, IsStatus, IsMark, IsBind, IsFinish, WriteOf}
 use Rattle.safety_law.specs.Invariant.Whence.{IsFirst, Keeps, IsNext, Whence}
+use Rattle.model_laws.proofs.Versions.{marked_next as version-marked_object}
 
 kept : {old new : Object} → KeepsIdentity old new → Keeps old new
 kept k = record {
@@ -48,10 +49,6 @@ updated_next s kind new given o u = subst (IsNext s u.old) (sym u.is)
 version-at : (o : Object) (n : ℕ) → (meta_of (at_version o n)).version ≡ n
 unfolding at_version
 version-at o n = ap (λ m. m.version) (meta-with_meta o _)
-
-version-marked_object : (o : Object) (n : ℕ) (moment : List ℕ) → (meta_of (marked_object o n moment)).version ≡ n
-unfolding marked_object
-version-marked_object o n moment = ap (λ m. m.version) (meta-with_meta o _)
 
 pub status_next : (s : State) (kind : SeatKind) (key : Key) (status : NewStatus) (given : Option ℕ) (o : Object)
     → (u : IsStatus s kind key status given o) → IsNext s u.old o
