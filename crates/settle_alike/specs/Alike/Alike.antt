@@ -16,6 +16,7 @@ use Rattle.settle_writes.specs.Writes.Lasting.{HasLasting, Lasts, content_of}
 abbrev pub contents_of : List Object → List Object
 contents_of rows = map content_of rows
 
+-- the worlds have the same objects but for versions, the same data and the same mounts
 pub record AreAlike (old new : World) : Type 0 where
   pub rows : contents_of old.store.rows ≡ contents_of new.store.rows
   pub stored : old.devices.stored ≡ new.devices.stored

@@ -37,9 +37,11 @@ abbrev pub rest_of : Object → Object
 rest_of (Claim c) = content_of (Claim (record c { meta = without_node c.meta }))
 rest_of o = content_of o
 
+-- the objects but for their versions, and claims but for their nodes
 abbrev pub rests_of : List Object → List Object
 rests_of rows = map rest_of rows
 
+-- the worlds have the same objects but for these, the same data and the same mounts
 pub record AreNear (old new : World) : Type 0 where
   pub rows : rests_of old.store.rows ≡ rests_of new.store.rows
   pub stored : old.devices.stored ≡ new.devices.stored

@@ -32,6 +32,7 @@ all_left (d ∷ ds) = under_left d.actor.under + all_left ds
 abbrev pub round_cost : ℕ → ℕ → ℕ → ℕ → ℕ
 round_cost left actors size writes = 20 * writes + left + actors * ((3 * size + 6 * writes) + 5 * ((3 * size + 6 * writes + 7) * (writes / 513)) + 62)
 
+-- a round makes no more calls than that, while no read of a whole kind and no call of an agent's start is held back
 abbrev pub RoundsAreShort : Type 0
 RoundsAreShort =
     (setup : Setup) (lets : Lets) (ds after : List Drainer) (h past : List Entry) (b left : ℕ) (whole : Bool) → AreRoles (roles_of ds) → IsHistory setup past → PassesReads lets

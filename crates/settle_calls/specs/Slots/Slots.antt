@@ -36,6 +36,7 @@ writes_since setup h past = (world setup past).store.version - (world setup h).s
 abbrev pub slot_cost : ℕ → ℕ → ℕ → ℕ
 slot_cost left objects writes = 20 * writes + left + (objects + 3 * writes) + 5 * ((objects + 3 * writes + 7) * (writes / 513)) + 62
 
+-- a slot makes no more calls than that, whether it ends idle or its budget is spent
 abbrev pub SlotsAreShort : Type 0
 SlotsAreShort =
     (setup : Setup) (lets : Lets) (seat : ℕ) (old after : ActorState) (h past : List Entry) (b left : ℕ) (idle : Bool) → IsBuiltKind old.role.kind → IsHistory setup past → PassesReads lets

@@ -13,11 +13,11 @@ use Rattle.sync_queue.specs.Work.{Taken, Work}
 
 -- how many calls the decision on the object comes to at most, but for those after a write that was done: an agent reads each claim of a
 -- pod and its volume
-
 abbrev pub pod_calls : SeatKind → PodData → ℕ
 pod_calls seats.Agent p = 3 + 2 * length p.claims
 pod_calls kind p = 1
 
+-- the decision on an object; a class and a node need none
 abbrev pub calls_for : SeatKind → Object → ℕ
 calls_for kind (Class x) = 0
 calls_for kind (Node x) = 0
@@ -25,6 +25,7 @@ calls_for kind (Volume v) = 3
 calls_for kind (Claim c) = 3
 calls_for kind (Pod p) = pod_calls kind p
 
+-- the decision on what stands under a key, if anything does
 abbrev pub calls_if : SeatKind → Option Object → ℕ
 calls_if kind None = 0
 calls_if kind (Some o) = calls_for kind o
@@ -33,6 +34,7 @@ calls_if kind (Some o) = calls_for kind o
 abbrev pub key_cost : SeatKind → List Object → Key → ℕ
 key_cost kind rows key = calls_if kind (row_at key rows)
 
+-- the sum of a cost over keys
 abbrev pub keys_cost : (Key → ℕ) → List Key → ℕ
 keys_cost cost [] = 0
 keys_cost cost (key ∷ keys) = cost key + keys_cost cost keys

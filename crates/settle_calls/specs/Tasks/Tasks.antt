@@ -27,17 +27,20 @@ machine_left (Unbinds v) = 2
 machine_left (ReadsVolume c) = 2
 machine_left machine = 1
 
+-- pods are listed before the finalizer of a claim is dropped
 abbrev pub claim_guard_left : ClaimGuardStep → ℕ
 claim_guard_left (claim_steps.Adds) = 1
 claim_guard_left (claim_steps.ListsPods) = 2
 claim_guard_left (claim_steps.Drops) = 1
 claim_guard_left step = 0
 
+-- the finalizer of a volume is added or dropped at once
 abbrev pub volume_guard_left : VolumeGuardStep → ℕ
 volume_guard_left (volume_steps.Adds) = 1
 volume_guard_left (volume_steps.Drops) = 1
 volume_guard_left step = 0
 
+-- a volume is read, its data are erased, and it is deleted, or phase Failed is written
 abbrev pub erase_left : EraseStep → ℕ
 erase_left erase_steps.ReadsVolume = 3
 erase_left (erase_steps.Erases uid) = 2
@@ -45,6 +48,7 @@ erase_left (erase_steps.Deletes uid) = 1
 erase_left erase_steps.WritesFailed = 1
 erase_left step = 0
 
+-- data are provisioned, then the volume is created; or the node of the claim is cleared
 abbrev pub provision_left : ProvisionStep → ℕ
 provision_left (provision_steps.Provisions labels) = 2
 provision_left (provision_steps.Creates id topology) = 1
@@ -61,6 +65,7 @@ mount_left unread agent_steps.ReadsMounts = 2
 mount_left unread agent_steps.Finishes = 1
 mount_left unread step = 0
 
+-- a pod's claims but for those that were found ready are still to be read
 abbrev pub agent_left : AgentOp → ℕ
 agent_left op = mount_left (length op.pod.claims - length op.ready) op.step
 
@@ -69,6 +74,7 @@ abbrev pub schedule_left : ScheduleStep → ℕ
 schedule_left (schedule_steps.Writes place) = 1
 schedule_left step = 0
 
+-- how many calls the task may still make
 abbrev pub task_left : Task → ℕ
 task_left (tasks.Binder machine) = machine_left machine
 task_left (tasks.ClaimProtect op) = claim_guard_left op.step
@@ -78,6 +84,7 @@ task_left (tasks.Provision op) = provision_left op.step
 task_left (tasks.Erase op) = erase_left op.step
 task_left (tasks.Schedule op) = schedule_left op.step
 
+-- how many calls what is under way may still make; none where nothing is
 abbrev pub under_left : Option Under → ℕ
 under_left None = 0
 under_left (Some u) = task_left u.task

@@ -29,18 +29,23 @@ use Rattle.binder_model.specs.World.{World}
 use Rattle.settle_measure.specs.Left.Measure.{is_lost, is_seeking}
 use Rattle.settle_measure.specs.Left.Lowers.{Lowers, StandsVolume, StandsClaim}
 
+-- phase Available, where it is due
 abbrev pub AvailablePays : Type 0
 AvailablePays = (setup : Setup) (w : World) (kind : SeatKind) (v : VolumeData) → StandsVolume w v → volume_due w.store.rows v ≡ Some dues.Available → Lowers setup w kind (write_available v) 1
 
+-- the write of a volume's phase, at the version of the volume
 abbrev pub set_phase : VolumeData → VolumePhase → Request
 set_phase v phase = UpdateStatus (volume_key v.meta.name) (statuses.Volume phase) (Some v.meta.version)
 
+-- phase Released, where it is due
 abbrev pub ReleasePays : Type 0
 ReleasePays = (setup : Setup) (w : World) (kind : SeatKind) (v : VolumeData) → StandsVolume w v → volume_due w.store.rows v ≡ Some dues.Release → Lowers setup w kind (set_phase v volumes.Released) 1
 
+-- unbinding, where it is due
 abbrev pub UnbindPays : Type 0
 UnbindPays = (setup : Setup) (w : World) (kind : SeatKind) (v : VolumeData) → StandsVolume w v → volume_due w.store.rows v ≡ Some dues.Unbind → Lowers setup w kind (write_unbound v) 1
 
+-- phase Bound, where it is due
 abbrev pub BoundPays : Type 0
 BoundPays = (setup : Setup) (w : World) (kind : SeatKind) (v : VolumeData) → StandsVolume w v → volume_due w.store.rows v ≡ Some dues.Bound → Lowers setup w kind (write_bound v) 1
 
@@ -92,6 +97,7 @@ StatusPays =
     → row_at (volume_key c.volume_name) w.store.rows ≡ Some (Volume v) → carries v c ≡ true
     → is_bound v.phase ≡ true → shows_bound c v ≡ false → Lowers setup w kind (write_claim_status v c) 1
 
+-- the write of a claim's phase, with the modes and the amount that its status shows
 abbrev pub write_claim_phase : ClaimData → ClaimPhase → Modes → Option Amount → Request
 write_claim_phase c phase modes amount = UpdateStatus (claim_key c.meta.namespace c.meta.name) (statuses.Claim phase modes amount) (Some c.meta.version)
 
@@ -107,6 +113,7 @@ abbrev pub NodeStays : Type 0
 NodeStays = (setup : Setup) (w : World) (kind : SeatKind) (c : ClaimData) (node : List ℕ) → StandsClaim w c
     → Lowers setup w kind (Update (Claim (record c { meta = record c.meta { annotations = put_pair selected_node node c.meta.annotations } })) (Some c.meta.version)) 0
 
+-- the node of a claim, cleared
 abbrev pub NodeGoes : Type 0
 NodeGoes = (setup : Setup) (w : World) (kind : SeatKind) (c : ClaimData) → StandsClaim w c
     → Lowers setup w kind (Update (Claim (record c { meta = record c.meta { annotations = without_key selected_node c.meta.annotations } })) (Some c.meta.version)) 0

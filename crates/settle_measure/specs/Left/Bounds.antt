@@ -11,6 +11,7 @@ use Rattle.settle_measure.specs.Left.Measure.{claims_in, faults_left, left_on, p
 abbrev pub BackFaultPays : Type 0
 BackFaultPays = (setup : Setup) (before after : Devices) → after.calls ≡ before.calls + 1 → is_planned (before.calls + 1) setup.faults ≡ true → faults_left setup after + 1 ≤ faults_left setup before
 
+-- the planned calls that are ahead are no more after further calls
 abbrev pub CallsStay : Type 0
 CallsStay = (setup : Setup) (before after : Devices) → before.calls ≤ after.calls → faults_left setup after ≤ faults_left setup before
 
@@ -18,6 +19,7 @@ CallsStay = (setup : Setup) (before after : Devices) → before.calls ≤ after.
 abbrev pub LeftIsBounded : Type 0
 LeftIsBounded = (rows : List Object) (d : Devices) → left_on rows d ≤ 18 * claims_in rows + 10 * volumes_in rows + 4 * pods_in rows
 
+-- claims, volumes and pods are no more than the objects
 abbrev pub CountsAreBounded : Type 0
 CountsAreBounded = (rows : List Object) → claims_in rows + volumes_in rows + pods_in rows ≤ length rows
 

@@ -54,6 +54,7 @@ guard_left false false = 2
 abbrev pub is_seeking : ClaimData → Bool
 is_seeking c = not (is_completed c) && not (is_deleting c.meta) && is_empty c.volume_name
 
+-- what stands under a key is a claim that waits so
 abbrev pub seeks : Option Object → Bool
 seeks (Some (Claim c)) = is_seeking c
 seeks _ = false
@@ -70,6 +71,7 @@ phase_left volumes.Released = 1
 phase_left volumes.Failed = 0
 phase_left _ = 3
 
+-- what is left for a volume by its reference: none, with or without a claim that it was given to, or one with a UID
 abbrev pub stage_left : Bool → Option Uid → VolumePhase → ℕ
 stage_left awaited None phase = unless (is_available phase) 1 + unless (not awaited) 4
 stage_left awaited (Some uid) phase = phase_left phase
@@ -87,6 +89,7 @@ abbrev pub life_left : Bool → Bool → Bool → ℕ
 life_left true over erased = unless over 1
 life_left false over erased = 1 + unless erased 2
 
+-- what is left for a volume: its way to Bound, its deletion and its guard
 abbrev pub volume_left : List Object → Devices → VolumeData → ℕ
 volume_left rows d v =
     stage_left (is_awaited rows v.claim_ref) (ref_uid v.claim_ref) v.phase
@@ -96,6 +99,7 @@ volume_left rows d v =
 abbrev pub holds : VolumeData → ClaimData → Bool
 holds v c = carries v c && not (is_deleting v.meta) && not (is_ended v.phase)
 
+-- what stands under a key is a volume that carries the claim, stays and has not ended
 abbrev pub is_held_by : ClaimData → Option Object → Bool
 is_held_by c (Some (Volume v)) = holds v c
 is_held_by c _ = false
@@ -104,16 +108,20 @@ is_held_by c _ = false
 abbrev pub is_fit : VolumeData → ClaimData → Bool
 is_fit v c = not (is_deleting v.meta) && is_protected_volume v && fits v c && is_selected c.selector v.meta.labels
 
+-- the volume carries the claim, the binder may take it, and it has not ended
 abbrev pub offers : VolumeData → ClaimData → Bool
 offers v c = carries v c && (is_fit v c && not (is_ended v.phase))
 
+-- the object is a volume that offers itself to the claim
 abbrev pub offers_claim : ClaimData → Object → Bool
 offers_claim c (Volume v) = offers v c
 offers_claim c o = false
 
+-- some volume offers itself to the claim
 abbrev pub has_offer : List Object → ClaimData → Bool
 has_offer rows c = list_any (offers_claim c) rows
 
+-- the claim has a class, by its field or by the beta annotation
 abbrev pub has_class : ClaimData → Bool
 has_class c = is_some c.class || has_key beta_class c.meta.annotations
 
@@ -130,6 +138,7 @@ seeking_left rows d c = unless (has_class c) 1 + (unless (has_offer rows c) 4 + 
 abbrev pub open_left : List Object → Devices → ClaimData → ℕ
 open_left rows d c = if is_empty c.volume_name then seeking_left rows d c else unless (is_held_by c (row_at (volume_key c.volume_name) rows)) 4
 
+-- the phase is Lost
 abbrev pub is_lost : ClaimPhase → Bool
 is_lost claims.Lost = true
 is_lost _ = false
@@ -143,11 +152,13 @@ abbrev pub completed_left : ClaimData → Option Object → ℕ
 completed_left c (Some (Volume v)) = if carries v c && not (is_ended v.phase) then carried_left c v else 5 + unless (is_lost c.phase) 1
 completed_left c _ = 5 + unless (is_lost c.phase) 1
 
+-- what is left until the claim is bound and its status says so. Where it is deleting and not completed, nothing is left
 abbrev pub binding_left : List Object → Devices → ClaimData → ℕ
 binding_left rows d c =
     if is_completed c then completed_left c (row_at (volume_key c.volume_name) rows)
     else unless (is_deleting c.meta) (2 + open_left rows d c)
 
+-- what is left for a claim: its binding and its guard
 abbrev pub claim_left : List Object → Devices → ClaimData → ℕ
 claim_left rows d c = binding_left rows d c + guard_left (is_deleting c.meta) (is_protected_claim c)
 
@@ -157,6 +168,7 @@ mount_left deleting true = 2
 mount_left true false = 1
 mount_left false false = 3
 
+-- what is left for a pod
 abbrev pub pod_left : Devices → PodData → ℕ
 pod_left d p = if is_scheduled p then mount_left (is_deleting p.meta) (is_pod_mounted d p) else 4
 
@@ -167,6 +179,7 @@ object_left rows d (Claim c) = claim_left rows d c
 object_left rows d (Pod p) = pod_left d p
 object_left rows d o = 0
 
+-- the sum of a number over all objects
 abbrev pub total : (Object → ℕ) → List Object → ℕ
 total f [] = 0
 total f (o ∷ os) = f o + total f os
@@ -175,6 +188,7 @@ total f (o ∷ os) = f o + total f os
 abbrev pub left_on : List Object → Devices → ℕ
 left_on rows d = total (object_left rows d) rows
 
+-- what is left to do in a world
 abbrev pub left_of : World → ℕ
 left_of w = left_on w.store.rows w.devices
 
@@ -182,19 +196,23 @@ left_of w = left_on w.store.rows w.devices
 abbrev pub faults_left : Setup → Devices → ℕ
 faults_left setup d = length (filter (λ f. nat_lt d.calls f) setup.faults)
 
+-- with the planned faults that are ahead
 abbrev pub work_left : Setup → World → ℕ
 work_left setup w = left_of w + faults_left setup w.devices
 
+-- how many claims there are
 abbrev pub claims_in : List Object → ℕ
 claims_in [] = 0
 claims_in (Claim c ∷ os) = 1 + claims_in os
 claims_in (o ∷ os) = claims_in os
 
+-- how many volumes there are
 abbrev pub volumes_in : List Object → ℕ
 volumes_in [] = 0
 volumes_in (Volume v ∷ os) = 1 + volumes_in os
 volumes_in (o ∷ os) = volumes_in os
 
+-- how many pods there are
 abbrev pub pods_in : List Object → ℕ
 pods_in [] = 0
 pods_in (Pod p ∷ os) = 1 + pods_in os

@@ -20,10 +20,12 @@ use Rattle.binder_model.specs.Devices.{no_devices}
 use Rattle.binder_model.specs.Store.{no_modes}
 use Rattle.settle_measure.specs.Left.Measure.{left_on}
 
+-- the metadata of an example, its UID of the same serial number as its version
 abbrev pub meta : List ℕ → List ℕ → ℕ → List (List ℕ) → Meta
 meta namespace name serial finalizers =
     record { namespace = namespace; name = name; uid = Some (uid_of_serial serial); version = serial; created = []; deleted = None; labels = []; annotations = []; finalizers = finalizers }
 
+-- the mode ReadWriteOnce alone
 abbrev pub once : Modes
 once = record { rwo = true; rox = false; rwx = false; rwop = false }
 
@@ -59,18 +61,23 @@ claim_on volume = record {
   got = None;
 }
 
+-- the claim that names no volume
 abbrev pub open_claim : ClaimData
 open_claim = claim_on []
 
+-- a volume of five bytes with no reference, in this phase
 abbrev pub free : VolumePhase → VolumeData
 free = volume_of (codes "a") 5 None
 
+-- that volume, taken for the claim, in this phase
 abbrev pub taken_volume : VolumePhase → VolumeData
 taken_volume phase = record (taken_for (free volumes.Available) open_claim) { phase = phase }
 
+-- the claim, completed with the volume
 abbrev pub completed : ClaimData
 completed = completed_with open_claim (taken_volume volumes.Bound)
 
+-- and its status shows that it is bound
 abbrev pub shown : ClaimData
 shown = record completed { phase = claims.Bound; got_modes = once; got = Some (record { text = []; bytes = 5 }) }
 
@@ -78,6 +85,7 @@ shown = record completed { phase = claims.Bound; got_modes = once; got = Some (r
 abbrev pub left_with : VolumeData → ClaimData → ℕ
 left_with v c = left_on (Volume v ∷ Claim c ∷ []) no_devices
 
+-- what is left for two volumes and a claim
 abbrev pub left_with_two : VolumeData → VolumeData → ClaimData → ℕ
 left_with_two u v c = left_on (Volume u ∷ Volume v ∷ Claim c ∷ []) no_devices
 
@@ -90,9 +98,11 @@ pub record FallsAsItBinds : Type 0 where
   pub is_completed : left_with (taken_volume volumes.Bound) completed ≡ 8
   pub is_shown : left_with (taken_volume volumes.Bound) shown ≡ 7
 
+-- a volume that carries the claim and is too small for it
 abbrev pub small : VolumeData
 small = record (volume_of (codes "b") 1 None volumes.Available) { claim_ref = (taken_volume volumes.Available).claim_ref }
 
+-- a volume with no reference that is larger than the claim asks
 abbrev pub wide : VolumeData
 wide = volume_of (codes "b") 9 None volumes.Available
 
@@ -108,6 +118,7 @@ pub record CountsOffers : Type 0 where
 abbrev pub lost : ClaimData
 lost = record completed { phase = claims.Lost }
 
+-- the volume is deleting
 abbrev pub going : VolumeData → VolumeData
 going v = record v { meta = record v.meta { deleted = Some [] } }
 

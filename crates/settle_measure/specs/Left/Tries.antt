@@ -14,6 +14,7 @@ use Rattle.binder_model.specs.World.{World}
 abbrev pub is_after : List ℕ → NodeData → Bool
 is_after refused n = is_gt (text_cmp n.meta.name refused)
 
+-- the nodes from the one after the refused node, then the others; where none was refused, as they stand
 abbrev pub in_turn : Option (List ℕ) → List NodeData → List NodeData
 in_turn None ns = ns
 in_turn (Some refused) ns = filter (is_after refused) ns ++ filter (λ n. not (is_after refused n)) ns
@@ -24,6 +25,7 @@ pub record IsOn (setup : Setup) (w : World) (p : PodData) (given : Bool) (n : No
   pub serves : Serves w.store.rows p n shares
   pub given_is : shares_are_served setup w n (others_of w.store.rows p) shares ≡ given
 
+-- the node does not serve the claims of the pod
 abbrev pub ServesNot : World → PodData → NodeData → Type 0
 ServesNot w p n = (shares : List Share) → Serves w.store.rows p n shares → ⊥
 
@@ -41,6 +43,7 @@ abbrev pub SomeGives : Setup → World → PodData → List NodeData → Type 0
 SomeGives setup w p [] = ⊥
 SomeGives setup w p (n ∷ ns) = IsOn setup w p true n ⊎ SomeGives setup w p ns
 
+-- none of the nodes serves them
 abbrev pub NoneServes : World → PodData → List NodeData → Type 0
 NoneServes w p [] = ⊤
 NoneServes w p (n ∷ ns) = ServesNot w p n × NoneServes w p ns

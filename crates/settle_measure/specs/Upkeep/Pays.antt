@@ -34,8 +34,7 @@ use Rattle.settle_measure.specs.Left.Measure.{was_erased, is_seeking, left_of}
 use Rattle.settle_measure.specs.Left.Lowers.{Lowers, StandsVolume, StandsClaim, with_devices}
 use Rattle.settle_measure.specs.Binding.Pays.{set_phase}
 
--- protection
-
+-- a volume's finalizer, added where it is due
 abbrev pub VolumeGuardPays : Type 0
 VolumeGuardPays = (setup : Setup) (w : World) (kind : SeatKind) (v : VolumeData) → StandsVolume w v → volume_guard_due v ≡ Some dues.Guard
     → Lowers setup w kind (Update (Volume (record v { meta = guarded_meta pv_protection v.meta })) (Some v.meta.version)) 1
@@ -46,10 +45,12 @@ VolumeUnguardPays =
     (setup : Setup) (w : World) (kind : SeatKind) (v : VolumeData) → StandsVolume w v → volume_guard_due v ≡ Some dues.Unguard
     → Lowers setup w kind (Update (Volume (record v { meta = unguarded_meta pv_protection v.meta })) (Some v.meta.version)) 1
 
+-- a claim's finalizer, added where it is due
 abbrev pub ClaimGuardPays : Type 0
 ClaimGuardPays = (setup : Setup) (w : World) (kind : SeatKind) (c : ClaimData) → StandsClaim w c → claim_guard_due w.store.rows c ≡ Some dues.Guard
     → Lowers setup w kind (Update (Claim (record c { meta = guarded_meta pvc_protection c.meta })) (Some c.meta.version)) 1
 
+-- a claim's finalizer, dropped where it is due: the claim stays or leaves
 abbrev pub ClaimUnguardPays : Type 0
 ClaimUnguardPays = (setup : Setup) (w : World) (kind : SeatKind) (c : ClaimData) → StandsClaim w c
     → claim_guard_due w.store.rows c ≡ Some dues.Unguard → Lowers setup w kind (Update (Claim (record c { meta = unguarded_meta pvc_protection c.meta })) (Some c.meta.version)) 1
@@ -59,6 +60,7 @@ abbrev pub FailedPays : Type 0
 FailedPays = (setup : Setup) (w : World) (kind : SeatKind) (v : VolumeData) (uid : Uid) → StandsVolume w v → ref_uid v.claim_ref ≡ Some uid
     → v.phase ≡ volumes.Released → Lowers setup w kind (set_phase v volumes.Failed) 1
 
+-- the deletion of a volume that is to be reclaimed
 abbrev pub DeletePays : Type 0
 DeletePays =
     (setup : Setup) (w : World) (kind : SeatKind) (v : VolumeData) (given : Option Uid) → StandsVolume w v → reclaim_due v ≡ Some dues.Reclaim
@@ -103,19 +105,21 @@ ErasePays =
     → has_id (data_id_of v.source) w.devices.stored ≡ true → was_erased (data_id_of v.source) w.devices.stored ≡ false → IsOneData w (data_id_of v.source) name
     → device_answer setup w.devices (Erase (data_id_of v.source)) ≡ Some a → a.reply ≡ Erased removed → left_of (with_devices w a) + 1 ≤ left_of w
 
--- pods
+-- a pod is bound to a node
 abbrev pub AssignPays : Type 0
 AssignPays =
     (setup : Setup) (w : World) (kind : SeatKind) (p : PodData) (uid : Uid) (node : List ℕ) → AreRows w.store.rows
     → row_at (key_of (Pod p)) w.store.rows ≡ Some (Pod p) → is_scheduled p ≡ false → is_empty node ≡ false
     → Lowers setup w kind (BindPod (key_of (Pod p)) uid node) 1
 
+-- a pod that is finished leaves
 abbrev pub FinishPays : Type 0
 FinishPays =
     (setup : Setup) (w : World) (kind : SeatKind) (p : PodData) (uid : Uid) (node : List ℕ) (epoch : ℕ) → AreRows w.store.rows → row_at (key_of (Pod p)) w.store.rows ≡ Some (Pod p)
     → effect setup w kind (FinishPod (key_of (Pod p)) uid node epoch) ≡ OnStore (Removes (at_version (Pod p) (w.store.version + 1)))
     → left_of (world_after w (effect setup w kind (FinishPod (key_of (Pod p)) uid node epoch))) + 1 ≤ left_of w
 
+-- the UID of a pod, if it has one, is this one
 abbrev pub is_pod_uid : Uid → Option Uid → Bool
 is_pod_uid uid None = false
 is_pod_uid uid (Some other) = same_uid uid other
@@ -124,6 +128,7 @@ is_pod_uid uid (Some other) = same_uid uid other
 abbrev pub IsOnePod : World → PodData → Uid → Type 0
 IsOnePod w p uid = (q : PodData) → row_at (key_of (Pod q)) w.store.rows ≡ Some (Pod q) → is_pod_uid uid q.meta.uid ≡ true → q ≡ p
 
+-- the mount of a pod that is on a node, stays and is not mounted
 abbrev pub MountPays : Type 0
 MountPays =
     (setup : Setup) (w : World) (p : PodData) (uid : Uid) (epoch : ℕ) (claims : List Uid) (a : DeviceAnswer) (rows : List MountRow)
@@ -131,6 +136,7 @@ MountPays =
     → p.meta.uid ≡ Some uid → is_scheduled p ≡ true → is_deleting p.meta ≡ false → is_pod_mounted w.devices p ≡ false → IsOnePod w p uid
     → device_answer setup w.devices (Mount p.node epoch uid claims) ≡ Some a → a.reply ≡ Mounted rows → left_of (with_devices w a) + 1 ≤ left_of w
 
+-- the unmount of a pod that is deleting and mounted
 abbrev pub UnmountPays : Type 0
 UnmountPays =
     (setup : Setup) (w : World) (p : PodData) (uid : Uid) (epoch : ℕ) (a : DeviceAnswer) (rows : List MountRow) → AreRows w.store.rows → row_at (key_of (Pod p)) w.store.rows ≡ Some (Pod p)

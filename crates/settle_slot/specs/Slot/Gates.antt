@@ -6,6 +6,7 @@ use Rattle.call_types.specs.declared.request.Request.{Request}
 use Rattle.call_types.specs.declared.request.Request.TheVariants as requests
 use Rattle.actor_rounds.specs.Rounds.{Lets}
 
+-- the request is a Mount
 abbrev pub is_mount : Request → Bool
 is_mount (requests.Mount node epoch pod claims) = true
 is_mount request = false

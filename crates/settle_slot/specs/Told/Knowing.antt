@@ -22,9 +22,11 @@ pub record HasReached (n : ℕ) (x : Option Telling) : Type 0 where
   pub is : x ≡ Some telling
   pub up : n ≤ telling.version
 
+-- the seat was told of the key since it was changed last
 abbrev pub Knows : Setup → List Entry → ℕ → Key → Type 0
 Knows setup past seat key = HasReached (changed_at key (world setup past).log) (newest (own seat past) key)
 
+-- the seat knows each key of the kind
 abbrev pub KnowsKind : Setup → List Entry → ℕ → Kind → Type 0
 KnowsKind setup past seat kind = (key : Key) → key.kind ≡ kind → Knows setup past seat key
 

@@ -16,6 +16,7 @@ use Rattle.call_types.specs.declared.reply.Reply.TheVariants.{Done, Left, Refuse
 use Rattle.binder_model.specs.Devices.{Devices}
 use Rattle.binder_model.specs.World.{World, effect, reply_to, world, world_after}
 
+-- the metadata but for the version
 abbrev pub without_version : Meta → Meta
 without_version m = record m { version = 0 }
 
@@ -38,9 +39,11 @@ IsLastingWrite rows (Done o) = IsChanged (row_at (key_of o) rows) o
 IsLastingWrite rows (Left o) = ⊤
 IsLastingWrite rows reply = ⊥
 
+-- other data are stored, or other pods are mounted
 abbrev pub IsLastingOnDevices : Devices → Devices → Type 0
 IsLastingOnDevices old new = (new.stored ≢ old.stored) ⊎ (new.mounts ≢ old.mounts)
 
+-- the answer is a planned fault of the back end
 abbrev pub IsBackFault : Reply → Type 0
 IsBackFault (Refused (BackFault planned)) = ⊤
 IsBackFault reply = ⊥

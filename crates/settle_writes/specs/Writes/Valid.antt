@@ -14,6 +14,7 @@ use Rattle.binder_model.specs.World.{world}
 abbrev pub IsValid : Object → Type 0
 IsValid o = create_fault false o ≡ None
 
+-- each object that stands among the rows passes them
 abbrev pub AreValid : List Object → Type 0
 AreValid rows = (key : Key) (o : Object) → row_at key rows ≡ Some o → IsValid o
 

@@ -33,17 +33,19 @@ pub record IsStored (w : World) (o : Object) : Type 0 where
   pub there : row_at (key_of o) w.store.rows ≡ Some o
   pub valid : IsValid o
 
--- the requests, each at the version of the object
-
+-- a volume is written whole, at its version, as are all requests here
 abbrev pub update_volume : VolumeData → VolumeData → Request
 update_volume v new = Update (Volume new) (Some v.meta.version)
 
+-- a claim is written whole
 abbrev pub update_claim : ClaimData → ClaimData → Request
 update_claim c new = Update (Claim new) (Some c.meta.version)
 
+-- the phase of a volume
 abbrev pub write_phase : VolumeData → VolumePhase → Request
 write_phase v phase = UpdateStatus (volume_key v.meta.name) (statuses.Volume phase) (Some v.meta.version)
 
+-- phase Lost of a claim, with the modes and the amount that its status shows
 abbrev pub write_lost : ClaimData → Modes → Option Amount → Request
 write_lost c modes amount = UpdateStatus (claim_key c.meta.namespace c.meta.name) (statuses.Claim claims.Lost modes amount) (Some c.meta.version)
 
@@ -99,19 +101,22 @@ ClearLasts =
     (setup : Setup) (w : World) (kind : SeatKind) (c : ClaimData) → is_user kind ≡ false → IsStored w (Claim c) → has_key selected_node c.meta.annotations ≡ true
     → Lasts setup w kind (update_claim c (record c { meta = record c.meta { annotations = without_key selected_node c.meta.annotations } }))
 
--- protection
+-- a volume's finalizer, added
 abbrev pub VolumeGuardLasts : Type 0
 VolumeGuardLasts = (setup : Setup) (w : World) (kind : SeatKind) (v : VolumeData) → is_user kind ≡ false → IsStored w (Volume v)
     → volume_guard_due v ≡ Some dues.Guard → Lasts setup w kind (update_volume v (record v { meta = guarded_meta pv_protection v.meta }))
 
+-- a volume's finalizer, dropped
 abbrev pub VolumeUnguardLasts : Type 0
 VolumeUnguardLasts = (setup : Setup) (w : World) (kind : SeatKind) (v : VolumeData) → is_user kind ≡ false → IsStored w (Volume v)
     → volume_guard_due v ≡ Some dues.Unguard → Lasts setup w kind (update_volume v (record v { meta = unguarded_meta pv_protection v.meta }))
 
+-- a claim's finalizer, added
 abbrev pub ClaimGuardLasts : Type 0
 ClaimGuardLasts = (setup : Setup) (w : World) (kind : SeatKind) (c : ClaimData) → is_user kind ≡ false → IsStored w (Claim c)
     → claim_guard_due w.store.rows c ≡ Some dues.Guard → Lasts setup w kind (update_claim c (record c { meta = guarded_meta pvc_protection c.meta }))
 
+-- a claim's finalizer, dropped
 abbrev pub ClaimUnguardLasts : Type 0
 ClaimUnguardLasts = (setup : Setup) (w : World) (kind : SeatKind) (c : ClaimData) → is_user kind ≡ false → IsStored w (Claim c)
     → claim_guard_due w.store.rows c ≡ Some dues.Unguard → Lasts setup w kind (update_claim c (record c { meta = unguarded_meta pvc_protection c.meta }))
