@@ -14,6 +14,7 @@ unless_null (Some (string s)) = Some (string s)
 unless_null (Some (array ds)) = Some (array ds)
 unless_null (Some (object ms)) = Some (object ms)
 
+-- the text, where the value is there and is a string
 abbrev pub text_in : Option Data → Option (List ℕ)
 text_in o = option_and_then as_str o
 
@@ -21,11 +22,14 @@ text_in o = option_and_then as_str o
 abbrev pub whole_in : Option Data → Option ℕ
 whole_in o = option_and_then (λ d. option_and_then as_u64 (as_number d)) o
 
+-- the truth value, where the value is there and is one
 abbrev pub boolean_in : Option Data → Option Bool
 boolean_in o = option_and_then as_bool o
 
+-- the items, where the value is there and is an array
 abbrev pub items_in : Option Data → Option Items
 items_in o = option_and_then as_array o
 
+-- the members, where the value is there and is an object
 abbrev pub object_in : Option Data → Option Members
 object_in o = option_and_then as_object o

@@ -12,12 +12,15 @@ use Rattle.plain_data.specs.Pairs.{Pair, put_pair}
 abbrev pub MemberList : Type 0
 MemberList = List (List ℕ × Option Data)
 
+-- a member that is a string, empty or not
 abbrev pub text : List ℕ → Option Data
 text s = Some (string s)
 
+-- a member that is a whole number
 abbrev pub whole : ℕ → Option Data
 whole n = Some (number_data n)
 
+-- a member that is true or false
 abbrev pub flag : Bool → Option Data
 flag b = Some (boolean b)
 
@@ -49,6 +52,7 @@ abbrev pub items_data : {X : Type 0} → (X → Data) → List X → Items
 items_data data_of [] = no_items
 items_data data_of (x ∷ xs) = item (data_of x) (items_data data_of xs)
 
+-- an array, even where it is empty
 abbrev pub array_data : {X : Type 0} → (X → Data) → List X → Data
 array_data data_of xs = array (items_data data_of xs)
 
@@ -85,6 +89,7 @@ abbrev pub members_unless : Bool → Data → Members
 members_unless true d = no_members
 members_unless false d = members_in d
 
+-- the members of the object that was read, if any, unless a float stands in it
 abbrev pub extra_from : Option Data → Members
 extra_from None = no_members
 extra_from (Some d) = members_unless (has_float d) d
@@ -112,6 +117,7 @@ abbrev pub then_texts : Members → List Pair → List Pair
 then_texts no_members rows = rows
 then_texts (member k d ms) rows = then_texts ms (rows ++ (k, compact_text d) ∷ [])
 
+-- the pairs as members whose values are strings
 abbrev pub pair_members : List Pair → MemberList
 pair_members [] = []
 pair_members (p ∷ ps) = (p.0, text p.1) ∷ pair_members ps

@@ -5,6 +5,7 @@ use Rattle.serde_json.specs.Data.{Data, null, boolean, number, string, array, ob
 use Rattle.serde_json.specs.View.{view}
 use Rattle.json_text.specs.declared.tree.Tree.{Tree}
 
+-- the JSON value that an owned tree holds
 abbrev pub tree_data : Tree → Data
 tree_data t = view t.value
 
@@ -22,6 +23,7 @@ abbrev pub others_from : (List ℕ → Bool) → Members → Members → Members
 others_from known no_members acc = acc
 others_from known (member k d ms) acc = if known k then others_from known ms acc else others_from known ms (put k d acc)
 
+-- the members whose names are not known, in the order of their names
 abbrev pub others : (List ℕ → Bool) → Members → Members
 others known ms = others_from known ms no_members
 

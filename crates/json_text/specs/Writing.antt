@@ -14,9 +14,11 @@ use Rattle.json_text.specs.declared.writing.JsonText.{JsonText}
 abbrev pub Writing : Type 0
 Writing = List ℕ × Bool
 
+-- the text that a writer has, and whether a value stands before what comes next
 abbrev pub written : JsonText → Writing
 written o = (o.bytes.items, o.later)
 
+-- the text that a writer has
 abbrev pub text_of : JsonText → List ℕ
 text_of o = o.bytes.items
 
@@ -32,6 +34,7 @@ after_comma w = w.0 ++ comma_if w.1
 unfoldable pub with_text : List ℕ → Writing → Writing
 with_text text w = (after_comma w ++ text, true)
 
+-- with the compact text of a value
 abbrev pub with_value : Data → Writing → Writing
 with_value d w = with_text (compact_text d) w
 
@@ -43,6 +46,7 @@ with_key k w = ((after_comma w ++ quoted k) ++ 58 ∷ [], false)
 unfoldable pub opened : ℕ → Writing → Writing
 opened c w = (after_comma w ++ c ∷ [], false)
 
+-- behind an object, or an array, with its closing bracket
 unfoldable pub closed : ℕ → Writing → Writing
 closed c w = (w.0 ++ c ∷ [], true)
 
@@ -78,6 +82,7 @@ abbrev pub rise_from : List ℕ → MemberList → Bool
 rise_from k [] = true
 rise_from k (p ∷ ps) = match_ordering (slice_cmp nat_cmp k p.0) (rise_from p.0 ps) false false
 
+-- the names of the members are in order, each once, whether their members are there or not
 abbrev pub names_rise : MemberList → Bool
 names_rise [] = true
 names_rise (p ∷ ps) = rise_from p.0 ps

@@ -11,6 +11,7 @@ use Rattle.json_text.specs.Members.{MemberList, text, filled, filled_array, obje
 use Rattle.object_print.specs.Metadata.{head_pairs}
 use Rattle.object_print.specs.Parts.{modes_data, storage_data, requests_data, selector_data}
 
+-- the members of a claim's spec from `accessModes` to `selector`, in the order of their names
 abbrev pub claim_front : Claim → MemberList
 claim_front c =
     (codes "accessModes", Some (modes_data c.modes))
@@ -18,6 +19,7 @@ claim_front c =
     ∷ (codes "selector", option_map selector_data c.selector)
     ∷ []
 
+-- the members of a claim's spec from `storageClassName` to `volumeName`
 abbrev pub claim_back : Claim → MemberList
 claim_back c =
     (codes "storageClassName", option_map string c.class)
@@ -34,6 +36,7 @@ abbrev pub got_modes : Option Amount → Modes → Option Data
 got_modes None m = filled_array string (mode_words m)
 got_modes (Some a) m = Some (modes_data m)
 
+-- the members of a claim's status: the modes and the capacity that it got, and its phase
 abbrev pub claim_status_pairs : Claim → MemberList
 claim_status_pairs c =
     (codes "accessModes", got_modes c.got c.got_modes)
@@ -41,9 +44,11 @@ claim_status_pairs c =
     ∷ (codes "phase", text (claim_phase_word c.phase))
     ∷ []
 
+-- the status of a claim
 unfoldable pub claim_status : Claim → Data
 claim_status c = object_of (claim_status_pairs c)
 
+-- the members of a claim's manifest; the status is always printed
 abbrev pub claim_pairs : Claim → MemberList
 claim_pairs c =
     head_pairs (codes "v1") (codes "PersistentVolumeClaim") true c.meta
@@ -51,5 +56,6 @@ claim_pairs c =
     ∷ (codes "status", Some (claim_status c))
     ∷ []
 
+-- the manifest of a claim
 unfoldable pub claim_data : Claim → Data
 claim_data c = object_of (claim_pairs c)

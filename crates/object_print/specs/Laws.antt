@@ -6,6 +6,7 @@ use Rattle.json_text.specs.Canonical.{IsCanonical, IsLine}
 use Rattle.kube_objects.specs.declared.objects.Object.{Object}
 use Rattle.object_print.specs.Objects.{object_data, object_line}
 
+-- each number in the manifest of an object is whole
 abbrev pub ObjectsHoldNoFloat : Type 0
 ObjectsHoldNoFloat = (o : Object) → has_float (object_data o) ≡ false
 

@@ -7,6 +7,7 @@ use Rattle.kube_parts.specs.declared.uid.Uid.{Uid}
 use Rattle.kube_objects.specs.declared.objects.Meta.{Meta}
 use Rattle.json_text.specs.Members.{MemberList, text, filled, counted, filled_array, filled_pairs, object_of}
 
+-- a UID in its textual form, as 8-4-4-4-12 hexadecimal digits
 abbrev pub uid_data : Uid → Data
 uid_data uid = string (uid_text uid)
 
@@ -15,6 +16,7 @@ abbrev pub filled_or_always : Bool → List ℕ → Option Data
 filled_or_always true s = text s
 filled_or_always false s = filled s
 
+-- the members of the metadata from `annotations` to `finalizers`, in the order of their names; each is left out where it is empty
 abbrev pub front_pairs : Meta → MemberList
 front_pairs m =
     (codes "annotations", filled_pairs m.annotations)
@@ -23,6 +25,7 @@ front_pairs m =
     ∷ (codes "finalizers", filled_array string m.finalizers)
     ∷ []
 
+-- the members of the metadata from `labels` to `uid`; the name is always printed, and the namespace of a kind that has one
 abbrev pub back_pairs : Bool → Meta → MemberList
 back_pairs namespaced m =
     (codes "labels", filled_pairs m.labels)

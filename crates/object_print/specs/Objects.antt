@@ -15,6 +15,7 @@ use Rattle.object_print.specs.Metadata.{head_pairs}
 use Rattle.object_print.specs.Volumes.{volume_data}
 use Rattle.object_print.specs.Claims.{claim_data}
 
+-- the members of a class behind its metadata
 abbrev pub class_back : Class → MemberList
 class_back c =
     (codes "parameters", filled_pairs c.parameters)
@@ -27,6 +28,7 @@ class_back c =
 unfoldable pub class_data : Class → Data
 class_data c = object (put_all (head_pairs (codes "storage.k8s.io/v1") (codes "StorageClass") false c.meta ++ class_back c) (extra_members c.extra))
 
+-- the members of a pod's spec: the node that it is assigned to, if any, over those that are kept
 abbrev pub pod_spec : Pod → Members
 pod_spec p = put_all ((codes "nodeName", filled p.node) ∷ []) (extra_members p.extra)
 
@@ -42,18 +44,22 @@ pod_pairs p =
     ++ (codes "spec", filled_object (pod_spec p))
     ∷ []
 
+-- the manifest of a pod
 unfoldable pub pod_data : Pod → Data
 pod_data p = object_of (pod_pairs p)
 
+-- the members of a node's manifest; the spec has only members that are kept, and stands only where there are any
 abbrev pub node_pairs : Node → MemberList
 node_pairs n =
     head_pairs (codes "v1") (codes "Node") false n.meta
     ++ (codes "spec", filled_object (extra_members n.extra))
     ∷ []
 
+-- the manifest of a node
 unfoldable pub node_data : Node → Data
 node_data n = object_of (node_pairs n)
 
+-- the manifest of an object of any kind
 unfoldable pub object_data : Object → Data
 object_data (objects.Class c) = class_data c
 object_data (objects.Node n) = node_data n

@@ -15,11 +15,13 @@ is_volume_member kind k =
     bytes_eq k (codes "capacity") || (bytes_eq k (codes "accessModes") || (bytes_eq k (codes "volumeMode") || (bytes_eq k (codes "storageClassName")
     || (bytes_eq k (codes "persistentVolumeReclaimPolicy") || (bytes_eq k (codes "claimRef") || (bytes_eq k (codes "nodeAffinity") || bytes_eq k (source_word kind)))))))
 
+-- the members of a claim's spec that are read, and so are not kept as they are
 abbrev pub is_claim_member : List ℕ → Bool
 is_claim_member k =
     bytes_eq k (codes "accessModes") || (bytes_eq k (codes "volumeMode") || (bytes_eq k (codes "resources") || (bytes_eq k (codes "storageClassName")
     || (bytes_eq k (codes "selector") || bytes_eq k (codes "volumeName")))))
 
+-- the members of a class that are read
 abbrev pub is_class_member : List ℕ → Bool
 is_class_member k =
     bytes_eq k (codes "kind") || (bytes_eq k (codes "apiVersion") || (bytes_eq k (codes "metadata") || (bytes_eq k (codes "provisioner")
@@ -33,9 +35,11 @@ is_listed_member listed.Class k = is_class_member k
 is_listed_member listed.Pod k = bytes_eq k (codes "nodeName")
 is_listed_member listed.Node k = false
 
+-- the members of an object that may be absent; none where it is
 abbrev pub place_members : Option Data → Members
 place_members None = no_members
 place_members (Some d) = members_in d
 
+-- the text that is kept of the members that are not read: the compact text of their object, empty where there are none
 unfoldable pub extra_at : Listed → Option Data → List ℕ
 extra_at known place = extra_text (others (is_listed_member known) (place_members place))

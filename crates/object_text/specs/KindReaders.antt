@@ -44,6 +44,7 @@ use Rattle.object_text.specs.ExtraMembers.{extra_at}
 
 -- ---- volumes
 
+-- the capacity, access modes, volume mode, class and reclaim policy of a volume
 unfoldable pub volume_shape : Option Data → Result VolumeShape ObjectError
 volume_shape spec = do
   capacity ← needed_way members.Capacity spec
@@ -54,6 +55,7 @@ volume_shape spec = do
   policy ← policy_at spec
   Ok (record { amount = amount; modes = modes; block = block; class = class; policy = policy })
 
+-- the claimRef, the source and the node affinity of a volume
 unfoldable pub volume_ties : Option Data → Result VolumeTies ObjectError
 volume_ties spec = do
   claim_ref ← claim_ref_at spec
@@ -61,6 +63,7 @@ volume_ties spec = do
   terms ← terms_at spec
   Ok (record { claim_ref = claim_ref; source = source; terms = terms })
 
+-- the spec of a volume, which must be there, with the members that are kept
 unfoldable pub volume_spec_of : Data → Result VolumeSpec ObjectError
 volume_spec_of d = do
   spec ← needed_way members.Spec (Some d)
@@ -68,11 +71,13 @@ volume_spec_of d = do
   ties ← volume_ties spec
   Ok (record { shape = shape; ties = ties; extra = extra_at (listed.Volume ties.source.kind) spec })
 
+-- the phase of a volume; Pending where it has no status
 unfoldable pub volume_status_of : Data → Result VolumePhase ObjectError
 volume_status_of d = do
   status ← some_object_at members.Status (Some d)
   volume_phase_at status
 
+-- the volume of this metadata, spec and phase
 abbrev pub volume_with : Meta → VolumeSpec → VolumePhase → Volume
 volume_with meta spec phase =
     record {
@@ -89,6 +94,7 @@ volume_with meta spec phase =
       phase = phase;
     }
 
+-- a volume: metadata, spec and status, in this order
 unfoldable pub volume_of : Data → Result Volume ObjectError
 volume_of d = do
   meta ← meta_of false d
@@ -98,6 +104,7 @@ volume_of d = do
 
 -- ---- claims
 
+-- the access modes, the volume mode and the amount that a claim asks for
 unfoldable pub claim_shape : Option Data → Result ClaimShape ObjectError
 claim_shape spec = do
   modes ← modes_at spec
@@ -107,6 +114,7 @@ claim_shape spec = do
   amount ← quantity_at members.Storage requests
   Ok (record { modes = modes; block = block; amount = amount })
 
+-- the class, the selector and the volume of a claim
 unfoldable pub claim_ties : Option Data → Result ClaimTies ObjectError
 claim_ties spec = do
   class ← optional_text members.StorageClassName spec
@@ -114,6 +122,7 @@ claim_ties spec = do
   volume_name ← text_or members.VolumeName [] spec
   Ok (record { class = class; selector = selector; volume_name = volume_name })
 
+-- the phase of a claim, and the modes and the capacity that it got
 unfoldable pub claim_status_of : Data → Result ClaimStatus ObjectError
 claim_status_of d = do
   status ← some_object_at members.Status (Some d)
@@ -123,6 +132,7 @@ claim_status_of d = do
   got ← optional_quantity members.Storage capacity
   Ok (record { phase = phase; got_modes = got_modes; got = got })
 
+-- a claim: metadata, spec and status, in this order
 unfoldable pub claim_of : Data → Result Claim ObjectError
 claim_of d = do
   meta ← meta_of true d
@@ -146,6 +156,7 @@ claim_of d = do
 
 -- ---- classes: their members stand at the top
 
+-- a storage class
 unfoldable pub class_of : Data → Result Class ObjectError
 class_of d = do
   meta ← meta_of false d
@@ -157,12 +168,14 @@ class_of d = do
 
 -- ---- nodes and pods
 
+-- a node; all of its spec is kept
 unfoldable pub node_of : Data → Result Node ObjectError
 node_of d = do
   meta ← meta_of false d
   spec ← some_object_at members.Spec (Some d)
   Ok (record { meta = meta; extra = extra_at listed.Node spec })
 
+-- a pod: metadata, the node that it is assigned to, and the claims that its volumes name
 unfoldable pub pod_of : Data → Result Pod ObjectError
 pod_of d = do
   meta ← meta_of true d

@@ -21,6 +21,7 @@ is_long d = nat_lt most_bytes (least_bytes d)
 unfoldable pub item_of : Data → Result Object ObjectError
 item_of d = if is_long d then Err TooLong else object_of d
 
+-- the refusal of the item of this number, for this reason
 abbrev pub refused : {X : Type 0} → ℕ → ObjectError → Result X ListError
 refused n e = Err (record { item = n; reason = e })
 
@@ -34,6 +35,7 @@ abbrev pub items_from : ℕ → Items → List Object → Result (List Object) L
 items_from n no_items found = Ok found
 items_from n (item d ds) found = with_item n (item_of d) (λ o. items_from (n + 1) ds (found ++ o ∷ []))
 
+-- the text is there and is this name
 abbrev pub is_named : List ℕ → Option (List ℕ) → Bool
 is_named name None = false
 is_named name (Some s) = bytes_eq s name
@@ -42,18 +44,22 @@ is_named name (Some s) = bytes_eq s name
 abbrev pub is_list : Data → Bool
 is_list d = is_named (codes "List") (text_in (at members.Kind (Some d)))
 
+-- the objects of a list's items, numbered from 1; a list without items is refused as its first
 abbrev pub list_items : Result Items ObjectError → Result (List Object) ListError
 list_items (Ok ds) = items_from 1 ds []
 list_items (Err e) = refused 1 e
 
+-- a list of one object, refused as item 1
 abbrev pub one_item : Result Object ObjectError → Result (List Object) ListError
 one_item (Ok o) = Ok (o ∷ [])
 one_item (Err e) = refused 1 e
 
+-- the objects of a value: those of a list, or the one that it is; a value that is no object is refused as item 1
 unfoldable pub list_in : Data → Result (List Object) ListError
 list_in d =
     if is_object d then (if is_list d then list_items (needed_items members.Items (Some d)) else one_item (item_of d)) else refused 1 NotObject
 
+-- the same of a text that may not be JSON
 abbrev pub list_from : Result Data ObjectError → Result (List Object) ListError
 list_from (Ok d) = list_in d
 list_from (Err e) = refused 1 e

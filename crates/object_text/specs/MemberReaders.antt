@@ -24,6 +24,7 @@ at m (Some d) = get (member_word m) d
 
 -- ---- values of a type
 
+-- the text of a value; another value is of the wrong type
 abbrev pub as_text : Member → Data → Result (List ℕ) ObjectError
 as_text m null = Err (WrongType m)
 as_text m (boolean b) = Err (WrongType m)
@@ -32,6 +33,7 @@ as_text m (string s) = Ok s
 as_text m (array ds) = Err (WrongType m)
 as_text m (object ms) = Err (WrongType m)
 
+-- the items of an array; another value is of the wrong type
 abbrev pub as_items : Member → Data → Result Items ObjectError
 as_items m null = Err (WrongType m)
 as_items m (boolean b) = Err (WrongType m)
@@ -51,19 +53,24 @@ as_object m (object ms) = Ok (object ms)
 
 -- ---- members that have to be there: null is as absent
 
+-- the value, or that the member is missing
 abbrev pub needed_from : Member → Option Data → Result Data ObjectError
 needed_from m None = Err (Missing m)
 needed_from m (Some d) = Ok d
 
+-- the value of a member that must be there; null counts as absent
 abbrev pub needed : Member → Option Data → Result Data ObjectError
 needed m place = needed_from m (unless_null (at m place))
 
+-- the text of a member that must be there
 abbrev pub needed_text : Member → Option Data → Result (List ℕ) ObjectError
 needed_text m place = needed m place >>= λ d. as_text m d
 
+-- the items of a member that must be there
 abbrev pub needed_items : Member → Option Data → Result Items ObjectError
 needed_items m place = needed m place >>= λ d. as_items m d
 
+-- the object of a member that must be there
 abbrev pub needed_object : Member → Option Data → Result Data ObjectError
 needed_object m place = needed m place >>= λ d. as_object m d
 
@@ -72,6 +79,7 @@ abbrev pub way_from : Member → Option Data → Result (Option Data) ObjectErro
 way_from m None = Ok None
 way_from m (Some d) = as_object m d >>= λ o. Ok (Some o)
 
+-- the object that further members are looked for in, which must be there
 abbrev pub needed_way : Member → Option Data → Result (Option Data) ObjectError
 needed_way m place = way_from m (unless_null (at m place))
 
@@ -81,44 +89,55 @@ needed_way m place = way_from m (unless_null (at m place))
 abbrev pub some_object_at : Member → Option Data → Result (Option Data) ObjectError
 some_object_at m place = way_from m (at m place)
 
+-- the text of a value, or the other text where the value is absent
 abbrev pub text_from : Member → List ℕ → Option Data → Result (List ℕ) ObjectError
 text_from m other None = Ok other
 text_from m other (Some d) = as_text m d
 
+-- the text of a member, or the other text where it is absent
 abbrev pub text_or : Member → List ℕ → Option Data → Result (List ℕ) ObjectError
 text_or m other place = text_from m other (at m place)
 
+-- the text of a value that may be absent
 abbrev pub optional_from : Member → Option Data → Result (Option (List ℕ)) ObjectError
 optional_from m None = Ok None
 optional_from m (Some d) = as_text m d >>= λ s. Ok (Some s)
 
+-- the text of a member that may be absent
 abbrev pub optional_text : Member → Option Data → Result (Option (List ℕ)) ObjectError
 optional_text m place = optional_from m (at m place)
 
+-- the items of a value that may be absent
 abbrev pub optional_items_from : Member → Option Data → Result (Option Items) ObjectError
 optional_items_from m None = Ok None
 optional_items_from m (Some d) = as_items m d >>= λ ds. Ok (Some ds)
 
+-- the items of a member that may be absent
 abbrev pub optional_items : Member → Option Data → Result (Option Items) ObjectError
 optional_items m place = optional_items_from m (at m place)
 
 -- ---- lists and maps of texts
 
+-- the texts of items, behind those that were found; an item that is no text is of the wrong type
 abbrev pub texts_from : Member → Items → List (List ℕ) → Result (List (List ℕ)) ObjectError
 texts_from m no_items found = Ok found
 texts_from m (item d ds) found = as_text m d >>= λ s. texts_from m ds (found ++ s ∷ [])
 
+-- the texts of items that may be absent; none where they are
 abbrev pub texts_or_none : Member → Option Items → Result (List (List ℕ)) ObjectError
 texts_or_none m None = Ok []
 texts_or_none m (Some ds) = texts_from m ds []
 
+-- the texts of a member that is an array; none where it is absent
 abbrev pub texts_at : Member → Option Data → Result (List (List ℕ)) ObjectError
 texts_at m place = optional_items m place >>= λ o. texts_or_none m o
 
+-- the texts of members by their names, over the pairs that were found
 abbrev pub pairs_from : Member → Members → List Pair → Result (List Pair) ObjectError
 pairs_from m no_members found = Ok found
 pairs_from m (member k d ms) found = as_text m d >>= λ s. pairs_from m ms (put_pair k s found)
 
+-- the texts of an object's members by their names; another value is of the wrong type
 abbrev pub pairs_in : Member → Data → Result (List Pair) ObjectError
 pairs_in m null = Err (WrongType m)
 pairs_in m (boolean b) = Err (WrongType m)
@@ -127,15 +146,18 @@ pairs_in m (string s) = Err (WrongType m)
 pairs_in m (array ds) = Err (WrongType m)
 pairs_in m (object ms) = pairs_from m ms []
 
+-- the same of a value that may be absent; no pairs where it is
 abbrev pub pairs_or_none : Member → Option Data → Result (List Pair) ObjectError
 pairs_or_none m None = Ok []
 pairs_or_none m (Some d) = pairs_in m d
 
+-- the pairs of a member, as labels and annotations; none where it is absent
 abbrev pub pairs_at : Member → Option Data → Result (List Pair) ObjectError
 pairs_at m place = pairs_or_none m (at m place)
 
 -- ---- texts of a form
 
+-- the UID that was read, or that the member is of the wrong type
 abbrev pub uid_from : Member → Option Uid → Result Uid ObjectError
 uid_from m None = Err (WrongType m)
 uid_from m (Some u) = Ok u
@@ -144,10 +166,12 @@ uid_from m (Some u) = Ok u
 abbrev pub uid_named : Member → List ℕ → Result Uid ObjectError
 uid_named m s = uid_from m (uid_of_text s)
 
+-- the UID of a text that may be absent
 abbrev pub uid_or_none : Member → Option (List ℕ) → Result (Option Uid) ObjectError
 uid_or_none m None = Ok None
 uid_or_none m (Some s) = uid_named m s >>= λ u. Ok (Some u)
 
+-- the UID of a member that may be absent
 abbrev pub uid_at : Member → Option Data → Result (Option Uid) ObjectError
 uid_at m place = optional_text m place >>= λ o. uid_or_none m o
 
@@ -155,6 +179,7 @@ uid_at m place = optional_text m place >>= λ o. uid_or_none m o
 abbrev pub stamp_named : Member → List ℕ → Result (List ℕ) ObjectError
 stamp_named m s = if length s == 20 then Ok s else Err (WrongType m)
 
+-- the timestamp of a value that may be absent
 abbrev pub stamp_from : Member → Option Data → Result (Option (List ℕ)) ObjectError
 stamp_from m None = Ok None
 stamp_from m (Some d) = as_text m d >>= λ s. stamp_named m s >>= λ t. Ok (Some t)
@@ -163,6 +188,7 @@ stamp_from m (Some d) = as_text m d >>= λ s. stamp_named m s >>= λ t. Ok (Some
 abbrev pub stamp_at : Member → Option Data → Result (Option (List ℕ)) ObjectError
 stamp_at m place = stamp_from m (unless_null (at m place))
 
+-- the timestamp of a member; the empty text where it is absent
 abbrev pub stamp_or_empty : Member → Option Data → Result (List ℕ) ObjectError
 stamp_or_empty m place = stamp_at m place >>= λ o. Ok (unwrap_or o [])
 
@@ -170,8 +196,10 @@ stamp_or_empty m place = stamp_at m place >>= λ o. Ok (unwrap_or o [])
 abbrev pub is_version : List ℕ → Bool
 is_version s = nat_le 1 (length s) && list_all is_ascii_digit s && nat_le (digits_value 10 s) (2 ^ 62)
 
+-- the resourceVersion of a text of digits; another text is of the wrong type
 abbrev pub version_named : Member → List ℕ → Result ℕ ObjectError
 version_named m s = if is_version s then Ok (digits_value 10 s) else Err (WrongType m)
 
+-- the resourceVersion of a member; 0 where it is absent
 abbrev pub version_at : Member → Option Data → Result ℕ ObjectError
 version_at m place = text_or m (codes "0") place >>= λ s. version_named m s

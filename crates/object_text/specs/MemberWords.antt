@@ -5,6 +5,7 @@ use Rattle.std.specs.Prelude.{ℕ, List, codes}
 use Rattle.object_text.specs.declared.errors.Member.{Member}
 use Rattle.object_text.specs.declared.errors.Member.TheVariants as members
 
+-- the name of a member in a manifest
 abbrev pub member_word : Member → List ℕ
 member_word members.Kind = codes "kind"
 member_word members.ApiVersion = codes "apiVersion"

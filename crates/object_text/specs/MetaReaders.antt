@@ -17,9 +17,11 @@ abbrev pub kept_namespace : Bool → List ℕ → List ℕ
 kept_namespace true s = s
 kept_namespace false s = []
 
+-- the namespace of an object: `default` where none is given; none for a kind without namespaces
 abbrev pub namespace_at : Bool → Option Data → Result (List ℕ) ObjectError
 namespace_at namespaced place = text_or members.Namespace (codes "default") place >>= λ s. Ok (kept_namespace namespaced s)
 
+-- what says which object it is: name, namespace, UID and resourceVersion
 unfoldable pub identity_at : Bool → Option Data → Result Identity ObjectError
 identity_at namespaced place = do
   name ← needed_text members.Name place
@@ -28,6 +30,7 @@ identity_at namespaced place = do
   version ← version_at members.ResourceVersion place
   Ok (record { name = name; namespace = namespace; uid = uid; version = version })
 
+-- what else the metadata say: timestamps, labels, annotations and finalizers
 unfoldable pub marks_at : Option Data → Result Marks ObjectError
 marks_at place = do
   created ← stamp_or_empty members.CreationTimestamp place
@@ -37,6 +40,7 @@ marks_at place = do
   finalizers ← texts_at members.Finalizers place
   Ok (record { created = created; deleted = deleted; labels = labels; annotations = annotations; finalizers = finalizers })
 
+-- the metadata of these two parts
 abbrev pub meta_with : Identity → Marks → Meta
 meta_with i m =
     record {

@@ -19,6 +19,7 @@ use Rattle.object_text.specs.Answers.{◌>>=◌}
 use Rattle.object_text.specs.MemberReaders.{needed_text}
 use Rattle.object_text.specs.KindReaders.{volume_of, claim_of, class_of, node_of, pod_of}
 
+-- the value is an object
 abbrev pub is_object : Data → Bool
 is_object null = false
 is_object (boolean b) = false
@@ -36,6 +37,7 @@ abbrev pub known_kind : Option Kind → Result Kind ObjectError
 known_kind None = Err UnknownKind
 known_kind (Some kind) = Ok kind
 
+-- the version of the API in which each kind stands
 abbrev pub api_version : Kind → List ℕ
 api_version kinds.StorageClass = codes "storage.k8s.io/v1"
 api_version kinds.Node = codes "v1"
@@ -47,6 +49,7 @@ api_version kinds.Pod = codes "v1"
 abbrev pub kind_of_version : Kind → List ℕ → Result Kind ObjectError
 kind_of_version kind s = if bytes_eq s (api_version kind) then Ok kind else Err (WrongType members.ApiVersion)
 
+-- the kind of a manifest: `kind` names one that is known, and `apiVersion` is that of the kind
 unfoldable pub kind_at : Data → Result Kind ObjectError
 kind_at d = do
   named ← needed_text members.Kind (Some d)
@@ -54,6 +57,7 @@ kind_at d = do
   version ← needed_text members.ApiVersion (Some d)
   kind_of_version kind version
 
+-- the object of this kind that a value gives
 abbrev pub object_of_kind : Kind → Data → Result Object ObjectError
 object_of_kind kinds.StorageClass d = class_of d >>= λ c. Ok (objects.Class c)
 object_of_kind kinds.Node d = node_of d >>= λ n. Ok (objects.Node n)
@@ -72,10 +76,12 @@ object_of value = do
 abbrev pub json_of : List ℕ → Option Data
 json_of text = if is_utf8 text then read text else None
 
+-- the value that was read, or that the text is not JSON
 abbrev pub value_in : Option Data → Result Data ObjectError
 value_in None = Err NotJson
 value_in (Some d) = Ok d
 
+-- the value of a text, or that it is not JSON
 abbrev pub value_of : List ℕ → Result Data ObjectError
 value_of text = value_in (json_of text)
 

@@ -33,6 +33,7 @@ least_bytes d = length (compact_text d) + float_bytes d
 abbrev pub least_items : Bool → Items → ℕ
 least_items later ds = length (items_text later ds) + items_float_bytes ds
 
+-- the same of the members of an object, up to the closing bracket
 abbrev pub least_members : Bool → Members → ℕ
 least_members later ms = length (members_text later ms) + members_float_bytes ms
 

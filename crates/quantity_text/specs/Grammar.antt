@@ -22,6 +22,7 @@ IsNumber text whole fraction =
     ⊎ (IsDigits whole × (fraction ≡ []) × (text ≡ whole ++ 46 ∷ []))
     ⊎ ((whole ≡ []) × IsDigits fraction × (text ≡ 46 ∷ fraction))
 
+-- the value stands in the list
 abbrev pub IsOneOf : {A : Type 0} → A → List A → Type 0
 IsOneOf x [] = ⊥
 IsOneOf x (y ∷ ys) = (x ≡ y) ⊎ IsOneOf x ys
@@ -87,5 +88,6 @@ pub record LongestNumber (text : List ℕ) : Type 0 where
   pub longest : lacks_number (parts_of text) ≡ false →
       (number : List ℕ) × IsNumber number (parts_of text).whole (parts_of text).fraction × (text ≡ number ++ (parts_of text).suffix) × IsLongest text number
 
+-- of each text the longest number at its front is taken
 abbrev pub NumbersAreTheLongest : Type 0
 NumbersAreTheLongest = (text : List ℕ) → LongestNumber text

@@ -50,6 +50,7 @@ use Rattle.quantity_text.specs.declared.scales.Scale.TheVariants.{Binary, Decima
 abbrev pub digits_at : List ℕ → List ℕ
 digits_at text = take_while is_ascii_digit text
 
+-- the text behind the digits at the front
 abbrev pub after_digits : List ℕ → List ℕ
 after_digits text = drop (prefix_len is_ascii_digit text) text
 
@@ -58,6 +59,7 @@ abbrev pub fraction_at : List ℕ → List ℕ
 fraction_at [] = []
 fraction_at (b ∷ bs) = if b == 46 then digits_at bs else []
 
+-- the text behind a point at the front and the digits that follow it; the whole text where no point stands there
 abbrev pub after_fraction : List ℕ → List ℕ
 after_fraction [] = []
 after_fraction (b ∷ bs) = if b == 46 then after_digits bs else b ∷ bs
@@ -68,6 +70,7 @@ pub record Parts : Type 0 where
   pub fraction : List ℕ
   pub suffix : List ℕ
 
+-- a text as the number at its front and the suffix behind it
 abbrev pub parts_of : List ℕ → Parts
 parts_of text = record { whole = digits_at text; fraction = fraction_at (after_digits text); suffix = after_fraction (after_digits text) }
 
@@ -85,6 +88,7 @@ named_scales =
     ∷ (codes "k", Decimal 3) ∷ (codes "M", Decimal 6) ∷ (codes "G", Decimal 9)
     ∷ (codes "T", Decimal 12) ∷ (codes "P", Decimal 15) ∷ (codes "E", Decimal 18) ∷ []
 
+-- the scale of a suffix by a table of names; none where the table lacks it
 abbrev pub scale_named : List ℕ → List (List ℕ × Scale) → Option Scale
 scale_named suffix [] = None
 scale_named suffix (s ∷ ss) = if bytes_eq suffix s.0 then Some s.1 else scale_named suffix ss
@@ -113,6 +117,7 @@ numerator (Binary x) = 2 ^ x
 numerator (Decimal x) = 10 ^ x
 numerator (Fraction x) = 1
 
+-- what a scale divides by
 abbrev pub denominator : Scale → ℕ
 denominator (Binary x) = 1
 denominator (Decimal x) = 1
@@ -122,9 +127,11 @@ denominator (Fraction x) = 10 ^ x
 unfoldable pub value_of : List ℕ → List ℕ → Scale → ℕ
 value_of whole fraction scale = div_ceil (digits_value 10 (whole ++ fraction) * numerator scale) (10 ^ length fraction * denominator scale)
 
+-- the byte is the digit 0
 abbrev pub is_zero_digit : ℕ → Bool
 is_zero_digit b = b == 48
 
+-- the digits without the zeros at their front
 abbrev pub without_zeros : List ℕ → List ℕ
 without_zeros ds = drop (prefix_len is_zero_digit ds) ds
 
@@ -147,6 +154,7 @@ unfoldable pub refuse : Bool → AmountError → Result ℕ AmountError → Resu
 refuse true e next = Err e
 refuse false e next = next
 
+-- the bytes of a number times a scale, rounded up, or the first refusal: too many digits, a bad exponent, too large
 unfoldable pub scaled : List ℕ → List ℕ → Scale → Result ℕ AmountError
 scaled whole fraction scale =
     refuse (has_too_many_digits whole fraction) TooManyDigits
@@ -154,6 +162,7 @@ scaled whole fraction scale =
     (refuse (is_too_large (value_of whole fraction scale)) TooLarge
     (Ok (value_of whole fraction scale))))
 
+-- the same by the scale of a suffix; without one the suffix is refused, which begins at this place
 abbrev pub scaled_by : Option Scale → ℕ → List ℕ → List ℕ → Result ℕ AmountError
 scaled_by None at whole fraction = Err (BadSuffix at)
 scaled_by (Some scale) at whole fraction = scaled whole fraction scale
@@ -179,6 +188,7 @@ abbrev pub Fails : AmountError → Result Amount AmountError → Type 0
 Fails OutOfMemory (Ok amount) = ⊤
 Fails e answer = answer ≡ Err e
 
+-- the result of the call is this answer, unless memory ran out
 abbrev pub Gives : Result Amount AmountError → Result Amount AmountError → Type 0
 Gives (Ok amount) answer = answer ≡ Ok amount
 Gives (Err e) answer = Fails e answer

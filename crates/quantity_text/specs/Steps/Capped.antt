@@ -3,9 +3,11 @@ use Rattle.std.specs.Prelude.{ℕ, ◌≤◌, min, ⊤}
 use Rattle.quantity_text.specs.declared.scales.Scale.{Scale}
 use Rattle.quantity_text.specs.declared.scales.Scale.TheVariants.{Binary, Decimal, Fraction}
 
+-- the number, at most 10^18
 abbrev pub capped : ℕ → ℕ
 capped n = min 1_000_000_000_000_000_000 n
 
+-- the scale with its decimal exponent, at most 10^18
 abbrev pub capped_scale : Scale → Scale
 capped_scale (Binary x) = Binary x
 capped_scale (Decimal x) = Decimal (capped x)
