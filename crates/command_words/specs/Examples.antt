@@ -5,12 +5,14 @@ use Rattle.command_words.specs.declared.words.Command.{Command}
 use Rattle.command_words.specs.declared.words.Command.TheVariants.{Replay, Run, Check, Gen}
 use Rattle.command_words.specs.declared.words.Words.{Words}
 
+-- what a line of these values says
 abbrev pub says : Command → ℕ → ℕ → ℕ → Option ℕ → Option Words
 says command workers seed calls budget = Some (record {
   command = command;
   options = record { workers = workers; seed = seed; calls = calls; budget = budget };
 })
 
+-- lines that are taken, and what they say
 pub record TakenExamples : Type 0 where
   pub command_alone : words_of (codes "replay" ∷ []) ≡ says Replay 2 1 200 None
   pub number_apart : words_of (codes "run" ∷ codes "--workers" ∷ codes "4" ∷ []) ≡ says Run 4 1 200 None
@@ -20,6 +22,7 @@ pub record TakenExamples : Type 0 where
   pub command_after_dashes : words_of (codes "--workers=1" ∷ codes "--" ∷ codes "check" ∷ []) ≡ says Check 1 1 200 None
   pub nothing_after_dashes : words_of (codes "check" ∷ codes "--" ∷ []) ≡ says Check 2 1 200 None
 
+-- lines that are answered with the usage
 pub record RefusedExamples : Type 0 where
   pub no_word : words_of [] ≡ None
   pub no_command : words_of (codes "--seed=1" ∷ []) ≡ None

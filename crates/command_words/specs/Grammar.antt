@@ -40,6 +40,7 @@ use Rattle.command_words.specs.declared.words.Words.{Words}
 use Rattle.command_words.specs.declared.words.WordsError.{WordsError}
 use Rattle.command_words.specs.declared.words.WordsError.TheVariants.{Usage, OutOfMemory}
 
+-- the bytes of a word
 abbrev pub Text : Type 0
 Text = List ℕ
 
@@ -49,6 +50,7 @@ Text = List ℕ
 abbrev pub Part : Type 0
 Part = Text × Text
 
+-- the name is that of one of the four options
 abbrev pub is_option : Text → Bool
 is_option name = bytes_eq (codes "workers") name || (bytes_eq (codes "seed") name || (bytes_eq (codes "calls") name || bytes_eq (codes "budget") name))
 
@@ -82,6 +84,7 @@ parts_from None (word ∷ rest) =
 parts_from (Some name) [] = None
 parts_from (Some name) (text ∷ rest) = with_part name text (parts_from None rest)
 
+-- a part of this name is given
 abbrev pub has_part : Text → List Part → Bool
 has_part name parts = list_any (λ p. bytes_eq name p.0) parts
 
@@ -90,11 +93,13 @@ abbrev pub each_once : List Part → Bool
 each_once [] = true
 each_once (p ∷ rest) = not (has_part p.0 rest) && each_once rest
 
+-- the text of the part of this name, if it is given
 abbrev pub part_text : List Part → Text → Option Text
 part_text parts name = option_map (λ p. p.1) (find (λ p. bytes_eq p.0 name) parts)
 
 -- ---- what the parts say
 
+-- the command of a word
 abbrev pub command_named : Text → Option Command
 command_named word =
     if bytes_eq word (codes "replay") then Some Replay
@@ -132,6 +137,7 @@ options_by given =
 abbrev pub AreInRange : Options → Type 0
 AreInRange options = (1 ≤ options.workers) × (options.workers ≤ 4) × (options.calls ≤ 1000)
 
+-- the command and the options, from the text of each part that is given
 abbrev pub words_by : (Text → Option Text) → Option Words
 words_by given = option_and_then (λ command. option_map (λ options. record { command = command; options = options })
     (options_by given)) (option_and_then command_named (given (codes "command")))

@@ -6,8 +6,8 @@ use Rattle.object_text.specs.declared.errors.ObjectError.TheVariants as objects
 use Rattle.history_lines.specs.declared.errors.Unread.{Unread}
 use Rattle.history_lines.specs.declared.errors.Unread.TheVariants.{OutOfMemory, NotCanonical}
 
--- nothing, or what the next step makes of the value
 infixl 10 ◌>>=◌
+-- nothing, or what the next step makes of the value
 abbrev pub ◌>>=◌ : {A B : Type 0} → Option A → (A → Option B) → Option B
 None >>= f = None
 (Some x) >>= f = f x
@@ -17,6 +17,7 @@ abbrev pub taken : {X : Type 0} → Result X ObjectError → Option X
 taken (Ok x) = Some x
 taken (Err e) = None
 
+-- why a part could not be read: memory ran out, or it is not the canonical text of anything
 abbrev pub unread_of : ObjectError → Unread
 unread_of objects.OutOfMemory = OutOfMemory
 unread_of objects.TooLong = NotCanonical
@@ -30,6 +31,7 @@ unread_of (objects.BadQuantity m) = NotCanonical
 
 -- ---- answers
 
+-- a call that ends so is right: there is no such part; of a call that ran out of memory nothing is said
 abbrev pub PartFails : {X : Type 0} → Unread → Option X → Type 0
 PartFails OutOfMemory answer = ⊤
 PartFails NotCanonical answer = answer ≡ None

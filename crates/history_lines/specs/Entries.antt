@@ -24,15 +24,19 @@ printed_as line_of line x = if bytes_eq (line_of x) line then Some x else None
 
 -- ---- entries
 
+-- the request of an entry
 abbrev pub asked_at : Look → Option Request
 asked_at m = m (codes "ask") >>= λ d. request_in d
 
+-- which kind of client asked
 abbrev pub seat_kind_at : Look → Option SeatKind
 seat_kind_at m = text_at (codes "kind") m >>= λ s. seat_named s
 
+-- the reply of an entry
 abbrev pub replied_at : Look → Option Reply
 replied_at m = m (codes "reply") >>= λ d. reply_in d
 
+-- an entry, by its members
 abbrev pub entry_at : Look → Option Entry
 entry_at m = do
   request ← asked_at m
@@ -42,6 +46,7 @@ entry_at m = do
   told ← flag_at (codes "told") m
   Some (record { seat = seat; kind = kind; request = request; reply = reply; told = told })
 
+-- an entry, as an object
 unfoldable pub entry_in : Data → Option Entry
 entry_in d = entry_at (look_in d)
 
@@ -54,6 +59,7 @@ entry_of line = do
 
 -- ---- setups
 
+-- a pool of the setup, by its members
 abbrev pub pool_at : Look → Option Pool
 pool_at m = do
   bytes ← number_at (codes "bytes") m
@@ -62,6 +68,7 @@ pool_at m = do
   topology ← some_topology_at m
   Some (record { name = name; provisioner = provisioner; bytes = bytes; topology = topology })
 
+-- a pool of the setup, as an object
 unfoldable pub pool_in : Data → Option Pool
 pool_in d = pool_at (look_in d)
 
@@ -75,6 +82,7 @@ abbrev pub rise_from : Option ℕ → List ℕ → Bool
 rise_from last [] = true
 rise_from last (n ∷ ns) = is_above last n && rise_from (Some n) ns
 
+-- the numbers rise, each once
 abbrev pub rise : List ℕ → Bool
 rise ns = rise_from None ns
 
@@ -83,6 +91,7 @@ abbrev pub pass_after : List Object → List Object → Bool
 pass_after before [] = true
 pass_after before (o ∷ os) = is_none (import_fault before o) && pass_after (before ++ o ∷ []) os
 
+-- the store takes these objects as imports, in this order
 abbrev pub imports_pass : List Object → Bool
 imports_pass imports = pass_after [] imports
 
@@ -91,6 +100,7 @@ abbrev pub parts_with : List Pool → List ℕ → List Object → Option Setup
 parts_with pools faults imports =
     if rise faults && imports_pass imports then Some (record { pools = pools; faults = faults; imports = imports }) else None
 
+-- a setup, by its members
 abbrev pub parts_at : Look → Option Setup
 parts_at m = do
   faults ← list_at number_in (codes "faults") m
@@ -98,9 +108,11 @@ parts_at m = do
   pools ← list_at pool_in (codes "pools") m
   parts_with pools faults imports
 
+-- a setup, as an object
 unfoldable pub parts_in : Data → Option Setup
 parts_in d = parts_at (look_in d)
 
+-- a setup, under the member `setup` of the first line
 unfoldable pub setup_in : Data → Option Setup
 setup_in d = look_in d (codes "setup") >>= λ parts. parts_in parts
 

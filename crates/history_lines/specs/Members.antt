@@ -24,6 +24,7 @@ use Rattle.history_lines.specs.Answers.{◌>>=◌, taken}
 abbrev pub Look : Type 0
 Look = List ℕ → Option Data
 
+-- the members of an object
 abbrev pub look_in : Data → Look
 look_in d = λ k. get k d
 
@@ -34,6 +35,7 @@ standing word (x ∷ xs) m = if is_some (m (word x)) then Some x else standing w
 
 -- ---- texts, numbers, booleans
 
+-- a text that has to be there
 abbrev pub text_at : List ℕ → Look → Option (List ℕ)
 text_at k m = text_in (m k)
 
@@ -42,9 +44,11 @@ abbrev pub filled_from : Option Data → Option (List ℕ)
 filled_from None = Some []
 filled_from (Some d) = text_in (Some d)
 
+-- a text, the empty one where the member is absent
 abbrev pub filled_at : List ℕ → Look → Option (List ℕ)
 filled_at k m = filled_from (m k)
 
+-- the text of a value that may be absent
 abbrev pub some_text_from : Option Data → Option (Option (List ℕ))
 some_text_from None = Some None
 some_text_from (Some d) = text_in (Some d) >>= λ s. Some (Some s)
@@ -53,19 +57,24 @@ some_text_from (Some d) = text_in (Some d) >>= λ s. Some (Some s)
 abbrev pub some_text_at : List ℕ → Look → Option (Option (List ℕ))
 some_text_at k m = some_text_from (m k)
 
+-- a whole number of 64 bits that is not negative
 abbrev pub number_in : Data → Option ℕ
 number_in d = whole_in (Some d)
 
+-- a number that has to be there
 abbrev pub number_at : List ℕ → Look → Option ℕ
 number_at k m = whole_in (m k)
 
+-- the number of a value that may be absent
 abbrev pub some_number_from : Option Data → Option (Option ℕ)
 some_number_from None = Some None
 some_number_from (Some d) = number_in d >>= λ n. Some (Some n)
 
+-- a number that may be absent
 abbrev pub some_number_at : List ℕ → Look → Option (Option ℕ)
 some_number_at k m = some_number_from (m k)
 
+-- true or false, which has to be there
 abbrev pub flag_at : List ℕ → Look → Option Bool
 flag_at k m = boolean_in (m k)
 
@@ -75,23 +84,29 @@ flag_at k m = boolean_in (m k)
 abbrev pub uid_in : Data → Option Uid
 uid_in d = text_in (Some d) >>= λ s. uid_of_text s
 
+-- a UID that has to be there
 abbrev pub uid_at : List ℕ → Look → Option Uid
 uid_at k m = m k >>= λ d. uid_in d
 
+-- the UID of a value that may be absent
 abbrev pub some_uid_from : Option Data → Option (Option Uid)
 some_uid_from None = Some None
 some_uid_from (Some d) = uid_in d >>= λ u. Some (Some u)
 
+-- a UID that may be absent
 abbrev pub some_uid_at : List ℕ → Look → Option (Option Uid)
 some_uid_at k m = some_uid_from (m k)
 
+-- the amount of a quantity
 abbrev pub quantity_in : Data → Option Amount
 quantity_in d = taken (amount_in members.Storage d)
 
+-- the amount of a value that may be absent
 abbrev pub some_amount_from : Option Data → Option (Option Amount)
 some_amount_from None = Some None
 some_amount_from (Some d) = quantity_in d >>= λ a. Some (Some a)
 
+-- an amount that may be absent
 abbrev pub some_amount_at : List ℕ → Look → Option (Option Amount)
 some_amount_at k m = some_amount_from (m k)
 
@@ -101,6 +116,7 @@ some_amount_at k m = some_amount_from (m k)
 abbrev pub object_in : Data → Option Object
 object_in d = taken (object_of d)
 
+-- an object that has to be there, by its manifest
 abbrev pub object_at : List ℕ → Look → Option Object
 object_at k m = m k >>= λ d. object_in d
 
@@ -109,6 +125,7 @@ abbrev pub items_from : {X : Type 0} → (Data → Option X) → Items → List 
 items_from read no_items found = Some found
 items_from read (item d ds) found = read d >>= λ x. items_from read ds (found ++ x ∷ [])
 
+-- the values of a list's items, each read in its turn
 abbrev pub list_in : {X : Type 0} → (Data → Option X) → Option Data → Option (List X)
 list_in read o = items_in o >>= λ ds. items_from read ds []
 
@@ -116,6 +133,7 @@ list_in read o = items_in o >>= λ ds. items_from read ds []
 abbrev pub list_at : {X : Type 0} → (Data → Option X) → List ℕ → Look → Option (List X)
 list_at read k m = list_in read (m k)
 
+-- the same of a list that may be absent: then there are none
 abbrev pub some_list_from : {X : Type 0} → (Data → Option X) → Option Data → Option (List X)
 some_list_from read None = Some []
 some_list_from read (Some d) = list_in read (Some d)
@@ -124,18 +142,22 @@ some_list_from read (Some d) = list_in read (Some d)
 abbrev pub some_list_at : {X : Type 0} → (Data → Option X) → List ℕ → Look → Option (List X)
 some_list_at read k m = some_list_from read (m k)
 
+-- access modes that have to be there
 abbrev pub modes_at : List ℕ → Look → Option Modes
 modes_at k m = items_in (m k) >>= λ ds. taken (modes_from ds no_modes)
 
+-- the labels of a value that may be absent
 abbrev pub some_labels_from : Option Data → Option (Option (List Pair))
 some_labels_from None = Some None
 some_labels_from (Some d) = taken (pairs_in members.Labels d) >>= λ ps. Some (Some ps)
 
+-- labels that may be absent
 abbrev pub some_labels_at : Look → Option (Option (List Pair))
 some_labels_at m = some_labels_from (m (codes "labels"))
 
 -- ---- keys, ids of data, topologies
 
+-- the kind of an object, by its word
 abbrev pub kind_at : Look → Option Kind
 kind_at m = text_at (codes "kind") m >>= λ s. kind_named s
 
@@ -147,6 +169,7 @@ key_at m = do
   name ← text_at (codes "name") m
   Some (record { kind = kind; namespace = namespace; name = name })
 
+-- the driver and the handle by which a back end knows data
 abbrev pub data_id_at : Look → Option DataId
 data_id_at m = do
   driver ← text_at (codes "driver") m
@@ -158,5 +181,6 @@ abbrev pub topology_from : Option Data → Look → Option (Option (List ℕ × 
 topology_from None m = Some None
 topology_from (Some d) m = text_in (Some d) >>= λ label. text_at (codes "value") m >>= λ value. Some (Some (label, value))
 
+-- the label and the value of a topology; both or neither
 abbrev pub some_topology_at : Look → Option (Option (List ℕ × List ℕ))
 some_topology_at m = topology_from (m (codes "label")) m

@@ -18,11 +18,13 @@ abbrev pub last_line : List ℕ → List (List ℕ)
 last_line [] = []
 last_line (b ∷ bs) = (b ∷ bs) ∷ []
 
+-- the lines of the parts between line feeds
 abbrev pub lines_in : List (List ℕ) → List (List ℕ)
 lines_in [] = []
 lines_in (part ∷ []) = last_line part
 lines_in (part ∷ next ∷ parts) = part ∷ lines_in (next ∷ parts)
 
+-- the lines of a text
 unfoldable pub lines_of : List ℕ → List (List ℕ)
 lines_of text = lines_in (slice_split (λ b. b == 10) text)
 
@@ -32,6 +34,7 @@ lines_of text = lines_in (slice_split (λ b. b == 10) text)
 abbrev pub most_line_bytes : ℕ
 most_line_bytes = 4194304
 
+-- what was read, or that the line is not the canonical text of anything
 abbrev pub canonical : {X : Type 0} → Option X → Result X Reason
 canonical None = Err NotCanonical
 canonical (Some x) = Ok x
@@ -40,6 +43,7 @@ canonical (Some x) = Ok x
 abbrev pub in_line : {X : Type 0} → (List ℕ → Option X) → List ℕ → Result X Reason
 in_line of line = if nat_lt most_line_bytes (length line) then Err TooLong else canonical (of line)
 
+-- the refusal of the line of this number
 abbrev pub refused_line : {X : Type 0} → ℕ → Reason → Result X BadLine
 refused_line n reason = Err (record { line = n; reason = reason })
 
@@ -56,10 +60,12 @@ entries_from n [] found = refused_line n MissingEnd
 entries_from n (line ∷ lines) found =
     if bytes_eq line (codes "end") then Ok found else at_line n (in_line entry_of line) (λ e. entries_from (n + 1) lines (found ++ e ∷ []))
 
+-- the history of this setup and these entries, unless a line was refused
 abbrev pub with_setup : Setup → Result (List Entry) BadLine → Result History BadLine
 with_setup s (Ok es) = Ok (record { setup = s; entries = es })
 with_setup s (Err b) = Err b
 
+-- the history that these lines are: the setup, the entries and the end
 abbrev pub history_in : List (List ℕ) → Result History BadLine
 history_in [] = refused_line 1 MissingEnd
 history_in (line ∷ lines) = at_line 1 (in_line setup_of line) (λ s. with_setup s (entries_from 2 lines []))

@@ -4,6 +4,7 @@ use Rattle.history_read.specs.declared.errors.Reason.{Reason}
 use Rattle.history_read.specs.declared.errors.Reason.TheVariants.{TooLong, NotCanonical, MissingEnd}
 use Rattle.history_read.specs.declared.errors.BadLine.{BadLine}
 
+-- what is printed for the refusal of a line
 abbrev pub reason_word : Reason → List ℕ
 reason_word TooLong = codes "TooLong"
 reason_word NotCanonical = codes "NotCanonical"

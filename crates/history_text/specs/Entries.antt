@@ -13,6 +13,7 @@ use Rattle.object_print.specs.Objects.{object_data}
 use Rattle.history_text.specs.Requests.{request_data}
 use Rattle.history_text.specs.Replies.{topology_pairs, reply_data}
 
+-- the members of an entry: who asked, what was asked, and what was answered
 abbrev pub entry_pairs : Entry → MemberList
 entry_pairs e =
     (codes "ask", Some (request_data e.request))
@@ -22,9 +23,11 @@ entry_pairs e =
     ∷ (codes "told", flag e.told)
     ∷ []
 
+-- the same as an object
 unfoldable pub entry_data : Entry → Data
 entry_data e = object_of (entry_pairs e)
 
+-- the line of an entry
 unfoldable pub entry_line : Entry → List ℕ
 entry_line e = compact_text (entry_data e)
 
@@ -32,6 +35,7 @@ entry_line e = compact_text (entry_data e)
 abbrev pub pool_pairs : Pool → MemberList
 pool_pairs p = (codes "bytes", whole p.bytes) ∷ (codes "name", text p.name) ∷ (codes "provisioner", text p.provisioner) ∷ topology_pairs p.topology
 
+-- a pool of the setup, as an object
 unfoldable pub pool_data : Pool → Data
 pool_data p = object_of (pool_pairs p)
 
@@ -43,8 +47,10 @@ setup_pairs s =
     ∷ (codes "pools", Some (array_data pool_data s.pools))
     ∷ []
 
+-- what a world begins with: pools, planned faults and imported objects, as an object
 unfoldable pub setup_data : Setup → Data
 setup_data s = within (codes "setup") (object_of (setup_pairs s))
 
+-- the first line of a history
 unfoldable pub setup_line : Setup → List ℕ
 setup_line s = compact_text (setup_data s)

@@ -22,6 +22,7 @@ with_lines done (line ∷ rest) = with_lines (with_line done line) rest
 unfoldable pub history_lines : Setup → List Entry → List (List ℕ)
 history_lines setup entries = setup_line setup ∷ (map entry_line entries ++ codes "end" ∷ [])
 
+-- the text of a history
 abbrev pub history_text : Setup → List Entry → List ℕ
 history_text setup entries = with_lines [] (history_lines setup entries)
 
@@ -29,5 +30,6 @@ history_text setup entries = with_lines [] (history_lines setup entries)
 unfoldable pub final_lines : List Object → Summary → List (List ℕ)
 final_lines objects summary = codes "objects" ∷ (map object_line objects ++ codes "summary" ∷ summary_lines summary)
 
+-- the text that follows a history: the objects at the end, and the summary
 abbrev pub final_text : List Object → Summary → List ℕ
 final_text objects summary = with_lines [] (final_lines objects summary)

@@ -18,15 +18,19 @@ use Rattle.object_print.specs.Metadata.{uid_data}
 use Rattle.object_print.specs.Objects.{object_data}
 use Rattle.history_text.specs.Requests.{data_id_pairs}
 
+-- the members of a watch event: how the object changed, the object, and the resourceVersion of the change
 abbrev pub event_pairs : Event → MemberList
 event_pairs e = (codes "change", text (change_word e.change)) ∷ (codes "object", Some (object_data e.object)) ∷ (codes "version", whole e.version) ∷ []
 
+-- the same as an object
 unfoldable pub event_data : Event → Data
 event_data e = object_of (event_pairs e)
 
+-- the members of a mount: the UIDs of the pod and of the claims that are mounted for it
 abbrev pub mount_pairs : MountRow → MemberList
 mount_pairs row = (codes "claims", Some (array_data uid_data row.claims)) ∷ (codes "pod", Some (uid_data row.pod)) ∷ []
 
+-- the same as an object
 unfoldable pub mount_data : MountRow → Data
 mount_data row = object_of (mount_pairs row)
 
@@ -35,12 +39,15 @@ abbrev pub topology_pairs : Option (List ℕ × List ℕ) → MemberList
 topology_pairs None = []
 topology_pairs (Some t) = (codes "label", text t.0) ∷ (codes "value", text t.1) ∷ []
 
+-- a refusal that carries nothing
 abbrev pub refused : List ℕ → MemberList
 refused word = (codes "refused", text word) ∷ []
 
+-- a refusal that carries a number, as the version that stands
 abbrev pub refused_number : List ℕ → List ℕ → ℕ → MemberList
 refused_number word name n = refused word ++ (name, whole n) ∷ []
 
+-- a refusal that carries a text, as the field that is invalid
 abbrev pub refused_text : List ℕ → List ℕ → List ℕ → MemberList
 refused_text word name s = refused word ++ (name, text s) ∷ []
 
@@ -57,15 +64,19 @@ refusal_pairs (refusals.BackFault planned) = refused_number (codes "BackFault") 
 refusal_pairs (refusals.StaleEpoch current) = refused_number (codes "StaleEpoch") (codes "current") current
 refusal_pairs (refusals.Assigned node) = refused_text (codes "Assigned") (codes "node") node
 
+-- the answer of a list: the objects, and the version at which they stand
 abbrev pub listed_pairs : List Object → ℕ → MemberList
 listed_pairs items version = (codes "items", Some (array_data object_data items)) ∷ (codes "listed", whole version) ∷ []
 
+-- the answer of a watch: the events, and the version up to which they were told
 abbrev pub events_pairs : Events → MemberList
 events_pairs e = (codes "events", Some (array_data event_data e.events)) ∷ (codes "upto", whole e.upto) ∷ []
 
+-- the answer of a provision call: which data these are, and where they can be reached
 abbrev pub provisioned_pairs : DataId → Option (List ℕ × List ℕ) → MemberList
 provisioned_pairs id topology = data_id_pairs id ++ topology_pairs topology
 
+-- the members of a reply, by which its kind is told
 abbrev pub reply_pairs : Reply → MemberList
 reply_pairs (replies.Done object) = (codes "done", Some (object_data object)) ∷ []
 reply_pairs (replies.Left object) = (codes "left", Some (object_data object)) ∷ []
@@ -79,5 +90,6 @@ reply_pairs (replies.Mounted rows) = (codes "mounted", Some (array_data mount_da
 reply_pairs replies.Timed = (codes "timed", flag true) ∷ []
 reply_pairs (replies.Refused refusal) = refusal_pairs refusal
 
+-- the same as an object
 unfoldable pub reply_data : Reply → Data
 reply_data r = object_of (reply_pairs r)

@@ -28,9 +28,11 @@ use Rattle.object_print.specs.Objects.{object_data}
 abbrev pub key_pairs : Key → MemberList
 key_pairs k = (codes "kind", text (kind_word k.kind)) ∷ (codes "name", text k.name) ∷ (codes "namespace", filled k.namespace) ∷ []
 
+-- two members that are texts
 abbrev pub two_texts : List ℕ → List ℕ → List ℕ → List ℕ → MemberList
 two_texts first x second y = (first, text x) ∷ (second, text y) ∷ []
 
+-- a label or an annotation, as an object
 abbrev pub label_data : List ℕ → List ℕ → Data
 label_data key value = object_of (two_texts (codes "key") key (codes "value") value)
 
@@ -51,6 +53,7 @@ edit_pairs (edits.SetPolicy policy) = (codes "setPolicy", text (policy_word poli
 edit_pairs (edits.SetClaimRef namespace name) = (codes "setClaimRef", Some (claim_name_data namespace name)) ∷ []
 edit_pairs edits.ClearClaimRef = (codes "clearClaimRef", flag true) ∷ []
 
+-- an amount, as it was written
 abbrev pub amount_text : Amount → Data
 amount_text a = string a.text
 
@@ -59,6 +62,7 @@ abbrev pub claim_status_pairs : ClaimPhase → Modes → Option Amount → Membe
 claim_status_pairs phase modes amount =
     (codes "phase", text (claim_phase_word phase)) ∷ (codes "modes", Some (modes_data modes)) ∷ (codes "amount", option_map amount_text amount) ∷ []
 
+-- the members of a new status, of a volume or of a claim
 abbrev pub status_pairs : NewStatus → MemberList
 status_pairs (statuses.Volume phase) = (codes "phase", text (volume_phase_word phase)) ∷ []
 status_pairs (statuses.Claim phase modes amount) = claim_status_pairs phase modes amount
@@ -83,34 +87,44 @@ ask_word (asks.Mount node epoch pod claims) = codes "mount"
 ask_word (asks.Unmount node epoch pod) = codes "unmount"
 ask_word (asks.SetTime at) = codes "time"
 
+-- the members of an update: the object, and the version on whose condition it is
 abbrev pub update_pairs : Object → Option ℕ → MemberList
 update_pairs object version = (codes "object", Some (object_data object)) ∷ (codes "version", option_map number_data version) ∷ []
 
+-- the members of an update of a status, with the version on whose condition it is
 abbrev pub update_status_pairs : Key → NewStatus → Option ℕ → MemberList
 update_status_pairs key status version = key_pairs key ++ (status_pairs status ++ (codes "version", option_map number_data version) ∷ [])
 
+-- the members of a list: the kind, and one namespace or all
 abbrev pub list_pairs : Kind → Option (List ℕ) → MemberList
 list_pairs kind namespace = (codes "kind", text (kind_word kind)) ∷ (codes "namespace", option_map string namespace) ∷ []
 
+-- the members of a watch: the kind, and the version from which events are asked for
 abbrev pub watch_pairs : Kind → ℕ → MemberList
 watch_pairs kind from = (codes "kind", text (kind_word kind)) ∷ (codes "from", whole from) ∷ []
 
+-- the UID of a pod and the name of a node
 abbrev pub pod_node_pairs : Uid → List ℕ → MemberList
 pod_node_pairs uid node = (codes "uid", Some (uid_data uid)) ∷ (codes "node", text node) ∷ []
 
+-- the members of a call that assigns a pod to a node
 abbrev pub bind_pairs : Key → Uid → List ℕ → MemberList
 bind_pairs key uid node = key_pairs key ++ pod_node_pairs uid node
 
+-- the members of a provision call: name, provisioner, bytes, and the labels of the node from which the data are to be reached
 abbrev pub provision_pairs : List ℕ → List ℕ → ℕ → Option (List Pair) → MemberList
 provision_pairs name provisioner bytes labels =
     (codes "name", text name) ∷ (codes "provisioner", text provisioner) ∷ (codes "bytes", whole bytes) ∷ (codes "labels", option_map pairs_data labels) ∷ []
 
+-- the members by which a back end knows data: its driver and the handle there
 abbrev pub data_id_pairs : DataId → MemberList
 data_id_pairs id = two_texts (codes "driver") id.driver (codes "id") id.id
 
+-- the members of an agent's call: its node, and the epoch in which it took it
 abbrev pub node_epoch_pairs : List ℕ → ℕ → MemberList
 node_epoch_pairs node epoch = (codes "node", text node) ∷ (codes "epoch", whole epoch) ∷ []
 
+-- the members of an unmount call: node, epoch and the UID of the pod
 abbrev pub unmount_pairs : List ℕ → ℕ → Uid → MemberList
 unmount_pairs node epoch pod = node_epoch_pairs node epoch ++ (codes "pod", Some (uid_data pod)) ∷ []
 
@@ -134,5 +148,6 @@ argument_pairs (asks.Mount node epoch pod claims) = unmount_pairs node epoch pod
 argument_pairs (asks.Unmount node epoch pod) = unmount_pairs node epoch pod
 argument_pairs (asks.SetTime at) = (codes "at", text at) ∷ []
 
+-- a request as an object, which begins with the word of the call
 unfoldable pub request_data : Request → Data
 request_data r = object_of ((codes "do", text (ask_word r)) ∷ argument_pairs r)

@@ -50,6 +50,7 @@ abbrev pub IsNamespace : Bool → List ℕ → Type 0
 IsNamespace true s = ⊤
 IsNamespace false s = s ≡ []
 
+-- metadata that a manifest can give, of a kind with namespaces or without
 pub record IsMeta (namespaced : Bool) (m : Meta) : Type 0 where
   pub namespace : IsNamespace namespaced m.namespace
   pub uid : IfSome m.uid IsUid
@@ -65,6 +66,7 @@ pub record IsMeta (namespaced : Bool) (m : Meta) : Type 0 where
 abbrev pub IsAmount : Amount → Type 0
 IsAmount a = amount_of a.text ≡ Ok a.bytes
 
+-- a claimRef whose UID, if it is set, has 128 bits
 abbrev pub IsRef : Ref → Type 0
 IsRef r = IfSome r.uid IsUid
 
@@ -75,9 +77,11 @@ HasItsTexts Nfs second = ⊤
 HasItsTexts Local second = second ≡ []
 HasItsTexts HostPath second = second ≡ []
 
+-- a source that has the texts of its kind and no other
 abbrev pub IsSource : Source → Type 0
 IsSource s = HasItsTexts s.kind s.second
 
+-- a label selector whose labels are in order, each key once
 abbrev pub IsSelector : Selector → Type 0
 IsSelector s = ArePairs s.labels
 
@@ -95,6 +99,7 @@ pub record AreExtra (n : ℕ) (known : Listed) (kept : List ℕ) (ms : Members) 
   pub others : AreOthers (is_listed_member known) ms
   pub good : GoodMembers n ms
 
+-- no member of this name stands there, or it is null
 abbrev pub IsFree : List ℕ → Members → Type 0
 IsFree k ms = unless_null (get_member k ms) ≡ None
 
@@ -105,6 +110,7 @@ NoneBefore Nfs ms = IsFree (codes "csi") ms
 NoneBefore Local ms = IsFree (codes "csi") ms × IsFree (codes "nfs") ms
 NoneBefore HostPath ms = IsFree (codes "csi") ms × IsFree (codes "nfs") ms × IsFree (codes "local") ms
 
+-- members that a volume keeps beside a source of this kind
 pub record AreVolumeExtra (kind : SourceKind) (kept : List ℕ) (ms : Members) : Type 0 where
   pub extra : AreExtra 125 (listed.Volume kind) kept ms
   pub free : NoneBefore kind ms
@@ -116,6 +122,7 @@ pub record ArePodExtra (p : Pod) (ms : Members) : Type 0 where
 
 -- ---- objects
 
+-- a volume that a manifest can give
 pub record IsVolume (v : Volume) : Type 0 where
   pub meta : IsMeta false v.meta
   pub amount : IsAmount v.amount
@@ -123,6 +130,7 @@ pub record IsVolume (v : Volume) : Type 0 where
   pub source : IsSource v.source
   pub extra : (ms : Members) × AreVolumeExtra v.source.kind v.extra ms
 
+-- a claim that a manifest can give
 pub record IsClaim (c : Claim) : Type 0 where
   pub meta : IsMeta true c.meta
   pub amount : IsAmount c.amount
@@ -130,20 +138,24 @@ pub record IsClaim (c : Claim) : Type 0 where
   pub got : IfSome c.got IsAmount
   pub extra : (ms : Members) × AreExtra 125 listed.Claim c.extra ms
 
+-- a storage class that a manifest can give
 pub record IsClass (c : Class) : Type 0 where
   pub meta : IsMeta false c.meta
   pub policy : IsClassPolicy c.policy
   pub parameters : ArePairs c.parameters
   pub extra : (ms : Members) × AreExtra 126 listed.Class c.extra ms
 
+-- a node that a manifest can give
 pub record IsNode (n : Node) : Type 0 where
   pub meta : IsMeta false n.meta
   pub extra : (ms : Members) × AreExtra 125 listed.Node n.extra ms
 
+-- a pod that a manifest can give
 pub record IsPod (p : Pod) : Type 0 where
   pub meta : IsMeta true p.meta
   pub extra : (ms : Members) × ArePodExtra p ms
 
+-- an object that a manifest can give
 abbrev pub IsGivenObject : Object → Type 0
 IsGivenObject (objects.Class c) = IsClass c
 IsGivenObject (objects.Node n) = IsNode n

@@ -60,15 +60,19 @@ pub record Row : Type 0 where
 
 -- ---- the table
 
+-- a member of the metadata
 abbrev pub meta_row : Member → Shape → Presence → Row
 meta_row m shape presence = record { way = members.Metadata ∷ []; member = m; shape = shape; presence = presence }
 
+-- a member of the object itself
 abbrev pub top_row : Member → Shape → Presence → Row
 top_row m shape presence = record { way = []; member = m; shape = shape; presence = presence }
 
+-- a member of the spec
 abbrev pub spec_row : Member → Shape → Presence → Row
 spec_row m shape presence = record { way = members.Spec ∷ []; member = m; shape = shape; presence = presence }
 
+-- a member of the status
 abbrev pub status_row : Member → Shape → Presence → Row
 status_row m shape presence = record { way = members.Status ∷ []; member = m; shape = shape; presence = presence }
 
@@ -87,6 +91,7 @@ meta_rows =
     ∷ meta_row members.Finalizers Texts Optional
     ∷ []
 
+-- the members of a storage class
 abbrev pub class_rows : List Row
 class_rows =
     top_row members.Provisioner Text Required
@@ -95,6 +100,7 @@ class_rows =
     ∷ top_row members.Parameters TextMap Optional
     ∷ []
 
+-- the members of a claim
 abbrev pub claim_rows : List Row
 claim_rows =
     spec_row members.AccessModes Modes Required
@@ -108,12 +114,14 @@ claim_rows =
     ∷ record { way = members.Status ∷ members.Capacity ∷ []; member = members.Storage; shape = Quantity; presence = Optional }
     ∷ []
 
+-- the members of a pod
 abbrev pub pod_rows : List Row
 pod_rows =
     spec_row members.NodeName Text (Default [])
     ∷ spec_row members.Volumes PodVolumes Optional
     ∷ []
 
+-- the members of a node: all of its spec is kept
 abbrev pub node_rows : List Row
 node_rows = top_row members.Spec Members Optional ∷ []
 
@@ -128,6 +136,7 @@ volume_front =
     ∷ spec_row members.ClaimRef Reference Optional
     ∷ []
 
+-- the members of a volume behind its source
 abbrev pub volume_back : List Row
 volume_back =
     record { way = members.Spec ∷ members.NodeAffinity ∷ members.Required ∷ []; member = members.NodeSelectorTerms; shape = Terms; presence = Optional }
@@ -136,6 +145,7 @@ volume_back =
 
 -- ---- what the table says of a value
 
+-- why a reader refuses, if it does
 abbrev pub fault : {X : Type 0} → Result X ObjectError → Option ObjectError
 fault (Ok x) = None
 fault (Err e) = Some e
@@ -144,8 +154,8 @@ fault (Err e) = Some e
 abbrev pub one_of : Member → List (List ℕ) → List ℕ → Result (List ℕ) ObjectError
 one_of m words s = if list_any (bytes_eq s) words then Ok s else Err (WrongType m)
 
--- the first of two faults
 infixr 20 ◌then◌
+-- the first of two faults
 abbrev pub ◌then◌ : Option ObjectError → Option ObjectError → Option ObjectError
 None then next = next
 (Some e) then next = Some e
@@ -172,6 +182,7 @@ abbrev pub on : Option ObjectError → (Data → Option ObjectError) → Option 
 on absent there None = absent
 on absent there (Some d) = there d
 
+-- the fault of a member that may be absent, by what the table asks of it
 abbrev pub member_fault : Presence → Shape → Member → Option Data → Option ObjectError
 member_fault Required shape m place = on (Some (Missing m)) (shape_fault shape m) (unless_null place)
 member_fault Optional shape m place = on None (shape_fault shape m) place
@@ -185,17 +196,21 @@ step_to Optional m place = some_object_at m place
 step_to (Default s) m place = some_object_at m place
 step_to Nullable m place = some_object_at m place
 
+-- the object at the end of a way of members, or the first refusal on it
 abbrev pub way_to : Presence → List Member → Option Data → Result (Option Data) ObjectError
 way_to presence [] place = Ok place
 way_to presence (m ∷ ms) place = step_to presence m place >>= λ next. way_to presence ms next
 
+-- the refusal on the way, else the fault at its end
 abbrev pub after : Result (Option Data) ObjectError → (Option Data → Option ObjectError) → Option ObjectError
 after (Err e) f = Some e
 after (Ok place) f = f place
 
+-- the fault of a value by one row of the table
 abbrev pub row_fault : Row → Data → Option ObjectError
 row_fault row d = after (way_to row.presence row.way (Some d)) (λ place. member_fault row.presence row.shape row.member (at row.member place))
 
+-- the first fault by these rows, in their order
 abbrev pub rows_fault : List Row → Data → Option ObjectError
 rows_fault [] d = None
 rows_fault (row ∷ rows) d = row_fault row d then rows_fault rows d
@@ -204,6 +219,7 @@ rows_fault (row ∷ rows) d = row_fault row d then rows_fault rows d
 abbrev pub source_fault : Data → Option ObjectError
 source_fault d = after (way_to Required (members.Spec ∷ []) (Some d)) (λ spec. fault (source_at spec))
 
+-- the first fault by the table of a kind
 abbrev pub kind_fault : Kind → Data → Option ObjectError
 kind_fault kinds.StorageClass d = rows_fault meta_rows d then rows_fault class_rows d
 kind_fault kinds.Node d = rows_fault meta_rows d then rows_fault node_rows d
@@ -217,18 +233,23 @@ FollowsTable = (kind : Kind) (d : Data) → fault (object_of_kind kind d) ≡ ki
 
 -- ---- examples: a class without a provisioner, with one, and with a policy that no class has
 
+-- metadata with a name alone
 abbrev bare_meta : Data
 bare_meta = object (member (codes "name") (string (codes "a")) no_members)
 
+-- a class without a provisioner
 abbrev pub bare_class : Data
 bare_class = object (member (codes "metadata") bare_meta no_members)
 
+-- a class with a provisioner
 abbrev pub whole_class : Data
 whole_class = object (member (codes "metadata") bare_meta (member (codes "provisioner") (string (codes "p")) no_members))
 
+-- a class whose policy no class may have
 abbrev pub recycled_class : Data
 recycled_class = object (member (codes "metadata") bare_meta (member (codes "provisioner") (string (codes "p")) (member (codes "reclaimPolicy") (string (codes "Recycle")) no_members)))
 
+-- what the table says of these classes
 pub record TableExamples : Type 0 where
   pub bare : kind_fault kinds.StorageClass bare_class ≡ Some (Missing members.Provisioner)
   pub whole : kind_fault kinds.StorageClass whole_class ≡ None

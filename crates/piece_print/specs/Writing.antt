@@ -13,6 +13,7 @@ behind front w = (front ++ w.0, w.1)
 abbrev pub whole : JsonPieces → Writing
 whole o = behind o.front (written o.tail)
 
+-- the text that the pieces make together
 abbrev pub text_in : JsonPieces → List ℕ
 text_in o = (whole o).0
 

@@ -3,6 +3,7 @@
 -- draw takes the 31 highest bits is a choice of this project.
 use Rattle.std.specs.Prelude.{ℕ, zero, suc, ◌+◌, ◌*◌, ◌/◌, ◌%◌, ◌^◌}
 
+-- the next state of the generator: a linear congruential generator of 64 bits, with the constants of Knuth's MMIX
 abbrev pub next_state : ℕ → ℕ
 next_state x = (x * 6364136223846793005 + 1442695040888963407) % 2 ^ 64
 

@@ -28,9 +28,11 @@ class_drawn n = if n == 3 then codes "fast" else codes "slow"
 abbrev pub claim_line : ℕ → ℕ → Line
 claim_line seed i = creates (Claim (sized_claim (numbered (codes "c") i) (1 + draw seed (2 * i + 513) 16) (class_drawn (draw seed (2 * i + 514) 4))))
 
+-- claim i of class late, of 1 GiB, for pod i
 abbrev pub late_claim_line : ℕ → Line
 late_claim_line i = creates (Claim (sized_claim (numbered (codes "l") i) 1 (codes "late")))
 
+-- pod i, which uses late claim i
 abbrev pub pod_line : ℕ → Line
 pod_line i = creates (Pod (pod_with (numbered (codes "p") i) (numbered (codes "l") i)))
 
@@ -40,9 +42,11 @@ delete_line seed i = Call 1 (Delete (claim_key (numbered (codes "c") (draw seed 
 
 -- ---- all lines
 
+-- two classes: fast binds at once, late for the first consumer
 abbrev pub class_lines : List Line
 class_lines = creates (Class (class_named (codes "fast") false)) ∷ creates (Class (class_named (codes "late") true)) ∷ []
 
+-- four nodes, two in each of two zones
 abbrev pub node_lines : List Line
 node_lines =
     creates (Node (zoned_node (codes "n0") (codes "z0")))
@@ -56,9 +60,11 @@ unfoldable pub each_below : ℕ → (ℕ → List Line) → List Line
 each_below zero lines = []
 each_below (suc i) lines = each_below i lines ++ lines i
 
+-- 256 volumes
 abbrev pub volume_lines : ℕ → List Line
 volume_lines seed = each_below 256 (λ i. volume_line seed i ∷ [])
 
+-- 256 claims
 abbrev pub claim_lines : ℕ → List Line
 claim_lines seed = each_below 256 (λ i. claim_line seed i ∷ [])
 
@@ -66,6 +72,7 @@ claim_lines seed = each_below 256 (λ i. claim_line seed i ∷ [])
 abbrev pub pod_lines : List Line
 pod_lines = each_below 64 (λ i. late_claim_line i ∷ pod_line i ∷ [])
 
+-- 64 deletions of claims
 abbrev pub delete_lines : ℕ → List Line
 delete_lines seed = each_below 64 (λ i. delete_line seed i ∷ [])
 
@@ -74,9 +81,11 @@ unfoldable pub generated_lines : ℕ → List Line
 generated_lines seed =
     class_lines ++ node_lines ++ volume_lines seed ++ claim_lines seed ++ pod_lines ++ Drain ∷ [] ++ delete_lines seed
 
+-- the names of these nodes, in order
 abbrev pub node_names : List (List ℕ)
 node_names = codes "n0" ∷ codes "n1" ∷ codes "n2" ∷ codes "n3" ∷ []
 
+-- the script of a seed: one pool, no faults, no imports, and these lines
 unfoldable pub generated : ℕ → Script
 generated seed = record {
   setup = record { pools = pool ∷ []; faults = []; imports = [] };

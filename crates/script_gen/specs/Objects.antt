@@ -22,6 +22,7 @@ use Rattle.call_types.specs.declared.setup.Pool.{Pool}
 abbrev pub numbered : List ℕ → ℕ → List ℕ
 numbered letter i = letter ++ decimal i
 
+-- the provisioner of the pool and of the classes
 abbrev pub provisioner : List ℕ
 provisioner = codes "example.com/block"
 
@@ -29,9 +30,11 @@ provisioner = codes "example.com/block"
 abbrev pub pool : Pool
 pool = record { name = codes "p"; provisioner = provisioner; bytes = 1099511627776; topology = None }
 
+-- the size of the pool, as it is written in a script
 abbrev pub pool_size : List ℕ
 pool_size = codes "1Ti"
 
+-- metadata with a namespace and a name alone
 abbrev pub named_meta : List ℕ → List ℕ → Meta
 named_meta namespace name = record {
   namespace = namespace;
@@ -55,6 +58,7 @@ writers many = record { rwo = true; rox = false; rwx = many; rwop = false }
 
 -- ---- classes and nodes
 
+-- a class of this name, which binds for the first consumer or at once
 abbrev pub class_named : List ℕ → Bool → Class
 class_named name delayed = record {
   meta = named_meta [] name;
@@ -65,11 +69,13 @@ class_named name delayed = record {
   extra = [];
 }
 
+-- a node of this name in this zone, by its label
 abbrev pub zoned_node : List ℕ → List ℕ → Node
 zoned_node name zone = record { meta = record (named_meta [] name) { labels = (codes "zone", zone) ∷ [] }; extra = [] }
 
 -- ---- volumes, claims and pods
 
+-- a share of an NFS server
 abbrev pub nfs_source : Source
 nfs_source = record { kind = sources.Nfs; first = codes "s"; second = codes "/x" }
 
@@ -89,6 +95,7 @@ volume_of i size many = record {
   phase = volume_phases.Pending;
 }
 
+-- a claim of so many GiB and of this class
 abbrev pub sized_claim : List ℕ → ℕ → List ℕ → Claim
 sized_claim name size class = record {
   meta = named_meta (codes "default") name;
@@ -117,5 +124,6 @@ pod_with name claim = record {
   extra = volumes_of claim;
 }
 
+-- the key of a claim of this name
 abbrev pub claim_key : List ℕ → Key
 claim_key name = record { kind = kinds.PersistentVolumeClaim; namespace = codes "default"; name = name }

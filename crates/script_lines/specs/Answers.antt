@@ -12,8 +12,8 @@ use Rattle.script_lines.specs.declared.errors.BadLine.{BadLine}
 use Rattle.script_lines.specs.declared.errors.ScriptError.{ScriptError}
 use Rattle.script_lines.specs.declared.errors.ScriptError.TheVariants as scripts
 
--- the first refusal, else what the next step makes of the value
 infixl 10 ◌>>=◌
+-- the first refusal, else what the next step makes of the value
 abbrev pub ◌>>=◌ : {A B : Type 0} → Result A Reason → (A → Result B Reason) → Result B Reason
 (Ok x) >>= f = f x
 (Err e) >>= f = Err e
@@ -41,6 +41,7 @@ abbrev pub taken_in_line : {X : Type 0} → Result X ObjectError → Result X Re
 taken_in_line (Ok x) = Ok x
 taken_in_line (Err e) = Err (reason_of e)
 
+-- the same of a call that may run out of memory
 abbrev pub line_error : ObjectError → LineError
 line_error objects.OutOfMemory = lines.OutOfMemory
 line_error objects.TooLong = lines.Refused TooLong
@@ -54,6 +55,7 @@ line_error (objects.BadQuantity m) = lines.Refused (BadQuantity (Of m))
 
 -- ---- answers
 
+-- a call that ends with this error is right: the refusal is the answer; of a call that ran out of memory nothing is said
 abbrev pub MemberFails : {X : Type 0} → LineError → Result X Reason → Type 0
 MemberFails lines.OutOfMemory answer = ⊤
 MemberFails (lines.Refused reason) answer = answer ≡ Err reason
@@ -68,10 +70,12 @@ abbrev pub MemberGivesBy : {X Y : Type 0} → (X → Y) → Result X LineError �
 MemberGivesBy view (Ok x) answer = answer ≡ Ok (view x)
 MemberGivesBy view (Err e) answer = MemberFails e answer
 
+-- the same of a whole script, where the refusal names the line
 abbrev pub ScriptFails : {X : Type 0} → ScriptError → Result X BadLine → Type 0
 ScriptFails scripts.OutOfMemory answer = ⊤
 ScriptFails (scripts.BadLine b) answer = answer ≡ Err b
 
+-- the result of reading a script is this answer, unless memory ran out
 abbrev pub ScriptGives : {X : Type 0} → Result X ScriptError → Result X BadLine → Type 0
 ScriptGives (Ok x) answer = answer ≡ Ok x
 ScriptGives (Err e) answer = ScriptFails e answer

@@ -7,6 +7,7 @@ use Rattle.script_lines.specs.declared.line_member.LineMember.TheVariants.{Of, F
 use Rattle.script_lines.specs.declared.errors.Reason.{Reason}
 use Rattle.script_lines.specs.declared.errors.Reason.TheVariants.{Missing, BadValue}
 
+-- why an import line is refused whose object cannot stand in the store
 abbrev pub import_reason : ImportFault → Reason
 import_reason faults.MissingUid = Missing (Of manifests.Uid)
 import_reason faults.Version = BadValue (Of manifests.ResourceVersion)

@@ -5,6 +5,7 @@ use Rattle.object_text.specs.MemberWords.{member_word}
 use Rattle.script_lines.specs.declared.line_member.LineMember.{LineMember}
 use Rattle.script_lines.specs.declared.line_member.LineMember.TheVariants as members
 
+-- the name of a member in a line
 abbrev pub line_word : LineMember → List ℕ
 line_word members.Do = codes "do"
 line_word members.Object = codes "object"

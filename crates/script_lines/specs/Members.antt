@@ -56,11 +56,13 @@ abbrev pub needed_from : LineMember → Option Data → Result Data Reason
 needed_from m None = Err (Missing m)
 needed_from m (Some d) = Ok d
 
+-- the value of a member that has to be there
 abbrev pub needed : LineMember → Data → Result Data Reason
 needed m line = needed_from m (unless_null (at m line))
 
 -- ---- texts, objects and numbers
 
+-- the text of a value; another value is of the wrong type
 abbrev pub text_of : LineMember → Data → Result (List ℕ) Reason
 text_of m null = Err (WrongType m)
 text_of m (boolean b) = Err (WrongType m)
@@ -88,6 +90,7 @@ number_in m most (unsigned n) = unless (not (nat_le 1 n && nat_le n most)) (BadV
 number_in m most (negative z) = Err (BadValue m)
 number_in m most (float x) = Err NotWhole
 
+-- a whole number from 1 to the most that is allowed; another value is of the wrong type
 abbrev pub count_of : LineMember → ℕ → Data → Result ℕ Reason
 count_of m most null = Err (WrongType m)
 count_of m most (boolean b) = Err (WrongType m)
@@ -108,6 +111,7 @@ most_call = 999999999
 abbrev pub most_turn : ℕ
 most_turn = 1000
 
+-- the number is one of these
 abbrev pub is_given : ℕ → List ℕ → Bool
 is_given n given = list_any (λ m. m == n) given
 
@@ -120,15 +124,18 @@ abbrev pub user_from : Option Data → Result ℕ Reason
 user_from None = Ok 1
 user_from (Some d) = count_of members.User 4 d
 
+-- the user of a line, by number
 abbrev pub user_at : Data → Result ℕ Reason
 user_at line = user_from (at members.User line)
 
 -- ---- keys
 
+-- the kind, or that it is unknown
 abbrev pub kind_from : Option Kind → Result Kind Reason
 kind_from None = Err UnknownKind
 kind_from (Some kind) = Ok kind
 
+-- the kind of the object that a line is about
 abbrev pub kind_at : Data → Result Kind Reason
 kind_at line = text_at (members.Of manifests.Kind) line >>= λ s. kind_from (kind_named s)
 
@@ -148,6 +155,7 @@ namespace_at namespaced line = taken_in_line (text_or manifests.Namespace (codes
 abbrev pub condition_at : Data → Result (Option Uid) Reason
 condition_at line = taken_in_line (uid_at manifests.Uid (Some line))
 
+-- the key of the object that a line is about: kind, namespace and name
 unfoldable pub key_at : Data → Result Key Reason
 key_at line = do
   kind ← kind_at line
@@ -169,6 +177,7 @@ object_reason (refusals.Missing m) = reason_of (refusals.Missing m)
 object_reason (refusals.WrongType m) = reason_of (refusals.WrongType m)
 object_reason (refusals.BadQuantity m) = reason_of (refusals.BadQuantity m)
 
+-- the object that was read of a line's manifest, or the refusal of the line
 abbrev pub object_taken : Result Object ObjectError → Result Object Reason
 object_taken (Ok o) = Ok o
 object_taken (Err e) = Err (object_reason e)
@@ -179,6 +188,7 @@ object_at line = needed members.Object line >>= λ d. object_taken (item_of d)
 
 -- ---- actors
 
+-- the actor, or that the name is that of none
 abbrev pub actor_from : Option Actor → Result Actor Reason
 actor_from None = Err (BadValue members.Actor)
 actor_from (Some actor) = Ok actor
@@ -191,6 +201,7 @@ actor_at agents line = text_at members.Actor line >>= λ s. actor_from (actor_na
 abbrev pub when_named : List ℕ → Result Bool Reason
 when_named s = if bytes_eq s (codes "before") then Ok false else (if bytes_eq s (codes "after") then Ok true else Err (WrongType members.When))
 
+-- the same of a line
 abbrev pub when_at : Data → Result Bool Reason
 when_at line = text_at members.When line >>= λ s. when_named s
 
@@ -208,6 +219,7 @@ size_reason (refusals.Missing m) = Missing members.Bytes
 size_reason (refusals.WrongType m) = WrongType members.Bytes
 size_reason (refusals.BadQuantity m) = BadQuantity members.Bytes
 
+-- the size that was read, or the refusal of the line
 abbrev pub size_taken : Result Amount ObjectError → Result Amount Reason
 size_taken (Ok a) = Ok a
 size_taken (Err e) = Err (size_reason e)
@@ -218,20 +230,24 @@ size_at line = needed members.Bytes line >>= λ d. size_taken (amount_in manifes
 
 -- the topology of a pool: both of its texts, or none
 
+-- the label with its value; a label without a value is refused
 abbrev pub value_from : List ℕ → Option Data → Result (Option (List ℕ × List ℕ)) Reason
 value_from label None = Err (Missing members.Value)
 value_from label (Some d) = text_of members.Value d >>= λ value. Ok (Some (label, value))
 
+-- both or neither: where a pool can be reached is a label with its value
 abbrev pub topology_from : Option Data → Option Data → Result (Option (List ℕ × List ℕ)) Reason
 topology_from None None = Ok None
 topology_from None (Some d) = Err (Missing members.Label)
 topology_from (Some d) value = text_of members.Label d >>= λ label. value_from label value
 
+-- the label and the value of the nodes from which a pool can be reached, if it has any
 abbrev pub topology_at : Data → Result (Option (List ℕ × List ℕ)) Reason
 topology_at line = topology_from (at members.Label line) (at members.Value line)
 
 -- ---- edits
 
+-- the member of a line that makes this edit
 abbrev pub edit_member : EditMember → LineMember
 edit_member AddFinalizer = members.AddFinalizer
 edit_member DropFinalizer = members.DropFinalizer
@@ -244,9 +260,11 @@ edit_member SetPolicy = members.SetPolicy
 edit_member SetClaimRef = members.SetClaimRef
 edit_member ClearClaimRef = members.ClearClaimRef
 
+-- the ten edits
 abbrev pub all_edits : List EditMember
 all_edits = AddFinalizer ∷ DropFinalizer ∷ DropLabel ∷ DropAnnotation ∷ SetLabel ∷ SetAnnotation ∷ SetVolumeName ∷ SetPolicy ∷ SetClaimRef ∷ ClearClaimRef ∷ []
 
+-- the line has the member of this edit
 abbrev pub stands : Data → EditMember → Bool
 stands line e = is_some (at (edit_member e) line)
 
@@ -268,10 +286,12 @@ two_texts_in m one two d = do
   second ← text_at two o
   unless (has_float o) NotWhole (first, second)
 
+-- the edit that sets a reclaim policy; a word that names none is of the wrong type
 abbrev pub policy_from : Option Policy → Result Edit Reason
 policy_from None = Err (WrongType members.SetPolicy)
 policy_from (Some policy) = Ok (edits.SetPolicy policy)
 
+-- the edit that clears a claimRef, where the value is true; another value is of the wrong type
 abbrev pub cleared : Data → Result Edit Reason
 cleared null = Err (WrongType members.ClearClaimRef)
 cleared (boolean b) = if b then Ok edits.ClearClaimRef else Err (WrongType members.ClearClaimRef)
@@ -293,9 +313,11 @@ edit_of SetPolicy d = text_of members.SetPolicy d >>= λ s. policy_from (policy_
 edit_of SetClaimRef d = two_texts_in members.SetClaimRef (members.Of manifests.Namespace) (members.Of manifests.Name) d >>= λ p. Ok (edits.SetClaimRef p.0 p.1)
 edit_of ClearClaimRef d = cleared d
 
+-- the edit by its member, which the line has to have
 abbrev pub edit_from : EditMember → Option Data → Result Edit Reason
 edit_from e None = Err (BadValue members.Edit)
 edit_from e (Some d) = edit_of e d
 
+-- the one edit of a line
 unfoldable pub edit_at : Data → Result Edit Reason
 edit_at line = edit_member_at line >>= λ e. edit_from e (at (edit_member e) line)

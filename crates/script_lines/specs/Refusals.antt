@@ -6,6 +6,7 @@ use Rattle.script_lines.specs.declared.errors.Reason.TheVariants as reasons
 use Rattle.script_lines.specs.declared.errors.BadLine.{BadLine}
 use Rattle.script_lines.specs.MemberWords.{line_word}
 
+-- the word that is printed for a refusal
 abbrev pub reason_word : Reason → List ℕ
 reason_word reasons.TooLong = codes "TooLong"
 reason_word reasons.NotJson = codes "NotJson"
@@ -26,6 +27,7 @@ reason_word reasons.TooManyRestarts = codes "TooManyRestarts"
 reason_word reasons.TooManyLosses = codes "TooManyLosses"
 reason_word reasons.TooManyTurns = codes "TooManyTurns"
 
+-- the member that a refusal names, if it names one
 abbrev pub reason_member : Reason → Option LineMember
 reason_member (reasons.Missing m) = Some m
 reason_member (reasons.WrongType m) = Some m
@@ -33,6 +35,7 @@ reason_member (reasons.BadQuantity m) = Some m
 reason_member (reasons.BadValue m) = Some m
 reason_member reason = None
 
+-- the word, and the member behind it
 abbrev pub with_line_member : List ℕ → Option LineMember → List ℕ
 with_line_member word None = word
 with_line_member word (Some m) = word ++ (codes " " ++ line_word m)

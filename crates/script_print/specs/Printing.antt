@@ -50,13 +50,16 @@ call_pairs (asks.Mount node epoch pod claims) = argument_pairs (asks.Mount node 
 call_pairs (asks.Unmount node epoch pod) = argument_pairs (asks.Unmount node epoch pod)
 call_pairs (asks.SetTime at) = argument_pairs (asks.SetTime at)
 
+-- the word that says whether a call is lost before its effect or after it
 abbrev pub when_word : Bool → List ℕ
 when_word false = codes "before"
 when_word true = codes "after"
 
+-- the member that names the actor of a line
 abbrev pub actor_pairs : Actor → MemberList
 actor_pairs actor = (codes "actor", text (actor_word actor)) ∷ []
 
+-- the members of a line that is carried out when its turn comes
 abbrev pub line_pairs : Line → MemberList
 line_pairs (Call user request) = (codes "do", text (ask_word request)) ∷ (call_pairs request ++ user_pairs user)
 line_pairs (Lose actor call after) = (codes "do", text (codes "lose")) ∷ (actor_pairs actor ++ (codes "call", whole call) ∷ (codes "when", text (when_word after)) ∷ [])
@@ -64,20 +67,25 @@ line_pairs (Restart actor after) = (codes "do", text (codes "restart")) ∷ (act
 line_pairs (Turn actor calls) = (codes "do", text (codes "turn")) ∷ (actor_pairs actor ++ (codes "calls", whole calls) ∷ [])
 line_pairs Drain = (codes "do", text (codes "drain")) ∷ []
 
+-- the same as an object
 unfoldable pub line_data : Line → Data
 line_data line = object_of (line_pairs line)
 
+-- the text of such a line
 unfoldable pub line_text : Line → List ℕ
 line_text line = compact_text (line_data line)
 
 -- ---- what is there from the start
 
+-- the members of a pool's line, with its size as it was written
 abbrev pub pool_pairs : Pool → List ℕ → MemberList
 pool_pairs pool size = (codes "do", text (codes "pool")) ∷ (codes "bytes", text size) ∷ (codes "name", text pool.name) ∷ (codes "provisioner", text pool.provisioner) ∷ topology_pairs pool.topology
 
+-- the same as an object
 unfoldable pub pool_data : Pool → List ℕ → Data
 pool_data pool size = object_of (pool_pairs pool size)
 
+-- the line of a pool
 unfoldable pub pool_text : Pool → List ℕ → List ℕ
 pool_text pool size = compact_text (pool_data pool size)
 
@@ -87,21 +95,27 @@ pool_lines [] sizes = []
 pool_lines (pool ∷ pools) [] = pool_text pool (decimal pool.bytes) ∷ pool_lines pools []
 pool_lines (pool ∷ pools) (size ∷ sizes) = pool_text pool size ∷ pool_lines pools sizes
 
+-- the object of a fault's line: the number of the device call that is to fail
 unfoldable pub fault_data : ℕ → Data
 fault_data call = object_of ((codes "call", whole call) ∷ (codes "do", text (codes "fault")) ∷ [])
 
+-- the line of a planned fault
 unfoldable pub fault_text : ℕ → List ℕ
 fault_text call = compact_text (fault_data call)
 
+-- the members of an import line
 abbrev pub import_pairs : Object → MemberList
 import_pairs object = (codes "do", text (codes "import")) ∷ (codes "object", Some (object_data object)) ∷ []
 
+-- the same as an object
 unfoldable pub import_data : Object → Data
 import_data object = object_of (import_pairs object)
 
+-- the line of an imported object
 unfoldable pub import_text : Object → List ℕ
 import_text object = compact_text (import_data object)
 
+-- the lines of a script: pools, faults and imports, and then what is carried out
 unfoldable pub script_lines : Script → List (List ℕ)
 script_lines s = pool_lines s.setup.pools s.sizes ++ (map fault_text s.setup.faults ++ (map import_text s.setup.imports ++ map line_text s.lines))
 

@@ -42,18 +42,23 @@ use Rattle.script_text.specs.LineReaders.{verb_at, create_line, as_line, as_impo
 abbrev pub most_line_bytes : ℕ
 most_line_bytes = 16384
 
+-- how many lines a script may have
 abbrev pub most_lines : ℕ
 most_lines = 4096
 
+-- how many objects a script may import and create together
 abbrev pub most_objects : ℕ
 most_objects = 1024
 
+-- how many nodes with an agent a script may name
 abbrev pub most_nodes : ℕ
 most_nodes = 8
 
+-- how many pools a script may have
 abbrev pub most_pools : ℕ
 most_pools = 64
 
+-- how many faults a script may plan
 abbrev pub most_faults : ℕ
 most_faults = 256
 
@@ -69,10 +74,12 @@ most_losses = 64
 abbrev pub most_calls : ℕ
 most_calls = 28000
 
+-- the refusal, where the limit is passed
 abbrev pub passed : Bool → Reason → Option Reason
 passed true reason = Some reason
 passed false reason = None
 
+-- the first of two refusals, if there is one
 abbrev pub first_of : Option Reason → Option Reason → Option Reason
 first_of (Some reason) later = Some reason
 first_of None later = later
@@ -86,6 +93,7 @@ abbrev pub create_limit : List Object → List Line → Bool → Option Reason
 create_limit imports lines false = None
 create_limit imports lines true = object_limit imports lines
 
+-- the limit that the last of these lines passes, by its kind
 abbrev pub line_limit : List Object → List Line → Line → Option Reason
 line_limit imports lines (Call user request) = create_limit imports lines (is_some (created_by request))
 line_limit imports lines (Lose actor call after) = passed (nat_lt most_losses (length (losses_of (actor_word actor) lines))) TooManyLosses
@@ -100,6 +108,7 @@ limit_of said (meanings.Fault call) = passed (nat_lt most_faults (length said.fa
 limit_of said (meanings.Import object) = object_limit said.imports said.lines
 limit_of said (meanings.Line line) = line_limit said.imports said.lines line
 
+-- what is said, unless a limit is passed
 abbrev pub unless_passed : Option Reason → Said → Result Said Reason
 unless_passed None said = Ok said
 unless_passed (Some reason) said = Err reason
@@ -110,6 +119,7 @@ unless_passed (Some reason) said = Err reason
 abbrev pub is_blank : ℕ → Bool
 is_blank b = b == 32 || b == 9
 
+-- the value of a line, which has to be an object
 abbrev pub object_value : Data → Result Data Reason
 object_value d = if is_object d then Ok d else Err NotObject
 
@@ -146,6 +156,7 @@ own_object line = do
   verb ← verb_at value
   object_by verb value
 
+-- the node that a line names which was read; none where it was refused
 abbrev pub node_from : Result Meaning Reason → Option (List ℕ)
 node_from (Ok meaning) = meaning_node meaning
 node_from (Err reason) = None
@@ -155,6 +166,7 @@ abbrev pub agents_beside : List Pair → List (List ℕ) → List Pair
 agents_beside agents [] = agents
 agents_beside agents (line ∷ lines) = agents_beside (and_node agents (node_from (own_object line))) lines
 
+-- the agents of the nodes that the create and import lines of a text name
 abbrev pub agents_in : List (List ℕ) → List Pair
 agents_in lines = agents_beside [] lines
 
@@ -174,9 +186,11 @@ abbrev pub said_from : List Pair → ℕ → List (List ℕ) → Said → Result
 said_from agents n [] said = Ok said
 said_from agents n (line ∷ lines) said = at_line n (and_line agents said n line) (λ now. said_from agents (n + 1) lines now)
 
+-- what the lines of a text say, or the first that is refused
 abbrev pub said_in : List (List ℕ) → Result Said BadLine
 said_in lines = said_from (agents_in lines) 1 lines nothing_said
 
+-- the script of what was said, with the numbers of its lines
 abbrev pub numbered_from : Result Said BadLine → Result Numbered BadLine
 numbered_from (Ok said) = Ok (numbered_of said)
 numbered_from (Err b) = Err b
@@ -185,6 +199,7 @@ numbered_from (Err b) = Err b
 unfoldable pub read_numbered_of : List ℕ → Result Numbered BadLine
 read_numbered_of text = numbered_from (said_in (lines_of text))
 
+-- the script without the numbers of its lines
 abbrev pub script_from : Result Numbered BadLine → Result Script BadLine
 script_from (Ok n) = Ok n.script
 script_from (Err b) = Err b

@@ -28,6 +28,7 @@ use Rattle.script_text.specs.Said.{Said, has_begun, losses_of, restarts_of}
 
 -- ---- users' calls
 
+-- a user creates an object
 unfoldable pub create_line : Data → Result Line Reason
 create_line line = do
   object ← object_at line
@@ -38,12 +39,14 @@ create_line line = do
 abbrev pub condition_of : Object → Option ℕ
 condition_of o = if (meta_of o).version == 0 then None else Some (meta_of o).version
 
+-- a user updates an object, on the condition of the resourceVersion that its manifest has, if any
 unfoldable pub update_line : Data → Result Line Reason
 update_line line = do
   object ← object_at line
   user ← user_at line
   Ok (Call user (asks.Update object (condition_of object)))
 
+-- a user edits one member of an object
 unfoldable pub edit_line : Data → Result Line Reason
 edit_line line = do
   key ← key_at line
@@ -51,6 +54,7 @@ edit_line line = do
   user ← user_at line
   Ok (Call user (asks.Edit key edit))
 
+-- a user deletes an object, on the condition of its UID where one is named
 unfoldable pub delete_line : Data → Result Line Reason
 delete_line line = do
   key ← key_at line
@@ -58,18 +62,21 @@ delete_line line = do
   user ← user_at line
   Ok (Call user (asks.Delete key uid))
 
+-- a user reads an object
 unfoldable pub get_line : Data → Result Line Reason
 get_line line = do
   key ← key_at line
   user ← user_at line
   Ok (Call user (asks.Get key))
 
+-- a user lists the objects of a kind
 unfoldable pub list_line : Data → Result Line Reason
 list_line line = do
   kind ← kind_at line
   user ← user_at line
   Ok (Call user (asks.List kind None))
 
+-- a user sets the time
 unfoldable pub time_line : Data → Result Line Reason
 time_line line = do
   at ← text_at members.At line
@@ -78,6 +85,7 @@ time_line line = do
 
 -- ---- what is there from the start
 
+-- a back end has a pool of storage: its name, provisioner and size, and where it can be reached
 unfoldable pub pool_line : Data → Result Meaning Reason
 pool_line line = do
   name ← text_at (members.Of manifests.Name) line
@@ -104,6 +112,7 @@ import_line lines before line = do
 
 -- ---- actors: those of these agents; no number of an actor's call twice
 
+-- a call of an actor is lost, before its effect or after it; each number of a call at most once
 unfoldable pub lose_line : List Pair → List Line → Data → Result Line Reason
 lose_line agents before line = do
   actor ← actor_at agents line
@@ -111,12 +120,14 @@ lose_line agents before line = do
   after ← when_at line
   Ok (Lose actor call after)
 
+-- an actor restarts after a call; each number of a call at most once
 unfoldable pub restart_line : List Pair → List Line → Data → Result Line Reason
 restart_line agents before line = do
   actor ← actor_at agents line
   after ← new_call_at members.After (restarts_of (actor_word actor) before) line
   Ok (Restart actor after)
 
+-- an actor has a turn of so many calls
 unfoldable pub turn_line : List Pair → Data → Result Line Reason
 turn_line agents line = do
   actor ← actor_at agents line
@@ -125,21 +136,26 @@ turn_line agents line = do
 
 -- ---- any line
 
+-- the verb, or that the line's `do` is unknown
 abbrev pub verb_from : Option Verb → Result Verb Reason
 verb_from None = Err UnknownDo
 verb_from (Some verb) = Ok verb
 
+-- the verb of a line
 abbrev pub verb_at : Data → Result Verb Reason
 verb_at line = text_at members.Do line >>= λ word. verb_from (verb_named word)
 
+-- a line that is carried out when its turn comes
 abbrev pub as_line : Result Line Reason → Result Meaning Reason
 as_line (Ok line) = Ok (meanings.Line line)
 as_line (Err reason) = Err reason
 
+-- a line that imports an object before all calls
 abbrev pub as_import : Result Object Reason → Result Meaning Reason
 as_import (Ok object) = Ok (meanings.Import object)
 as_import (Err reason) = Err reason
 
+-- what a line with this verb means
 abbrev pub meaning_by : Verb → List Pair → Said → Data → Result Meaning Reason
 meaning_by verbs.Create agents said line = as_line (create_line line)
 meaning_by verbs.Update agents said line = as_line (update_line line)

@@ -27,6 +27,7 @@ pub record Said : Type 0 where
   pub lines : List Line
   pub numbers : List ℕ
 
+-- what an empty text says
 abbrev pub nothing_said : Said
 nothing_said = record { pools = []; sizes = []; faults = []; imports = []; lines = []; numbers = [] }
 
@@ -47,19 +48,23 @@ begins (Restart actor after) = false
 begins (Turn actor calls) = true
 begins Drain = true
 
+-- one of these lines is such a line
 abbrev pub has_begun : List Line → Bool
 has_begun lines = list_any begins lines
 
 -- ---- what lines create
 
+-- the object that a request creates
 abbrev pub created_by : Request → Option Object
 created_by (asks.Create object) = Some object
 created_by request = None
 
+-- the object that a line creates
 abbrev pub created : Line → Option Object
 created (Call user request) = created_by request
 created line = None
 
+-- the name of an object that is a node
 abbrev pub node_name : Object → Option (List ℕ)
 node_name (objects.Node n) = Some n.meta.name
 node_name object = None
@@ -68,9 +73,11 @@ node_name object = None
 abbrev pub created_node : Line → Option (List ℕ)
 created_node line = option_and_then node_name (created line)
 
+-- how many of the lines create an object
 abbrev pub creates : List Line → ℕ
 creates lines = count_by (λ line. is_some (created line)) lines
 
+-- beside the agent of a node, if there is one
 abbrev pub and_node : List Pair → Option (List ℕ) → List Pair
 and_node agents None = agents
 and_node agents (Some node) = with_node node agents
@@ -112,6 +119,7 @@ nodes_of agents = map (λ p. p.1) agents
 
 -- ---- what lines say of an actor of this name
 
+-- the number of the call that a line loses, where its actor has this name
 abbrev pub loss_of : List ℕ → Line → List ℕ
 loss_of name (Lose actor call after) = if bytes_eq (actor_word actor) name then call ∷ [] else []
 loss_of name line = []
@@ -120,6 +128,7 @@ loss_of name line = []
 abbrev pub losses_of : List ℕ → List Line → List ℕ
 losses_of name lines = flat_map (loss_of name) lines
 
+-- the number of the call after which a line restarts the actor, where its actor has this name
 abbrev pub restart_of : List ℕ → Line → List ℕ
 restart_of name (Restart actor after) = if bytes_eq (actor_word actor) name then after ∷ [] else []
 restart_of name line = []
@@ -128,6 +137,7 @@ restart_of name line = []
 abbrev pub restarts_of : List ℕ → List Line → List ℕ
 restarts_of name lines = flat_map (restart_of name) lines
 
+-- how many calls the turn of a line has; none where it is no turn
 abbrev pub turn_calls : Line → ℕ
 turn_calls (Turn actor calls) = calls
 turn_calls line = 0
@@ -138,6 +148,7 @@ calls_of lines = sum_by turn_calls lines
 
 -- ---- the script
 
+-- the script that was said, and the number of each of its lines in the text
 unfoldable pub numbered_of : Said → Numbered
 numbered_of said = record {
   script = record {

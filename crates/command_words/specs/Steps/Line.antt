@@ -9,15 +9,19 @@ use Rattle.command_words.specs.Grammar.{words_by, words_of}
 use Rattle.command_words.specs.declared.words.WordsError.{WordsError}
 use Rattle.command_words.specs.declared.words.WordsError.TheVariants.{Usage, OutOfMemory}
 
+-- an option by this name takes one text
 abbrev pub option_rule : Text → Rule
 option_rule name = record (new_rule name) { long = Some name; action = Some Set }
 
+-- the command is one word that stands apart
 abbrev pub command_rule : Rule
 command_rule = record (new_rule (codes "command")) { action = Some Set }
 
+-- the program, with no flag of its own
 abbrev pub bare_line : App
 bare_line = on_top (λ s. record s { no_binary_name = true; disable_help_flag = true; disable_version_flag = true }) (new_app (codes "pvbind"))
 
+-- what the command line takes: the command and the four options
 abbrev pub line : App
 line = with_rule (with_rule (with_rule (with_rule (with_rule bare_line command_rule) (option_rule (codes "workers"))) (option_rule (codes "seed")))
     (option_rule (codes "calls"))) (option_rule (codes "budget"))

@@ -26,10 +26,12 @@ use Rattle.object_laws.specs.Given.{IsGivenObject, IsAmount, IsUid}
 abbrev pub IsNumber : ℕ → Type 0
 IsNumber n = n < 2 ^ 64
 
+-- a new status that a line can give
 abbrev pub IsStatus : NewStatus → Type 0
 IsStatus (statuses.Volume phase) = ⊤
 IsStatus (statuses.Claim phase modes amount) = IfSome amount IsAmount
 
+-- a request that a line can give: its numbers have 64 bits, its UIDs 128, and its objects are ones that a manifest can give
 abbrev pub IsRequest : Request → Type 0
 IsRequest (asks.Create object) = IsGivenObject object
 IsRequest (asks.Update object version) = IsGivenObject object × IfSome version IsNumber
@@ -49,18 +51,22 @@ IsRequest (asks.Mount node epoch pod claims) = IsNumber epoch × IsUid pod × Al
 IsRequest (asks.Unmount node epoch pod) = IsNumber epoch × IsUid pod
 IsRequest (asks.SetTime moment) = ⊤
 
+-- a watch event that a line can give
 pub record IsEvent (e : Event) : Type 0 where
   pub object : IsGivenObject e.object
   pub version : IsNumber e.version
 
+-- a mount that a line can give
 pub record IsMountRow (row : MountRow) : Type 0 where
   pub pod : IsUid row.pod
   pub claims : All IsUid row.claims
 
+-- the answer of a watch that a line can give
 pub record AreEvents (e : Events) : Type 0 where
   pub events : All IsEvent e.events
   pub upto : IsNumber e.upto
 
+-- a refusal that a line can give
 abbrev pub IsRefusal : Refusal → Type 0
 IsRefusal refusals.NotFound = ⊤
 IsRefusal refusals.AlreadyExists = ⊤
@@ -73,6 +79,7 @@ IsRefusal (refusals.BackFault planned) = IsNumber planned
 IsRefusal (refusals.StaleEpoch current) = IsNumber current
 IsRefusal (refusals.Assigned node) = ⊤
 
+-- a reply that a line can give
 abbrev pub IsReply : Reply → Type 0
 IsReply (replies.Done object) = IsGivenObject object
 IsReply (replies.Left object) = IsGivenObject object
@@ -86,11 +93,13 @@ IsReply (replies.Mounted rows) = All IsMountRow rows
 IsReply replies.Timed = ⊤
 IsReply (replies.Refused refusal) = IsRefusal refusal
 
+-- an entry that a line can give
 pub record IsEntry (e : Entry) : Type 0 where
   pub seat : IsNumber e.seat
   pub request : IsRequest e.request
   pub reply : IsReply e.reply
 
+-- a pool that the first line can give
 abbrev pub IsPool : Pool → Type 0
 IsPool p = IsNumber p.bytes
 
@@ -102,12 +111,14 @@ pub record IsSetup (s : Setup) : Type 0 where
   pub imports : All IsGivenObject s.imports
   pub passing : ImportsPass s.imports
 
+-- a history that a text can give
 pub record IsTextHistory (s : Setup) (es : List Entry) : Type 0 where
   pub setup : IsSetup s
   pub entries : All IsEntry es
 
 -- ---- levels
 
+-- the line of the entry nests no deeper than is read
 abbrev pub IsShallow : Entry → Type 0
 IsShallow e = depth (entry_data e) ≤ 127
 

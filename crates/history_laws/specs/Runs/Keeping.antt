@@ -15,9 +15,11 @@ pub record IsGivenStore (most : ℕ) (s : State) : Type 0 where
   pub rows : All IsGivenObject s.rows
   pub version : s.version ≤ most
 
+-- the epoch of a node is at most this number
 abbrev pub IsEpoch : ℕ → List ℕ × ℕ → Type 0
 IsEpoch most e = e.1 ≤ most
 
+-- a mount that a line can give
 abbrev pub IsMount : MountAt → Type 0
 IsMount m = IsMountRow m.row
 

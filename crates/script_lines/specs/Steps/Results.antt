@@ -7,6 +7,7 @@ use Rattle.script_lines.specs.declared.errors.LineError.{LineError}
 use Rattle.script_lines.specs.declared.errors.LineError.TheVariants as lines
 use Rattle.script_lines.specs.Answers.{line_error}
 
+-- the refusals of a manifest in a line, or that memory ran out
 abbrev pub object_line_error : ObjectError → LineError
 object_line_error refusals.TooLong = lines.Refused (BadValue members.Object)
 object_line_error refusals.NotObject = lines.Refused (WrongType members.Object)
@@ -18,6 +19,7 @@ object_line_error (refusals.Missing m) = line_error (refusals.Missing m)
 object_line_error (refusals.WrongType m) = line_error (refusals.WrongType m)
 object_line_error (refusals.BadQuantity m) = line_error (refusals.BadQuantity m)
 
+-- the refusals of the size of a pool, or that memory ran out
 abbrev pub size_line_error : ObjectError → LineError
 size_line_error (refusals.Missing m) = lines.Refused (Missing members.Bytes)
 size_line_error (refusals.WrongType m) = lines.Refused (WrongType members.Bytes)

@@ -34,18 +34,22 @@ abbrev pub NoteFails : LineError → Option Reason → Type 0
 NoteFails OutOfMemory limit = ⊤
 NoteFails (Refused reason) limit = limit ≡ Some reason
 
+-- the index has the line or the object and no limit is passed, or the result names the limit
 abbrev pub Notes : Result Unit LineError → Index → List Object → List Line → Option Reason → Type 0
 Notes (Ok u) index imports lines limit = IsIndex index imports lines × (limit ≡ None)
 Notes (Err e) index imports lines limit = NoteFails e limit
 
 -- ---- progress
 
+-- the numbers of planned faults rise, each once
 abbrev pub AreFaults : List ℕ → Type 0
 AreFaults ns = IsRising nat_cmp (λ n. n) ns
 
+-- what was said so far
 abbrev pub said_by : Progress → Said
 said_by p = record { pools = p.pools; sizes = p.sizes; faults = p.faults.items; imports = p.imports; lines = p.lines; numbers = p.numbers }
 
+-- the faults are in order, and the index is that of what was said
 pub record ProgressStands (p : Progress) : Type 0 where
   pub faults : AreFaults p.faults.items
   pub index : IsIndex p.index p.imports p.lines

@@ -12,18 +12,22 @@ use Rattle.script_text.specs.Said.{Said}
 use Rattle.script_text.specs.Grammar.{agents_in}
 use Rattle.script_text.specs.Steps.Indexed.{ProgressStands, said_by}
 
+-- once the agents were looked for, they are those of these lines
 abbrev pub IsKnown : Known → List (List ℕ) → Type 0
 IsKnown known lines = known.found ≡ true → known.agents ≡ agents_in lines
 
+-- lines with this verb name an actor
 abbrev pub names_actor : Verb → Bool
 names_actor Lose = true
 names_actor Restart = true
 names_actor Turn = true
 names_actor verb = false
 
+-- this holds where lines with the verb name an actor
 abbrev pub IfNamed : Verb → Type 0 → Type 0
 IfNamed verb holds = names_actor verb ≡ true → holds
 
+-- the result is what these lines say, or the refusal, unless memory ran out
 abbrev pub SaidGives : Result Progress ScriptError → Result Said BadLine → Type 0
 SaidGives (Ok p) answer = ProgressStands p × (answer ≡ Ok (said_by p))
 SaidGives (Err e) answer = ScriptFails e answer

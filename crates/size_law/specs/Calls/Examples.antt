@@ -28,9 +28,11 @@ use Rattle.size_law.specs.Calls.Calls.{IsAsked, IsByActor, AreByActors}
 
 -- an actor that was told nothing, and has given the list of volumes; and a binder and a scheduler that have
 
+-- the cache of a kind of which nothing was told
 abbrev pub knows_nothing : Kind → Known
 knows_nothing kind = record { rows = record { kind = kind; marks = []; objects = [] }; lists = record { whole = None; spaces = [] }; from = None }
 
+-- such an actor of this kind, with so many kinds left to list
 abbrev pub new_actor : SeatKind → ℕ → ActorState
 new_actor kind behind = record {
   role = record { kind = kind; node = [] };
@@ -49,15 +51,19 @@ new_actor kind behind = record {
   given = Some (givens.Read kinds.PersistentVolume);
 }
 
+-- such a binder
 abbrev pub new_binder : ActorState
 new_binder = new_actor seats.Binder 3
 
+-- such a scheduler
 abbrev pub new_scheduler : ActorState
 new_scheduler = new_actor seats.Scheduler 5
 
+-- the list of all volumes
 abbrev pub list_volumes : Request
 list_volumes = requests.List kinds.PersistentVolume None
 
+-- reading is asked without being told anything; giving a volume to a claim is not
 pub record AskedExamples : Type 0 where
   pub lists : IsAsked seats.Binder [] list_volumes
   pub gives_what_was_never_told : IsAsked seats.Binder [] (write_reference a (c 3)) → ⊥

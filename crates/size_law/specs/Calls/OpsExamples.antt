@@ -33,6 +33,7 @@ slow = record {
   extra = [];
 }
 
+-- the data that a back end made
 abbrev pub data_1 : DataId
 data_1 = record { driver = codes "x/y"; id = codes "data-1" }
 
@@ -40,15 +41,19 @@ data_1 = record { driver = codes "x/y"; id = codes "data-1" }
 abbrev pub made : ℕ → VolumeData
 made size = provisioned_volume (c size) (uid_of_serial 2) slow data_1 None
 
+-- the volume with no access mode
 abbrev pub without_modes : VolumeData → VolumeData
 without_modes v = record v { modes = no_modes }
 
+-- the volume of another class
 abbrev pub of_class_fast : VolumeData → VolumeData
 of_class_fast v = record v { class = codes "fast" }
 
+-- the volume without its claimRef
 abbrev pub free : VolumeData → VolumeData
 free v = record v { claim_ref = None }
 
+-- the volume is made for the claim of its size, mode, modes and class, and for no other
 pub record MadeExamples : Type 0 where
   pub for_the_claim : IsMadeFor (made 3) (c 3)
   pub it_fits : Fits (made 3) (c 3)
@@ -64,6 +69,7 @@ pub record MadeExamples : Type 0 where
 abbrev pub told_claim : ℕ → List Entry
 told_claim size = lists_claim seats.Ops (c size) 2 ∷ []
 
+-- ops creates what is made for a claim that it was told; its other calls give no volume
 pub record MakingExamples : Type 0 where
   pub creates_what_is_made_for_the_claim : MakesFitting (told_claim 3) (requests.Create (Volume (made 3)))
   pub not_of_another_size : MakesFitting (told_claim 9) (requests.Create (Volume (made 3))) → ⊥

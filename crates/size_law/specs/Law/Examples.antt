@@ -34,18 +34,23 @@ use Rattle.size_law.specs.Law.Enough.{ImportsFit, WerePair, IsGivenByController,
 abbrev pub a : VolumeData
 a = volume_at (codes "a") 5 1 1 volumes.Pending
 
+-- the claim by its name, without its UID
 abbrev pub name_c : Ref
 name_c = record { namespace = codes "default"; name = codes "c"; uid = None }
 
+-- the volume with this claimRef
 abbrev pub with_reference : Ref → VolumeData → VolumeData
 with_reference r v = record v { claim_ref = Some r }
 
+-- the volume reserved for the claim by name
 abbrev pub reserved_a : VolumeData
 reserved_a = with_reference name_c a
 
+-- the volume reserved for another claim
 abbrev pub reserved_for_other : VolumeData
 reserved_for_other = with_reference (record name_c { name = codes "d" }) a
 
+-- the volume taken for the claim, with its UID
 abbrev pub taken_a : VolumeData
 taken_a = with_reference (record name_c { uid = Some (uid_of_serial 2) }) a
 
@@ -53,21 +58,26 @@ taken_a = with_reference (record name_c { uid = Some (uid_of_serial 2) }) a
 abbrev pub c : ℕ → ClaimData
 c size = claim_at (codes "c") size 2 2
 
+-- the claim, which names the volume
 abbrev pub naming_a : ClaimData → ClaimData
 naming_a x = record x { volume_name = codes "a" }
 
+-- the claim, whose binding is completed
 abbrev pub completed : ClaimData → ClaimData
 completed x = record x { meta = record x.meta { annotations = (bind_completed, yes) ∷ [] } }
 
+-- the claim, which asks for a block device
 abbrev pub of_blocks : ClaimData → ClaimData
 of_blocks x = record x { block = true }
 
+-- a volume fits a claim that asks for no more bytes and for the same volume mode
 pub record FitsExamples : Type 0 where
   pub more_bytes : Fits a (c 3)
   pub same_bytes : Fits a (c 5)
   pub fewer_bytes : Fits a (c 6) → ⊥
   pub other_mode : Fits a (of_blocks (c 3)) → ⊥
 
+-- what counts as reserved, as a pair that was bound by hand, and as a completed claim whose volume is free again
 pub record ByHandExamples : Type 0 where
   pub reserved : IsReservedFor reserved_a (c 9)
   pub free_is_not_reserved : IsReservedFor a (c 9) → ⊥
@@ -84,15 +94,19 @@ pub record ByHandExamples : Type 0 where
 
 -- what a seat may give
 
+-- an entry whose client was told the reply
 abbrev pub entry : ℕ → SeatKind → Request → Reply → Entry
 entry seat kind request reply = record { seat = seat; kind = kind; request = request; reply = reply; told = true }
 
+-- a client of this kind lists the volumes, of which there is this one
 abbrev pub lists_volume : SeatKind → VolumeData → ℕ → Entry
 lists_volume kind v version = entry 5 kind (requests.List kinds.PersistentVolume None) (replies.Listed (Volume v ∷ []) version)
 
+-- a client of this kind lists the claims, of which there is this one
 abbrev pub lists_claim : SeatKind → ClaimData → ℕ → Entry
 lists_claim kind x version = entry 5 kind (requests.List kinds.PersistentVolumeClaim None) (replies.Listed (Claim x ∷ []) version)
 
+-- a client of this kind was told the volume and the claim
 abbrev pub told : SeatKind → VolumeData → ClaimData → List Entry
 told kind v x = lists_claim kind x 2 ∷ lists_volume kind v 2 ∷ []
 
@@ -100,6 +114,7 @@ told kind v x = lists_claim kind x 2 ∷ lists_volume kind v 2 ∷ []
 abbrev pub Gives : SeatKind → VolumeData → ClaimData → Type 0
 Gives kind v x = GivesFitting kind (told kind v x) (write_reference v x)
 
+-- which volumes a binder and a scheduler may give to which claims
 pub record GivingExamples : Type 0 where
   pub fitting : Gives seats.Binder a (c 3)
   pub pair : Gives seats.Binder reserved_a (naming_a (c 9))
@@ -121,6 +136,7 @@ pub record GivingExamples : Type 0 where
 abbrev pub taken : VolumeData → ClaimData → ℕ → VolumePhase → VolumeData
 taken v x version phase = let t = taken_for v x in record t { meta = record t.meta { version = version }; phase = phase }
 
+-- the claim once it is completed with the volume
 abbrev pub done : ClaimData → VolumeData → ℕ → ClaimData
 done x v version = let d = completed_with x v in record d { meta = record d.meta { version = version } }
 
@@ -142,6 +158,7 @@ binding size = history (volume (codes "a") 5) a (claim (codes "c") size) (c size
 abbrev pub pair_binding : List Entry
 pair_binding = history (with_reference name_c (volume (codes "a") 5)) reserved_a (naming_a (claim (codes "c") 9)) (naming_a (c 9))
 
+-- a claim of 3 gibibytes is bound to the volume and gets enough
 pub record FittingRunExamples : Type 0 where
   pub run : Run no_setup (binding 3)
   pub fitting : AreFitting (binding 3)
@@ -174,12 +191,15 @@ pub record PairRunExamples : Type 0 where
 
 -- what imports bring
 
+-- a world that begins with these imports
 abbrev pub setup_of : List Object → Setup
 setup_of imports = record { pools = []; faults = []; imports = imports }
 
+-- the claim, completed and marked as bound by a controller
 abbrev pub marked_claim : ClaimData → ClaimData
 marked_claim x = record x { meta = record x.meta { annotations = (bind_completed, yes) ∷ (bound_by_controller, yes) ∷ [] } }
 
+-- the volume, marked as bound by a controller
 abbrev pub marked_volume : VolumeData → VolumeData
 marked_volume v = record v { meta = record v.meta { annotations = (bound_by_controller, yes) ∷ [] } }
 
@@ -187,12 +207,15 @@ marked_volume v = record v { meta = record v.meta { annotations = (bound_by_cont
 abbrev pub old_a : VolumeData
 old_a = let v = marked_volume taken_a in record v { phase = volumes.Bound }
 
+-- the claim of so many gibibytes that an older store had bound to the volume
 abbrev pub old_c : ℕ → ClaimData
 old_c size = marked_claim (naming_a (c size))
 
+-- a world that begins with the two
 abbrev pub old_pair : ℕ → Setup
 old_pair size = setup_of (Volume old_a ∷ Claim (old_c size) ∷ [])
 
+-- an imported pair fits or does not; the law speaks only of worlds whose imports fit
 pub record ImportedPairExamples : Type 0 where
   pub imports_fit : ImportsFit (old_pair 3) (Some (uid_of_serial 2))
   pub imports_do_not_fit : ImportsFit (old_pair 9) (Some (uid_of_serial 2)) → ⊥
@@ -205,12 +228,15 @@ pub record ImportedPairExamples : Type 0 where
 abbrev pub lost_setup : Setup
 lost_setup = setup_of (Claim (old_c 9) ∷ [])
 
+-- the imported claim in phase Lost
 abbrev pub lost_c : ClaimData
 lost_c = let x = old_c 9 in record x { phase = claims.Lost }
 
+-- the volume, created anew
 abbrev pub back_a : VolumeData
 back_a = volume_at (codes "a") 5 3 3 volumes.Pending
 
+-- a user creates the volume, and the binder gives it to the claim
 abbrev pub coming_back : List Entry
 coming_back =
     entry 5 seats.Binder (write_bound (taken back_a lost_c 4 volumes.Pending)) (replies.Done (Volume (taken back_a lost_c 5 volumes.Bound)))
@@ -218,6 +244,7 @@ coming_back =
     ∷ lists_claim seats.Binder lost_c 3 ∷ lists_volume seats.Binder back_a 3
     ∷ entry 1 seats.User (requests.Create (Volume (volume (codes "a") 5))) (replies.Done (Volume back_a)) ∷ []
 
+-- a claim that was imported as Lost may get a smaller volume back
 pub record LostClaimExamples : Type 0 where
   pub imports_pass : ImportsPass lost_setup.imports
   pub run : Run lost_setup coming_back
@@ -231,6 +258,7 @@ pub record LostClaimExamples : Type 0 where
 abbrev pub released_a : VolumeData
 released_a = let v = marked_volume (with_reference (record name_c { name = codes "d"; uid = Some (uid_of_serial 9) }) a) in record v { phase = volumes.Released }
 
+-- a world that begins with the Released volume
 abbrev pub mark_setup : Setup
 mark_setup = setup_of (Volume released_a ∷ [])
 
@@ -238,15 +266,19 @@ mark_setup = setup_of (Volume released_a ∷ [])
 abbrev pub cleared_a : ℕ → VolumePhase → VolumeData
 cleared_a version phase = let v = released_a in record v { meta = record v.meta { version = version }; claim_ref = None; phase = phase }
 
+-- the cleared volume, reserved for the claim
 abbrev pub again_reserved : ℕ → VolumePhase → VolumeData
 again_reserved version phase = with_reference name_c (cleared_a version phase)
 
+-- a claim of 9 gibibytes that names the volume
 abbrev pub new_c : ClaimData
 new_c = naming_a (claim_at (codes "c") 9 12 12)
 
+-- the reserved volume once it is Available
 abbrev pub v13 : VolumeData
 v13 = again_reserved 13 volumes.Available
 
+-- a user clears the reference, reserves the volume and creates the claim; the binder binds the two
 abbrev pub keeping_the_mark : List Entry
 keeping_the_mark =
     entry 5 seats.Binder (write_completion (taken v13 new_c 15 volumes.Bound) new_c) (replies.Done (Claim (done new_c v13 16)))
@@ -258,6 +290,7 @@ keeping_the_mark =
     ∷ entry 1 seats.User (requests.Edit (volume_key (codes "a")) (edits.SetClaimRef (codes "default") (codes "c"))) (replies.Done (Volume (again_reserved 11 volumes.Released)))
     ∷ entry 1 seats.User (requests.Update (Volume (cleared_a 1 volumes.Released)) None) (replies.Done (Volume (cleared_a 10 volumes.Released))) ∷ []
 
+-- the mark alone does not say that a controller gave the volume
 pub record KeptMarkExamples : Type 0 where
   pub imports_pass : ImportsPass mark_setup.imports
   pub run : Run mark_setup keeping_the_mark
@@ -271,12 +304,15 @@ pub record KeptMarkExamples : Type 0 where
 abbrev pub early_c : ClaimData
 early_c = let x = naming_a (c 9) in record x { meta = record x.meta { annotations = (bound_by_controller, yes) ∷ [] } }
 
+-- a world that begins with this claim
 abbrev pub early_setup : Setup
 early_setup = setup_of (Claim early_c ∷ [])
 
+-- a volume that is created later and reserved for the claim
 abbrev pub reserved_back : VolumeData
 reserved_back = with_reference name_c back_a
 
+-- a user creates the volume, and the binder binds the two
 abbrev pub marked_early : List Entry
 marked_early =
     entry 5 seats.Binder (write_completion (taken reserved_back early_c 5 volumes.Bound) early_c) (replies.Done (Claim (done early_c reserved_back 6)))
@@ -285,6 +321,7 @@ marked_early =
     ∷ lists_claim seats.Binder early_c 3 ∷ lists_volume seats.Binder reserved_back 3
     ∷ entry 1 seats.User (requests.Create (Volume (with_reference name_c (volume (codes "a") 5)))) (replies.Done (Volume reserved_back)) ∷ []
 
+-- the mark alone does not say that a controller chose the claim's volume
 pub record EarlyMarkExamples : Type 0 where
   pub imports_pass : ImportsPass early_setup.imports
   pub run : Run early_setup marked_early

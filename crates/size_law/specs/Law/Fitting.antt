@@ -56,6 +56,7 @@ abbrev pub GivesTo : Option Uid → List Entry → VolumeData → Option ℕ →
 GivesTo None mine new given = ⊤
 GivesTo (Some uid) mine new given = AtVolume mine new given (λ o. ToldClaim (IsGiven o new) mine)
 
+-- an update of a volume gives it so; no other request gives one
 abbrev pub GivesSo : List Entry → Request → Type 0
 GivesSo mine (requests.Update (Volume new) given) = GivesTo (ref_uid new.claim_ref) mine new given
 GivesSo mine request = ⊤
