@@ -1,9 +1,4 @@
-//! Laws of the texts of histories: what is printed is read again, and a text has at most one history.
-//!
-//! Promises: `printed_is_read`, within the limits of what is read, and `one_history`; what is read is what the text has
-//! (`read_is_printed`), and a text can give it (`read_gives`). Each is a function with nothing to do, whose contract is the
-//! law. Not said: that a printed line is short enough to be read, and that a history which came about has only values
-//! that a text can give, which `history_laws` says of runs.
+//! Laws of histories that are printed and read.
 
 ghost use Rattle.history_laws.specs.Read.Laws.{OneHistory, PrintedIsRead, ReadGives, ReadIsOnly, ReadIsPrinted, TextIsRead};
 

@@ -1,8 +1,4 @@
 //! Laws of generated scripts.
-//!
-//! Promises: the script of each seed is one that a text can give (`generated_is_script`) and has 712 lines (`counts_lines`).
-//! Each is a function with nothing to do, whose contract is the law. Not said: that the printed script is short enough to
-//! be read.
 
 ghost use Rattle.script_laws.specs.Generated.Laws.{CountsLines, GeneratedIsScript};
 

@@ -1,9 +1,4 @@
-//! Laws of the texts of scripts: what is printed is read again.
-//!
-//! Promises: `script_is_read` and `script_is_read_again`, within the limits of what is read; what a text gives is a script
-//! that a text can give (`script_gives`), whose imported objects pass one after another (`imports_given`). Each is a
-//! function with nothing to do, whose contract is the law. Not said: that a printed script is short enough to be read,
-//! which `specs/Limits` asks.
+//! Laws of scripts that are printed and read.
 
 ghost use Rattle.script_laws.specs.Read.Laws.{ImportsGiven, LineMeansItself, ScriptGives, ScriptIsRead, ScriptIsReadAgain};
 

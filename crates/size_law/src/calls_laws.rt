@@ -1,10 +1,4 @@
-//! What a binder or a scheduler asks gives a volume only to a claim that it suits, by what its seat was told; and what ops
-//! creates is made to the measure of a claim that it was told.
-//!
-//! Promises: `calls_give_fitting` says it of each call that a turn gives, `actors_are_fitting` of a history whose binders
-//! and schedulers are actors; in such a run each claim that counts gets enough (`actors_give_enough`, in the words of
-//! `size_law`). `histories_make_fitting` says it of ops. Of the calls of a binding only the first gives a reference, of
-//! those of ops only the creation of a volume. Not said: anything of binders and schedulers that are no actors.
+//! What binders, schedulers and ops ask keeps the premise.
 
 ghost use Rattle.size_law.specs.Calls.Calls.{ActorsAreFitting, ActorsGiveEnough, AskedGiveFitting, CallsGiveFitting};
 ghost use Rattle.size_law.specs.Calls.Examples.{AskedExamples, DecisionExamples};

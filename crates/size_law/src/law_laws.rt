@@ -1,11 +1,4 @@
-//! A claim never gets less than it asked for.
-//!
-//! The premise: each write that gives a volume the reference of a claim was decided on a volume that fits, or on one
-//! of the two cases of `specs/Fitting` in which Kubernetes does not ask for the size. Promises: then each completed
-//! claim names a volume of at least its bytes and of its volume mode, but for those that were bound by hand on both
-//! sides (`runs_get_enough`). So does each volume fit the claim of its reference (`runs_refer_fitting`). Not said:
-//! that references are so given, which `size_law` says of actors; anything of access modes, classes and selectors,
-//! of claims that were imported as Lost, and of those to which an imported volume refers that does not fit.
+//! Each completed claim gets at least what it asked for.
 
 ghost use Rattle.size_law.specs.Law.Enough.{RunsGetEnough, RunsReferFitting};
 ghost use Rattle.size_law.specs.Law.Examples.{ByHandExamples, EarlyMarkExamples, FitsExamples, FittingRunExamples, GivingExamples, ImportedPairExamples, KeptMarkExamples, LostClaimExamples, PairRunExamples, ShortRunExamples};

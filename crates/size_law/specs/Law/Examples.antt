@@ -215,7 +215,7 @@ old_c size = marked_claim (naming_a (c size))
 abbrev pub old_pair : ℕ → Setup
 old_pair size = setup_of (Volume old_a ∷ Claim (old_c size) ∷ [])
 
--- an imported pair fits or does not; the law speaks only of worlds whose imports fit
+-- an imported volume fits its imported claim or does not; of a claim that it does not fit the law says nothing
 pub record ImportedPairExamples : Type 0 where
   pub imports_fit : ImportsFit (old_pair 3) (Some (uid_of_serial 2))
   pub imports_do_not_fit : ImportsFit (old_pair 9) (Some (uid_of_serial 2)) → ⊥
