@@ -17,7 +17,7 @@ use Rattle.object_print.proofs.LineLaws.{objects_are_lines}
 use Rattle.object_text.specs.declared.errors.ObjectError.{ObjectError}
 use Rattle.object_text.specs.Reading.{most_bytes, object_of, read_text_of}
 use Rattle.object_text.specs.Listing.{is_list, item_of, list_in, list_of}
-use Rattle.object_text.proofs.WholeSizes.{least_whole}
+use Rattle.json_text.proofs.WholeSizes.{least_whole}
 use Rattle.object_laws.specs.Given.{IsGivenObject}
 use Rattle.object_laws.proofs.Canonical.{object_good}
 use Rattle.object_laws.proofs.Back.{TellsKind, object_tells, object_back}

@@ -7,5 +7,4 @@ pub mod Steps
 pub mod ExtraMembers
 pub mod KindReaders
 pub mod Reading
-pub mod Sizes
 pub mod Listing

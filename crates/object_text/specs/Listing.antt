@@ -11,7 +11,7 @@ use Rattle.object_text.specs.declared.errors.ObjectError.TheVariants.{NotObject,
 use Rattle.object_text.specs.declared.errors.ListError.{ListError}
 use Rattle.object_text.specs.MemberReaders.{at, needed_items}
 use Rattle.object_text.specs.Reading.{is_object, most_bytes, object_of, value_of}
-use Rattle.object_text.specs.Sizes.{least_bytes}
+use Rattle.json_text.specs.Sizes.{least_bytes}
 
 -- the compact text of the value has more bytes than a manifest may have, even if each number that is not whole had as few as it can
 abbrev pub is_long : Data → Bool

@@ -13,7 +13,6 @@ pub mod member_readers;
 pub mod meta_readers;
 pub mod part_readers;
 pub mod reading;
-pub mod sizes;
 
 pub use crate::listing::read_list;
 pub use crate::reading::read_object;

@@ -27,7 +27,7 @@ use Rattle.object_text.specs.MetaReaders.{kept_namespace}
 use Rattle.object_text.specs.PartReaders.{amount_in, amount_from}
 use Rattle.object_text.specs.Reading.{is_object, most_bytes}
 use Rattle.object_text.specs.Listing.{item_of}
-use Rattle.object_text.proofs.WholeSizes.{least_whole}
+use Rattle.json_text.proofs.WholeSizes.{least_whole}
 use Rattle.object_laws.specs.Given.{IsGivenObject, IsNamespace, IsUid}
 use Rattle.object_laws.proofs.PartsBack.{uid_back}
 use Rattle.object_laws.proofs.Canonical.{object_good}

@@ -4,7 +4,7 @@ use Rattle.std.proofs.lemmas.Bool.{or_parts}
 use Rattle.json.specs.Print.{escape, quoted}
 use Rattle.serde_json.specs.Data.{unsigned, negative, float, Data, null, boolean, number, string, array, object, Items, no_items, item, Members, no_members, member}
 use Rattle.serde_json.specs.Written.{has_float, items_have_float, members_have_float, compact_text}
-use Rattle.object_text.specs.Sizes.{float_bytes, items_float_bytes, members_float_bytes, least_bytes}
+use Rattle.json_text.specs.Sizes.{float_bytes, items_float_bytes, members_float_bytes, least_bytes}
 
 both_zero : {m n : ℕ} → m ≡ 0 → n ≡ 0 → m + n ≡ 0
 both_zero hm hn = rw (hm, hn) refl

@@ -5,10 +5,10 @@ ghost use Rattle.json.specs.Print.{escape_letter, escape_byte, quoted};
 ghost use Rattle.serde_json.specs.View.{view, number_view, items_view, members_view};
 ghost use Rattle.serde_json.specs.Data.{number};
 ghost use Rattle.serde_json.specs.Written.{comma_if};
-ghost use Rattle.object_text.specs.Sizes.{least_bytes, least_items, least_members, Leaves};
+ghost use Rattle.json_text.specs.Sizes.{least_bytes, least_items, least_members, Leaves};
 
+use crate::quote::needs_no_escape;
 use itoa::Buffer;
-use json_text::quote::needs_no_escape;
 use serde_json::{Map, Number, Value};
 
 fn without(room: usize, bytes: usize) -> Option<usize>

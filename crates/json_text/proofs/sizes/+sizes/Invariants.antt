@@ -1,7 +1,7 @@
 use Rattle.std.proofs.Common.{◌≡◌, ◌+◌, false, drop}
 use Rattle.serde_json.specs.View.{items_view, members_view}
-use Rattle.object_text.specs.Sizes.{least_items, least_members}
-use Rattle.object_text.proofs.sizes.+sizes.Given as goal
+use Rattle.json_text.specs.Sizes.{least_items, least_members}
+use Rattle.json_text.proofs.sizes.+sizes.Given as goal
 
 -- what is left of the room is short of it by what was counted
 abbrev pub invariant-after_items-loop-item : goal.invariant-after_items-loop-item
