@@ -17,6 +17,7 @@ abbrev pub MayUpdate : List Entry → Request → Type 0
 MayUpdate mine (Update new given) = RowAllows seats.Scheduler mine (Update new given)
 MayUpdate mine request = ⊥
 
+-- the first of these writes is allowed, and each behind it is one of an object that was told
 abbrev pub MayWrite : List Entry → List Request → Type 0
 MayWrite mine [] = ⊤
 MayWrite mine (w ∷ writes) = RowAllows seats.Scheduler mine w × AllByRecursion (MayUpdate mine) writes
