@@ -3,7 +3,7 @@ pub mod Objects
 mod Outcomes
 mod Devices
 mod Watched
-mod Effects
+pub mod Effects
 mod Told
 mod Writes
 mod Asking

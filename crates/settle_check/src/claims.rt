@@ -9,7 +9,7 @@ ghost use Rattle.settle_check.specs.ClaimDues.{claim_due_rows};
 ghost use Rattle.settle_check.specs.Steps.OnStore.{claim_conditions};
 
 use crate::numbers::due_numbered;
-use case_table::Table;
+use case_table::CaseTable;
 use claim_sync::{as_volume, class_place, conditions_on, has_best};
 use kube_types::names::Due;
 use kube_types::objects::{Claim, Volume};
@@ -19,7 +19,7 @@ use version_store::store::Store;
 use volume_match::row_named;
 
 /// What protection has to do for the claim, else what the binder has to do.
-pub(crate) fn kept_due(store: &Store, claim: &Claim, table: &Table<12, 18>) -> Option<Due>
+pub(crate) fn kept_due(store: &Store, claim: &Claim, table: &CaseTable<12, 18>) -> Option<Due>
     requires { table.now ≡ claim_due_rows }
     ensures { result ≡ or_due (claim_guard_due store.now.rows claim.now) (claim_due store.now.rows claim.now) }
 {

@@ -13,7 +13,7 @@ use crate::claim_table::claim_due_table;
 use crate::objects::{due_of_claim, due_of_pod};
 use crate::volume_table::volume_due_table;
 use crate::volumes::due_of_volume;
-use case_table::Table;
+use case_table::CaseTable;
 use kube_types::copies::OutOfMemory;
 use kube_types::key::{Key, key_of};
 use kube_types::names::Due;
@@ -33,8 +33,8 @@ fn object_due(
     alloc: Global,
     world: &World,
     object: &Object,
-    volumes: &Table<11, 21>,
-    claims: &Table<12, 18>,
+    volumes: &CaseTable<11, 21>,
+    claims: &CaseTable<12, 18>,
 ) -> Result<Option<Due>, OutOfMemory>
     requires stands { row_at (key_of object.now) (world_of world.now).store.rows ≡ Some object.now }
     requires volumes { volumes.now ≡ volume_due_rows }

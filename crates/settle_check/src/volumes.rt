@@ -8,7 +8,7 @@ ghost use Rattle.settle_check.specs.Steps.OnStore.{claim_referred, volume_condit
 ghost use Rattle.settle_check.specs.VolumeDues.{volume_due_rows};
 
 use crate::numbers::due_numbered;
-use case_table::Table;
+use case_table::CaseTable;
 use kube_types::bindings::{is_deleting, is_protected_volume};
 use kube_types::names::Due;
 use kube_types::objects::{Claim, Ref, Volume};
@@ -19,7 +19,7 @@ use volume_match::row_named;
 use volume_sync::{claim_with, conditions_on};
 
 /// What is due for the volume: what the binder has to do comes first, and protection last.
-pub(crate) fn due_of_volume(store: &Store, volume: &Volume, table: &Table<11, 21>) -> Option<Due>
+pub(crate) fn due_of_volume(store: &Store, volume: &Volume, table: &CaseTable<11, 21>) -> Option<Due>
     requires { table.now ≡ volume_due_rows }
     ensures { result ≡ or_due (volume_due store.now.rows volume.now) (or_due (reclaim_due volume.now) (volume_guard_due volume.now)) }
 {
