@@ -301,18 +301,6 @@ told_pods P mine h = some_pod P (told_objects mine) (told_some (IsPodWith P) min
 
 -- two objects that are the newest told of one key
 
-abbrev pod_of : PodData → Option Object → PodData
-pod_of x None = x
-pod_of x (Some o) = pod_or x o
-
-abbrev node_of : NodeData → Option Object → NodeData
-node_of x None = x
-node_of x (Some o) = node_or x o
-
-abbrev claim_of : ClaimData → Option Object → ClaimData
-claim_of x None = x
-claim_of x (Some o) = claim_or x o
-
 abbrev pub volume_of : VolumeData → Option Object → VolumeData
 volume_of x None = x
 volume_of x (Some o) = volume_or x o
