@@ -6,7 +6,7 @@ use Rattle.call_types.specs.declared.setup.Setup.{Setup}
 use Rattle.binder_model.specs.Safe.{Safe}
 use Rattle.call_types.specs.declared.histories.History.{History}
 use Rattle.history_text.specs.Output.{with_line}
-use Rattle.history_read.specs.declared.errors.BadLine.{BadLine as BadLineData}
+use Rattle.history_read.specs.declared.errors.BadHistoryLine.{BadHistoryLine}
 use Rattle.history_read.specs.declared.errors.HistoryError.{HistoryError}
 use Rattle.history_read.specs.declared.errors.HistoryError.TheVariants.{BadLine, OutOfMemory}
 use Rattle.history_read.specs.Grammar.{history_of}
@@ -34,7 +34,7 @@ abbrev pub verdict_status : Verdict → Status
 verdict_status Yes = Done
 verdict_status (No number rule) = AuditNo
 
-abbrev pub history_refusal_text : BadLineData → List ℕ
+abbrev pub history_refusal_text : BadHistoryLine → List ℕ
 history_refusal_text bad = with_line [] (refusal_line bad)
 
 -- ---- the promise
@@ -54,12 +54,12 @@ pub record Audits (status : Status) (input text : List ℕ) : Type 0 where
 
 -- the input is no history, and this is the line that says why: the first line at fault, with the first of its reasons
 pub record RefusesHistory (input text : List ℕ) : Type 0 where
-  pub bad : BadLineData
+  pub bad : BadHistoryLine
   pub refused : history_of input ≡ Err bad
   pub printed : text ≡ history_refusal_text bad
 
 -- where the input is no history, this holds of why
-abbrev pub IfNoHistory : {X : Type 0} → Result X HistoryError → (BadLineData → Type 0) → Type 0
+abbrev pub IfNoHistory : {X : Type 0} → Result X HistoryError → (BadHistoryLine → Type 0) → Type 0
 IfNoHistory (Ok x) holds = ⊤
 IfNoHistory (Err OutOfMemory) holds = ⊤
 IfNoHistory (Err (BadLine bad)) holds = holds bad

@@ -10,7 +10,7 @@ use crate::commands::Task;
 use crate::printing::print_line;
 use audit_check::audit;
 use audit_check::verdict::Verdict;
-use history_read::errors::{BadLine, HistoryError};
+use history_read::errors::{BadHistoryLine, HistoryError};
 use history_read::reading::read_history;
 use history_read::refusals::refusal_line;
 use piece_print::pieces::PieceText;
@@ -54,7 +54,7 @@ pub fn audited(alloc: Global, input: &[u8]) -> Result<Answer, HistoryError>
 }
 
 /// The line of a refusal.
-pub fn print_history_refusal(alloc: Global, bad: BadLine) -> Result<PieceText, OutOfMemory>
+pub fn print_history_refusal(alloc: Global, bad: BadHistoryLine) -> Result<PieceText, OutOfMemory>
     ensures { IfOk result (λ text. text ≡ history_refusal_text bad) }
 {
     let line = refusal_line(alloc, bad)?;

@@ -4,7 +4,7 @@ use kube_types::copies::OutOfMemory;
 
 /// Why a line of a history is refused, the first that applies.
 #[derive(Clone, Copy, Debug, PartialEq, Eq)]
-pub enum Reason {
+pub enum HistoryReason {
     /// The line has more than 4,194,304 bytes.
     TooLong,
     /// It is not the text that is printed of a setup or an entry, or it nests more than 127 levels.
@@ -15,16 +15,16 @@ pub enum Reason {
 
 /// The first line at fault, counted from 1, and why.
 #[derive(Clone, Copy, Debug, PartialEq, Eq)]
-pub struct BadLine {
+pub struct BadHistoryLine {
     pub line: u64,
-    pub reason: Reason,
+    pub reason: HistoryReason,
 }
 
 /// Why no history was read.
 #[derive(Clone, Copy, Debug, PartialEq, Eq)]
 pub enum HistoryError {
     OutOfMemory,
-    BadLine(BadLine),
+    BadLine(BadHistoryLine),
 }
 
 impl From<OutOfMemory> for HistoryError {
@@ -40,7 +40,7 @@ impl From<OutOfMemory> for HistoryError {
 
 /// Why a line was not taken.
 #[derive(Clone, Copy, Debug, PartialEq, Eq)]
-pub enum LineError {
+pub enum HistoryLineError {
     OutOfMemory,
-    Refused(Reason),
+    Refused(HistoryReason),
 }

@@ -6,7 +6,7 @@ ghost use Rattle.history_lines.specs.Entries.{entry_of, setup_of};
 ghost use Rattle.history_read.specs.Answers.{HistoryGives, LineGives, error_at};
 ghost use Rattle.history_read.specs.Grammar.{entries_from, history_of, in_line, lines_of};
 
-use crate::errors::{BadLine, HistoryError, LineError, Reason};
+use crate::errors::{BadHistoryLine, HistoryError, HistoryLineError, HistoryReason};
 use crate::lines::first_line;
 use call_types::entry::Entry;
 use call_types::histories::History;
@@ -20,30 +20,30 @@ use std::alloc::Global;
 
 const MOST_LINE_BYTES: usize = 4_194_304;
 
-fn setup_in(alloc: Global, line: &[u8]) -> Result<Setup, LineError>
+fn setup_in(alloc: Global, line: &[u8]) -> Result<Setup, HistoryLineError>
     ensures gives { LineGives result (in_line setup_of line.now) }
     ensures imports { IfOk result (λ s. ImportsPass s.imports) }
 {
     if line.len() > MOST_LINE_BYTES {
-        return Err(LineError::Refused(Reason::TooLong));
+        return Err(HistoryLineError::Refused(HistoryReason::TooLong));
     }
     match setup_of(alloc, line) {
         Ok(setup) => Ok(setup),
-        Err(Unread::NotCanonical) => Err(LineError::Refused(Reason::NotCanonical)),
-        Err(Unread::OutOfMemory) => Err(LineError::OutOfMemory),
+        Err(Unread::NotCanonical) => Err(HistoryLineError::Refused(HistoryReason::NotCanonical)),
+        Err(Unread::OutOfMemory) => Err(HistoryLineError::OutOfMemory),
     }
 }
 
-fn entry_in(alloc: Global, recent: &mut Recent, line: &[u8]) -> Result<Entry, LineError>
+fn entry_in(alloc: Global, recent: &mut Recent, line: &[u8]) -> Result<Entry, HistoryLineError>
     ensures { LineGives result (in_line entry_of line.now) }
 {
     if line.len() > MOST_LINE_BYTES {
-        return Err(LineError::Refused(Reason::TooLong));
+        return Err(HistoryLineError::Refused(HistoryReason::TooLong));
     }
     match entry_of(alloc, recent, line) {
         Ok(entry) => Ok(entry),
-        Err(Unread::NotCanonical) => Err(LineError::Refused(Reason::NotCanonical)),
-        Err(Unread::OutOfMemory) => Err(LineError::OutOfMemory),
+        Err(Unread::NotCanonical) => Err(HistoryLineError::Refused(HistoryReason::NotCanonical)),
+        Err(Unread::OutOfMemory) => Err(HistoryLineError::OutOfMemory),
     }
 }
 
@@ -55,12 +55,12 @@ fn is_end(line: &[u8]) -> bool
 }
 
 /// The error of a line of this number.
-fn error_at(line: u64, e: LineError) -> HistoryError
+fn error_at(line: u64, e: HistoryLineError) -> HistoryError
     ensures { result ≡ error_at line e }
 {
     match e {
-        LineError::OutOfMemory => HistoryError::OutOfMemory,
-        LineError::Refused(reason) => HistoryError::BadLine(BadLine { line, reason }),
+        HistoryLineError::OutOfMemory => HistoryError::OutOfMemory,
+        HistoryLineError::Refused(reason) => HistoryError::BadLine(BadHistoryLine { line, reason }),
     }
 }
 
@@ -85,9 +85,9 @@ fn entries_of(alloc: Global, text: &[u8]) -> Result<Items<Entry>, HistoryError>
         rest = after;
         line += 1;
     }
-    Err(HistoryError::BadLine(BadLine {
+    Err(HistoryError::BadLine(BadHistoryLine {
         line,
-        reason: Reason::MissingEnd,
+        reason: HistoryReason::MissingEnd,
     }))
 }
 
@@ -99,9 +99,9 @@ pub fn read_history(alloc: Global, text: &[u8]) -> Result<History, HistoryError>
     ensures imports { IfOk result (λ h. ImportsPass h.setup.imports) }
 {
     if text.is_empty() {
-        return Err(HistoryError::BadLine(BadLine {
+        return Err(HistoryError::BadLine(BadHistoryLine {
             line: 1,
-            reason: Reason::MissingEnd,
+            reason: HistoryReason::MissingEnd,
         }));
     }
     let (first, rest) = first_line(text);

@@ -136,19 +136,19 @@ fn agents_in(alloc: Global, lines: &[&[u8]]) -> Result<Pairs, OutOfMemory>
 }
 
 /// The agents of the whole text, once they were looked for.
-pub struct Known {
+pub struct KnownAgents {
     pub found: bool,
     pub agents: Pairs,
 }
 
-impl Drop for Known {
+impl Drop for KnownAgents {
     fn drop(self) {
-        let Known { found: _, agents } = self;
+        let KnownAgents { found: _, agents } = self;
         drop(agents);
     }
 }
 
-fn find_agents(alloc: Global, lines: &[&[u8]], known: &mut Known) -> Result<(), OutOfMemory>
+fn find_agents(alloc: Global, lines: &[&[u8]], known: &mut KnownAgents) -> Result<(), OutOfMemory>
     requires { IsKnown known.old (map (λ line. line.now) lines.now) }
     ensures ok { OnOk result (known.new.agents ≡ agents_in (map (λ line. line.now) lines.now)) }
     ensures known { IsKnown known.new (map (λ line. line.now) lines.now) }
@@ -175,7 +175,7 @@ fn names_actor(verb: Verb) -> bool
 fn agents_for(
     alloc: Global,
     lines: &[&[u8]],
-    known: &mut Known,
+    known: &mut KnownAgents,
     verb: Verb,
 ) -> Result<(), OutOfMemory>
     requires { IsKnown known.old (map (λ line. line.now) lines.now) }
@@ -193,7 +193,7 @@ fn agents_for(
 fn meaning_of(
     alloc: Global,
     lines: &[&[u8]],
-    known: &mut Known,
+    known: &mut KnownAgents,
     progress: &Progress,
     value: &Value,
 ) -> Result<Meaning, LineError>
@@ -213,7 +213,7 @@ fn meaning_of(
 fn take_filled(
     alloc: Global,
     lines: &[&[u8]],
-    known: &mut Known,
+    known: &mut KnownAgents,
     progress: &mut Progress,
     number: u64,
     line: &[u8],
@@ -236,7 +236,7 @@ fn take_filled(
 fn take_line(
     alloc: Global,
     lines: &[&[u8]],
-    known: &mut Known,
+    known: &mut KnownAgents,
     progress: &mut Progress,
     number: u64,
     line: &[u8],
@@ -269,7 +269,7 @@ fn said_in(alloc: Global, lines: &[&[u8]]) -> Result<Progress, ScriptError>
     ensures gives { SaidGives result (said_in (map (λ line. line.now) lines.now)) }
 {
     let mut progress = Progress::new(alloc);
-    let mut known = Known {
+    let mut known = KnownAgents {
         found: false,
         agents: Pairs::new(alloc),
     };

@@ -13,7 +13,7 @@ use Rattle.object_text.specs.Reading.{value_of}
 use Rattle.history_text.specs.Entries.{entry_data, entry_line, setup_data, setup_line}
 use Rattle.history_lines.specs.Answers.{◌>>=◌, taken}
 use Rattle.history_lines.specs.Entries.{printed_as, entry_in, entry_of, setup_in, setup_of}
-use Rattle.history_read.specs.declared.errors.Reason.TheVariants.{TooLong}
+use Rattle.history_read.specs.declared.errors.HistoryReason.TheVariants.{TooLong}
 use Rattle.history_read.specs.Grammar.{most_line_bytes, canonical, in_line}
 use Rattle.history_laws.specs.Read.Given.{IsEntry, IsSetup, IsShallow}
 use Rattle.history_laws.proofs.Read.EntriesBack.{entry_back, setup_back}

@@ -7,9 +7,9 @@ use Rattle.call_types.specs.declared.entry.Entry.{Entry}
 use Rattle.call_types.specs.declared.setup.Setup.{Setup}
 use Rattle.history_text.specs.Entries.{entry_line, setup_line}
 use Rattle.history_lines.specs.Entries.{entry_of, setup_of}
-use Rattle.history_read.specs.declared.errors.Reason.{Reason}
-use Rattle.history_read.specs.declared.errors.Reason.TheVariants.{MissingEnd}
-use Rattle.history_read.specs.declared.errors.BadLine.{BadLine}
+use Rattle.history_read.specs.declared.errors.HistoryReason.{HistoryReason}
+use Rattle.history_read.specs.declared.errors.HistoryReason.TheVariants.{MissingEnd}
+use Rattle.history_read.specs.declared.errors.BadHistoryLine.{BadHistoryLine}
 use Rattle.call_types.specs.declared.histories.History.{History}
 use Rattle.history_read.specs.Grammar.{lines_in, lines_of, in_line, refused_line, at_line, entries_from, with_setup, history_in}
 use Rattle.history_laws.specs.Read.Texts.{lines_before_end, IsRest}
@@ -50,10 +50,10 @@ one_more part next parts found all e is r = record {
       ∙ sym (append_assoc (entry_line e) (10 ∷ joined (map entry_line r.entries)) (codes "end" ++ r.rest));
 }
 
-same_ok : {X : Type 0} (a b : X) → ◌≡◌ {A = Result X BadLine} (Ok a) (Ok b) → b ≡ a
+same_ok : {X : Type 0} (a b : X) → ◌≡◌ {A = Result X BadHistoryLine} (Ok a) (Ok b) → b ≡ a
 same_ok a b h = cc
 
-no_end : (n : ℕ) (r : Result Entry Reason) (all : List Entry) → at_line n r (λ e. refused_line (n + 1) MissingEnd) ≡ Ok all → ⊥
+no_end : (n : ℕ) (r : Result Entry HistoryReason) (all : List Entry) → at_line n r (λ e. refused_line (n + 1) MissingEnd) ≡ Ok all → ⊥
 no_end n (Ok e) all h = cc
 no_end n (Err reason) all h = cc
 
@@ -68,7 +68,7 @@ entries_are n ((b ∷ bs) ∷ []) found all h = by (bytes_eq (b ∷ bs) (codes "
     by false is same = absurd (no_end n (in_line entry_of (b ∷ bs)) all same)
 entries_are n (part ∷ next ∷ parts) found all h = by (bytes_eq part (codes "end")) (in_line entry_of part) refl refl (λ e k. entries_are (n + 1) (next ∷ parts) (found ++ e ∷ []) all k) h
   where
-    by : (t : Bool) (r : Result Entry Reason) → bytes_eq part (codes "end") ≡ t → in_line entry_of part ≡ r
+    by : (t : Bool) (r : Result Entry HistoryReason) → bytes_eq part (codes "end") ≡ t → in_line entry_of part ≡ r
         → ((e : Entry) → entries_from (n + 1) (lines_in (next ∷ parts)) (found ++ e ∷ []) ≡ Ok all → AreRead (next ∷ parts) (found ++ e ∷ []) all)
         → (if t then Ok found else at_line n r (λ e. entries_from (n + 1) (lines_in (next ∷ parts)) (found ++ e ∷ []))) ≡ Ok all → AreRead (part ∷ next ∷ parts) found all
     by true r is read more same = ends_here part (next ∷ parts) found all is (same_ok found all same) (10 ∷ join_with_byte 10 (next ∷ parts)) refl refl
@@ -93,11 +93,11 @@ setup_step line next parts s es is r = record {
       ∙ sym (append_assoc (setup_line s) (10 ∷ joined (map entry_line es)) (codes "end" ++ r.rest));
 }
 
-same_history : (s : Setup) (r : Result (List Entry) BadLine) (h : History) → with_setup s r ≡ Ok h → (es : List Entry) × (r ≡ Ok es) × (record { setup = s; entries = es } ≡ h)
+same_history : (s : Setup) (r : Result (List Entry) BadHistoryLine) (h : History) → with_setup s r ≡ Ok h → (es : List Entry) × (r ≡ Ok es) × (record { setup = s; entries = es } ≡ h)
 same_history s (Ok es) h is = (es, refl, sym (same_ok (record { setup = s; entries = es }) h is))
 same_history s (Err b) h is = absurd (cc)
 
-alone : (r : Result Setup Reason) (h : History) → at_line 1 r (λ x. with_setup x (refused_line 2 MissingEnd)) ≡ Ok h → ⊥
+alone : (r : Result Setup HistoryReason) (h : History) → at_line 1 r (λ x. with_setup x (refused_line 2 MissingEnd)) ≡ Ok h → ⊥
 alone (Ok x) h is = cc
 alone (Err reason) h is = cc
 
@@ -111,7 +111,7 @@ history_is (line ∷ next ∷ parts) h is = by (in_line setup_of line) refl is
         → record { setup = s; entries = es } ≡ k → HasRead (line ∷ next ∷ parts) k
     go s read es entries k same = subst (λ x. HasRead (line ∷ next ∷ parts) x) same (setup_step line next parts s es read (entries_are 2 (next ∷ parts) [] es entries))
 
-    by : (r : Result Setup Reason) → in_line setup_of line ≡ r → at_line 1 r (λ s. with_setup s (entries_from 2 (lines_in (next ∷ parts)) [])) ≡ Ok h → HasRead (line ∷ next ∷ parts) h
+    by : (r : Result Setup HistoryReason) → in_line setup_of line ≡ r → at_line 1 r (λ s. with_setup s (entries_from 2 (lines_in (next ∷ parts)) [])) ≡ Ok h → HasRead (line ∷ next ∷ parts) h
     by (Ok s) read same = let k = same_history s (entries_from 2 (lines_in (next ∷ parts)) []) h same in go s read k.0 k.1 h k.2
     by (Err reason) read same = absurd (cc)
 

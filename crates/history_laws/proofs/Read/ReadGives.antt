@@ -20,8 +20,8 @@ use Rattle.history_lines.specs.Requests.{request_in}
 use Rattle.history_lines.specs.Replies.{reply_in}
 use Rattle.history_lines.specs.Entries.{printed_as, asked_at, seat_kind_at, replied_at, entry_in, entry_of, pool_in, rise, imports_pass, parts_with, parts_in, setup_in, setup_of}
 use Rattle.history_lines.proofs.Imports.{read_passes}
-use Rattle.history_read.specs.declared.errors.Reason.{Reason}
-use Rattle.history_read.specs.declared.errors.BadLine.{BadLine}
+use Rattle.history_read.specs.declared.errors.HistoryReason.{HistoryReason}
+use Rattle.history_read.specs.declared.errors.BadHistoryLine.{BadHistoryLine}
 use Rattle.call_types.specs.declared.histories.History.{History}
 use Rattle.history_read.specs.Grammar.{lines_of, in_line, at_line, entries_from, with_setup, history_in, history_of}
 use Rattle.history_laws.specs.Read.Given.{IsNumber, IsRequest, IsReply, IsEntry, IsPool, IsSetup, IsTextHistory, IsShallow, AreShallow}
@@ -158,7 +158,7 @@ entries_given n (line ∷ lines) found h =
     by (bytes_eq line (codes "end")) (in_line entry_of line) refl
     (λ e is. entries_given (n + 1) lines (found ++ e ∷ []) (All-append IsTold found (e ∷ []) h (All-cons IsTold e [] is (All-nil IsTold))))
   where
-    by : (b : Bool) (r : Result Entry Reason) → in_line entry_of line ≡ r
+    by : (b : Bool) (r : Result Entry HistoryReason) → in_line entry_of line ≡ r
         → ((e : Entry) → IsTold e → IfOk (entries_from (n + 1) lines (found ++ e ∷ [])) (All IsTold))
         → IfOk (if b then Ok found else at_line n r (λ e. entries_from (n + 1) lines (found ++ e ∷ []))) (All IsTold)
     by true r is more = h
@@ -180,7 +180,7 @@ history_given : (lines : List (List ℕ)) → IfOk (history_in lines) IsOne
 history_given [] = tt
 history_given (line ∷ lines) = by (in_line setup_of line) refl (entries_from 2 lines []) (entries_given 2 lines [] (All-nil IsTold))
   where
-    by : (r : Result Setup Reason) → in_line setup_of line ≡ r → (o : Result (List Entry) BadLine) → IfOk o (All IsTold) → IfOk (at_line 1 r (λ s. with_setup s o)) IsOne
+    by : (r : Result Setup HistoryReason) → in_line setup_of line ≡ r → (o : Result (List Entry) BadHistoryLine) → IfOk o (All IsTold) → IfOk (at_line 1 r (λ s. with_setup s o)) IsOne
     by (Ok s) is (Ok es) h =
         let own = setup_given line s (in_line_gives setup_of line s is) in
         (record { setup = own.0; entries = are_entries es h }, record { setup = own.1; entries = are_shallow es h })

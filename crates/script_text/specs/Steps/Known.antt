@@ -6,14 +6,14 @@ use Rattle.script_lines.specs.declared.errors.ScriptError.{ScriptError}
 use Rattle.script_lines.specs.declared.verbs.Verb.{Verb}
 use Rattle.script_lines.specs.declared.verbs.Verb.TheVariants.{Lose, Restart, Turn}
 use Rattle.script_text.specs.declared.progress.Progress.{Progress}
-use Rattle.script_text.specs.declared.reading.Known.{Known}
+use Rattle.script_text.specs.declared.reading.KnownAgents.{KnownAgents}
 use Rattle.script_lines.specs.Answers.{ScriptFails}
 use Rattle.script_text.specs.Said.{Said}
 use Rattle.script_text.specs.Grammar.{agents_in}
 use Rattle.script_text.specs.Steps.Indexed.{ProgressStands, said_by}
 
 -- once the agents were looked for, they are those of these lines
-abbrev pub IsKnown : Known → List (List ℕ) → Type 0
+abbrev pub IsKnown : KnownAgents → List (List ℕ) → Type 0
 IsKnown known lines = known.found ≡ true → known.agents ≡ agents_in lines
 
 -- lines with this verb name an actor

@@ -11,8 +11,8 @@ use Rattle.call_types.specs.declared.request.SeatKind.TheVariants as seats
 use Rattle.call_types.specs.declared.reply.Reply.TheVariants as replies
 use Rattle.call_types.specs.declared.entry.Entry.{Entry}
 use Rattle.call_types.specs.declared.setup.Setup.{Setup}
-use Rattle.history_read.specs.declared.errors.Reason.{Reason}
-use Rattle.history_read.specs.declared.errors.BadLine.{BadLine}
+use Rattle.history_read.specs.declared.errors.HistoryReason.{HistoryReason}
+use Rattle.history_read.specs.declared.errors.BadHistoryLine.{BadHistoryLine}
 use Rattle.call_types.specs.declared.histories.History.{History}
 
 abbrev pub no_setup : Setup
@@ -40,5 +40,5 @@ abbrev pub with_imports : List Object → Setup
 with_imports imports = record { pools = []; faults = []; imports = imports }
 
 -- a text is refused at this line for this reason
-abbrev pub at_fault : ℕ → Reason → Result History BadLine
+abbrev pub at_fault : ℕ → HistoryReason → Result History BadHistoryLine
 at_fault n reason = Err (record { line = n; reason = reason })

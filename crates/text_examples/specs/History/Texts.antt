@@ -1,7 +1,7 @@
 -- Texts that are histories, and texts that are none.
 -- A choice of this project: the history format.
 use Rattle.std.specs.Prelude.{◌≡◌, [], ◌∷◌, ◌++◌, Ok, codes}
-use Rattle.history_read.specs.declared.errors.Reason.TheVariants.{NotCanonical, MissingEnd}
+use Rattle.history_read.specs.declared.errors.HistoryReason.TheVariants.{NotCanonical, MissingEnd}
 use Rattle.history_read.specs.Grammar.{history_of}
 use Rattle.history_read.specs.Refusals.{refusal_line}
 use Rattle.text_examples.specs.History.Samples.{no_setup, no_setup_line, taken, taken_line, at_fault}
