@@ -27,9 +27,9 @@ passing before (o ∷ os) h = by (import_fault before o) refl (λ more. passing 
     by None none rest more = (none, rest more)
     by (Some fault) some rest more = absurd (cc)
 
-passed : (before os : List Object) → PassAfter before os → pass_after before os ≡ true
-passed before [] p = refl
-passed before (o ∷ os) p = rw p.0 (passed (before ++ o ∷ []) os p.1)
+pub imports_tested : (before os : List Object) → PassAfter before os → pass_after before os ≡ true
+imports_tested before [] p = refl
+imports_tested before (o ∷ os) p = rw p.0 (imports_tested (before ++ o ∷ []) os p.1)
 
 -- so the answer is that of the test
 pub test_of : (imports : List Object) (r : Result Bool OutOfMemory) → IfOk r (λ passes. IsTrue passes ↔ ImportsPass imports) → IfOk r (λ passes. passes ≡ pass_after [] imports)
@@ -37,7 +37,7 @@ test_of imports (Err e) means = tt
 test_of imports (Ok passes) means = by passes (pass_after [] imports) refl means
   where
     by : (a b : Bool) → pass_after [] imports ≡ b → IsTrue a ↔ ImportsPass imports → a ≡ pass_after [] imports
-    by true b is m = sym (passed [] imports (m.0 refl))
+    by true b is m = sym (imports_tested [] imports (m.0 refl))
     by false true is m = m.1 (passing [] imports is) ∙ sym is
     by false false is m = sym is
 

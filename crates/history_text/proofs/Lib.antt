@@ -4,3 +4,4 @@ pub mod EntryFloats
 pub mod LineLaws
 pub mod Puts
 pub mod GoodPairs
+pub mod Joined

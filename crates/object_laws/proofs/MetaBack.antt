@@ -72,9 +72,6 @@ created_back m place s is h = ap (λ p. stamp_from m (unless_null p) >>= λ o. O
 
 -- ---- versions
 
-own : IsNumeralModel (λ ds. list_all is_ascii_digit ds ≡ true) (digits_value 10)
-own = numerals_by_value _ (search rules)
-
 digits_back : (m : Member) (s : List ℕ) (n : ℕ) → 0 < length s → list_all is_ascii_digit s ≡ true → digits_value 10 s ≡ n → n ≤ 2 ^ 62 → version_named m s ≡ Ok n
 digits_back m s n some digits is small =
     let one : nat_le 1 (length s) ≡ true = grind (arith, nat_tests) in
@@ -84,7 +81,8 @@ digits_back m s n some digits is small =
 decimal_back : (m : Member) (n : ℕ) → n ≤ 2 ^ 62 → version_named m (decimal n) ≡ Ok n
 decimal_back m n small =
     let fits : n < 2 ^ 64 = omega arith in
-    digits_back m (decimal n) n (decimal_nonempty n fits) (digits_decimal own n fits) (digits_value-decimal own n fits) small
+    let digits_model : IsNumeralModel (λ ds. list_all is_ascii_digit ds ≡ true) (digits_value 10) = numerals_by_value _ (search rules) in
+    digits_back m (decimal n) n (decimal_nonempty n fits) (digits_decimal digits_model n fits) (digits_value-decimal digits_model n fits) small
 
 version_back : (m : Member) (place : Option Data) (n : ℕ) → n ≤ 2 ^ 62 → at m place ≡ counted n → version_at m place ≡ Ok n
 version_back m place n small h = ap (λ p. text_from m (codes "0") p >>= λ s. version_named m s) h ∙ by (n == 0) refl

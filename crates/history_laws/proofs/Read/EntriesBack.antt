@@ -1,5 +1,5 @@
 -- What is printed of an entry or a setup is read again.
-use Rattle.std.proofs.Common.{◌≡◌, ℕ, List, [], ◌∷◌, ◌++◌, true, Option, Some, None, codes, refl, ap, ◌∙◌}
+use Rattle.std.proofs.Common.{◌≡◌, ℕ, List, [], ◌∷◌, ◌++◌, Option, Some, None, codes, refl, ap, ◌∙◌}
 use Rattle.std.specs.List.{All}
 use Rattle.serde_json.specs.Data.{no_members}
 use Rattle.json_text.specs.Build.{number_data}
@@ -11,14 +11,14 @@ use Rattle.call_types.specs.declared.request.SeatKind.TheVariants as seats
 use Rattle.call_types.specs.declared.entry.Entry.{Entry}
 use Rattle.call_types.specs.declared.setup.Pool.{Pool}
 use Rattle.call_types.specs.declared.setup.Setup.{Setup}
-use Rattle.binder_model.specs.Imports.{PassAfter}
 use Rattle.object_print.specs.Objects.{object_data}
 use Rattle.object_laws.specs.Given.{IsGivenObject}
 use Rattle.call_types.specs.Words.{seat_word}
 use Rattle.history_text.specs.Entries.{entry_pairs, entry_data, pool_pairs, pool_data, setup_pairs, setup_data}
 use Rattle.history_lines.specs.Words.{seat_named}
 use Rattle.history_lines.specs.Members.{number_in, object_in, some_list_from}
-use Rattle.history_lines.specs.Entries.{pass_after, entry_at, entry_in, pool_at, pool_in, parts_at, parts_in, setup_in}
+use Rattle.history_lines.specs.Entries.{entry_at, entry_in, pool_at, pool_in, parts_at, parts_in, setup_in}
+use Rattle.history_lines.proofs.Imports.{imports_tested}
 use Rattle.history_laws.specs.Read.Given.{IsNumber, IsEntry, IsPool, IsSetup}
 use Rattle.history_laws.proofs.Read.Members.{shown, looked, next, object_again, list_back}
 use Rattle.history_laws.proofs.Read.RequestsBack.{request_back}
@@ -58,11 +58,6 @@ imports_back : (os : List Object) → All IsGivenObject os → some_list_from ob
 imports_back [] is = refl
 imports_back (o ∷ os) is = list_back object_in object_data IsGivenObject object_again (o ∷ os) is
 
--- what a world asks of imports is what is tested
-passes_back : (before os : List Object) → PassAfter before os → pass_after before os ≡ true
-passes_back before [] is = refl
-passes_back before (o ∷ os) is = rw (is.0, passes_back (before ++ o ∷ []) os is.1) refl
-
 parts_back : (s : Setup) → IsSetup s → parts_in (object_of (setup_pairs s)) ≡ Some s
 unfolding parts_in
 parts_back s is =
@@ -72,7 +67,7 @@ parts_back s is =
       imports_back s.imports is.imports,
       list_back pool_in pool_data IsPool pool_back s.pools is.pools,
       is.rising,
-      passes_back [] s.imports is.passing,
+      imports_tested [] s.imports is.passing,
     ) refl
 
 pub setup_back : (s : Setup) → IsSetup s → setup_in (setup_data s) ≡ Some s

@@ -15,7 +15,7 @@ use Rattle.history_read.specs.Grammar.{lines_in, lines_of, in_line, refused_line
 use Rattle.history_laws.specs.Read.Texts.{lines_before_end, IsRest}
 use Rattle.history_laws.specs.Read.Laws.{ReadIsPrinted}
 use Rattle.history_laws.proofs.Read.LinesRead.{entry_printed, setup_printed, in_line_gives}
-use Rattle.history_laws.proofs.Read.Texts.{joined, with_joined, is_feed}
+use Rattle.history_text.proofs.Joined.{joined, with_joined, is_feed}
 
 -- ---- entries
 

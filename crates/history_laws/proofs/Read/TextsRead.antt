@@ -16,7 +16,8 @@ use Rattle.history_laws.specs.Read.Texts.{lines_before_end, IsRest, IsTextOf, Is
 use Rattle.history_laws.specs.Read.Laws.{TextIsRead, PrintedIsRead}
 use Rattle.history_laws.proofs.Read.GoodLines.{entry_good, setup_good}
 use Rattle.history_laws.proofs.Read.LinesRead.{entry_read, setup_read, line_in}
-use Rattle.history_laws.proofs.Read.Texts.{with_joined, line_first, lines_first}
+use Rattle.history_text.proofs.Joined.{with_joined}
+use Rattle.history_laws.proofs.Read.Texts.{line_first, lines_first}
 
 -- ---- lines
 

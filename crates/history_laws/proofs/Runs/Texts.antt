@@ -6,7 +6,7 @@ use Rattle.call_types.specs.declared.setup.Setup.{Setup}
 use Rattle.history_text.specs.Output.{with_lines, history_text}
 use Rattle.history_laws.specs.Read.Given.{IsTextHistory}
 use Rattle.history_laws.specs.Read.Texts.{IsTextOf}
-use Rattle.history_laws.proofs.Read.Texts.{joined, with_joined}
+use Rattle.history_text.proofs.Joined.{joined, with_joined}
 use Rattle.history_laws.proofs.Read.TextsRead.{printed_text}
 use Rattle.history_laws.proofs.Read.OneHistory.{one_history}
 use Rattle.history_laws.specs.Runs.Laws.{HasOneHistory}

@@ -12,7 +12,6 @@ use Rattle.std.proofs.Common.{
   ◌++◌,
   length,
   map,
-  Bool,
   false,
   None,
   Result,
@@ -42,7 +41,7 @@ use Rattle.plain_data.specs.Rows.{put, IsAfter}
 use Rattle.quantity_text.specs.Quantity.{amount_of}
 use Rattle.kube_objects.specs.declared.objects.Object.{Object}
 use Rattle.call_types.specs.declared.setup.Pool.{Pool}
-use Rattle.history_text.specs.Output.{with_line, with_lines}
+use Rattle.history_text.proofs.Joined.{joined, is_feed, no_feed, with_joined}
 use Rattle.script_lines.specs.declared.errors.BadLine.{BadLine}
 use Rattle.script_lines.specs.Members.{most_call, is_given}
 use Rattle.script_text.specs.declared.script.Line.{Line}
@@ -372,22 +371,6 @@ lines_beside imports known agents before (line ∷ lines) rest h fits fine =
     (All-tail LineHasShortObject line lines fits) (All-tail IsFine (line_text line) (map line_text lines) fine)
 
 -- ---- lines and line feeds
-
-abbrev joined : List (List ℕ) → List ℕ
-joined [] = []
-joined (line ∷ lines) = line ++ 10 ∷ joined lines
-
-with_joined : (done : List ℕ) (lines : List (List ℕ)) → with_lines done lines ≡ done ++ joined lines
-with_joined done [] = sym (append-nil done)
-with_joined done (line ∷ lines) = with_joined (with_line done line) lines ∙ append_assoc done (line ++ 10 ∷ []) (joined lines) ∙ ap (λ l. done ++ l) (append_assoc line (10 ∷ []) (joined lines))
-
-abbrev is_feed : ℕ → Bool
-is_feed b = eqb b 10
-
-no_feed : (line : List ℕ) → IsLine line → All (λ b. is_feed b ≡ false) line
-unfolding IsLine
-no_feed [] h = All-nil (λ b. is_feed b ≡ false)
-no_feed (x ∷ xs) h = All-cons (λ b. is_feed b ≡ false) x xs (ne_eqb x 10 h.0) (no_feed xs h.1)
 
 split_joined : (lines : List (List ℕ)) → All IsLine lines → lines_of (joined lines) ≡ lines ++ [] ∷ []
 split_joined [] h = refl

@@ -1,21 +1,19 @@
 -- What a binding goes on with carries its claim: the answer to each of its writes tells what was written.
 use Rattle.std.proofs.Common.{◌≡◌, ◌⊎◌, ℕ, List, Bool, true, false, true≢false, Option, Some, None, inl, inr, refl, sym, ◌∙◌, ap, subst, if◌then◌else◌, arith}
 use Rattle.std.specs.Prelude.{◌==◌, ◌||◌, ◌&&◌, not, bytes_eq, is_some, ⊤}
-use Rattle.std.proofs.lemmas.Bool.{and_parts, not-false}
-use Rattle.std.proofs.lemmas.Bool.Decides.{Decides-eqb, nat_tests}
+use Rattle.std.proofs.lemmas.Bool.{and_parts}
+use Rattle.std.proofs.lemmas.Bool.Decides.{Decides-eqb}
 use Rattle.std.proofs.lemmas.Option.{same_Some}
 use Rattle.std.proofs.lemmas.Slice.Eq.{bytes_eq-Decides}
 use Rattle.kube_parts.specs.declared.uid.Uid.{Uid}
-use Rattle.kube_objects.specs.declared.key.Key.{Key}
 use Rattle.kube_parts.specs.declared.parts.Kind.TheVariants as kinds
 use Rattle.kube_parts.specs.declared.parts.VolumePhase.TheVariants as volumes
 use Rattle.kube_objects.specs.declared.objects.Volume.{Volume as VolumeData}
 use Rattle.kube_objects.specs.declared.objects.Claim.{Claim as ClaimData}
 use Rattle.kube_objects.specs.declared.objects.Object.{Object}
-use Rattle.kube_objects.specs.declared.objects.Object.TheVariants.{Class, Node, Volume, Claim, Pod}
-use Rattle.kube_objects.specs.Keys.{meta_of, key_of, kind_index, row_at}
+use Rattle.kube_objects.specs.declared.objects.Object.TheVariants.{Volume, Claim}
+use Rattle.kube_objects.specs.Keys.{meta_of, key_of, kind_index}
 use Rattle.kube_objects.specs.Bindings.{bound_by_controller, carries, is_bound, is_empty, is_ended, is_protected_volume, names_claim, refers_carrying, uid_carries}
-use Rattle.kube_objects.proofs.KeyOrder.{row_at_key}
 use Rattle.call_types.specs.declared.entry.Entry.{Entry}
 use Rattle.call_types.specs.declared.setup.Setup.{Setup}
 use Rattle.call_types.specs.declared.request.NewStatus.TheVariants as statuses
@@ -25,7 +23,7 @@ use Rattle.call_types.specs.declared.request.SeatKind.{SeatKind}
 use Rattle.call_types.specs.declared.reply.Refusal.TheVariants as refusals
 use Rattle.call_types.specs.declared.reply.Reply.{Reply}
 use Rattle.call_types.specs.declared.reply.Reply.TheVariants as replies
-use Rattle.binder_model.specs.Answers.{is_other_version, with_status}
+use Rattle.binder_model.specs.Answers.{with_status}
 use Rattle.binder_model.specs.BindWrites.{
   claim_write,
   completed_with,
@@ -41,7 +39,7 @@ use Rattle.binder_model.specs.BindWrites.{
 }
 use Rattle.binder_model.specs.ObjectKeys.{claim_key, volume_key}
 use Rattle.binder_model.specs.Store.{at_version, updated_object, with_meta, with_status_of}
-use Rattle.binder_model.specs.Told.{IsClaimWith, IsVolumeWith, ToldObject, own}
+use Rattle.binder_model.specs.Told.{ToldObject, own}
 use Rattle.binder_model.specs.World.{World, Effect, OnStore, OnDevices, SetsMoment, IsHistory, effect, reply_to, world}
 use Rattle.claim_sync.specs.declared.action.ClaimStep.{ClaimStep}
 use Rattle.claim_sync.specs.declared.action.ClaimStep.TheVariants as steps
@@ -53,13 +51,12 @@ use Rattle.model_laws.proofs.Histories.{rows_stand_in_order}
 use Rattle.model_laws.proofs.Identity.{placed_same}
 use Rattle.model_laws.proofs.Lists.{none_some, one}
 use Rattle.model_laws.proofs.Replies.{DoneBy, Wrote, Again, writing}
-use Rattle.model_laws.proofs.Stood.{one_version_one_object}
 use Rattle.model_laws.proofs.Truths.{told_is_true}
 use Rattle.safety_law.specs.Invariant.Writes.{EffectOf, Writes}
 use Rattle.safety_law.proofs.Invariant.Effects.{effect_form}
 use Rattle.safety_law.proofs.Invariant.Objects.{same_volume}
 use Rattle.safety_law.proofs.Invariant.Whence.{updated_next, status_next}
-use Rattle.safety_law.proofs.Invariant.Came.{row_was}
+use Rattle.safety_law.proofs.Invariant.StandsAt.{is_claim, is_volume, stands_it}
 use Rattle.safety_law.proofs.Invariant.KeptBindings.{carries_on}
 use Rattle.binder_machines.specs.declared.machine.Machine.{Machine}
 use Rattle.binder_machines.specs.declared.machine.Machine.TheVariants.{Frees, Binds, MarksBound, ReadsClaim, Releases, Unbinds, ReadsVolume, AssignsClass, Loses}
@@ -100,35 +97,11 @@ done_writes e before a o done keeps =
 
 -- what was told stood
 
-is_volume : (v : VolumeData) (o : Object) → IsVolumeWith (λ u. u ≡ v) o → o ≡ Volume v
-is_volume v (Volume u) h = ap (λ x. Volume x) h
-is_volume v (Class x) h = absurd h
-is_volume v (Node x) h = absurd h
-is_volume v (Claim x) h = absurd h
-is_volume v (Pod x) h = absurd h
-
-is_claim : (c : ClaimData) (o : Object) → IsClaimWith (λ d. d ≡ c) o → o ≡ Claim c
-is_claim c (Claim d) h = ap (λ x. Claim x) h
-is_claim c (Class x) h = absurd h
-is_claim c (Node x) h = absurd h
-is_claim c (Volume x) h = absurd h
-is_claim c (Pod x) h = absurd h
-
 volume_stood : (e : Entry) (before : List Entry) (a : IsAnswered e before) (v : VolumeData) → ToldThis v before → Stood a.setup a.rest (Volume v)
 volume_stood e before a v told = told_is_true a.setup a.rest a.seat (Volume v) a.history (subst (ToldObject (λ x. x ≡ Volume v)) a.is_own (told_map (is_volume v) before told))
 
 claim_stood : (e : Entry) (before : List Entry) (a : IsAnswered e before) (c : ClaimData) → ToldThisClaim c before → Stood a.setup a.rest (Claim c)
 claim_stood e before a c told = told_is_true a.setup a.rest a.seat (Claim c) a.history (subst (ToldObject (λ x. x ≡ Claim c)) a.is_own (told_map (is_claim c) before told))
-
--- what stands at the version of an object that stood is that object
-same_version : (told now : ℕ) → is_other_version (Some told) now ≡ false → now ≡ told
-same_version told now v = let t : (told == now) ≡ true = not-false (told == now) v in grind (arith, nat_tests)
-
-stands_it : (setup : Setup) (rest : List Entry) (x old : Object) (key : Key) → Stood setup rest x → key_of x ≡ key → row_at key (world setup rest).store.rows ≡ Some old
-    → is_other_version (Some (meta_of x).version) (meta_of old).version ≡ false → old ≡ x
-stands_it setup rest x old key was keyed there v =
-    one_version_one_object setup rest old x (row_was setup rest key old there) was (same_version (meta_of x).version (meta_of old).version v)
-    (inl (row_at_key key old (world setup rest).store.rows there ∙ sym keyed))
 
 -- the four writes
 

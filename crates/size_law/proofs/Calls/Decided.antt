@@ -50,6 +50,7 @@ use Rattle.binder_machines.specs.FirstSteps.{IsClaimFirst, IsFirst, lost_for, qu
 use Rattle.binder_machines.specs.Machines.{machine_for}
 use Rattle.volume_index.proofs.PlacesBehind.{some_volume}
 use Rattle.size_law.specs.Law.Fitting.{Fits, IsReservedFor, Suits}
+use Rattle.claim_sync.proofs.Says.{lost_binds_none}
 use Rattle.size_law.proofs.Law.Fields.{beq_same}
 use Rattle.binder_machines.proofs.Begun.{first_back}
 
@@ -96,12 +97,6 @@ no_reference (Some r) e = absurd (true≢false (sym e))
 is_bind : ClaimStep → Bool
 is_bind steps.Bind = true
 is_bind step = false
-
--- where phase Lost may be written nothing is bound
-lost_binds_none : (b : Bool) → (if b then steps.Nothing else steps.Lost) ≡ steps.Bind → ⊥
-unfolding is_bind
-lost_binds_none true e = true≢false (ap is_bind (sym e))
-lost_binds_none false e = true≢false (ap is_bind (sym e))
 
 -- the volume that the claim names
 

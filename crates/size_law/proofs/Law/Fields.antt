@@ -7,7 +7,7 @@ use Rattle.std.specs.Prelude.{ℕ, ◌≡◌, ◌==◌, Bool, true, false, not, 
 use Rattle.std.specs.Bool.{beq}
 use Rattle.plain_data.specs.Pairs.{Pair, value_at, put_pair, without_key}
 use Rattle.plain_data.specs.Pairs as pairs
-use Rattle.plain_data.proofs.RowLookups.{find-put, find-put_other, find-without_other}
+use Rattle.plain_data.proofs.RowLookups.{find-put_other, find-without_other}
 use Rattle.kube_parts.specs.declared.uid.Uid.{Uid}
 use Rattle.kube_objects.specs.declared.objects.Amount.{Amount}
 use Rattle.kube_objects.specs.declared.objects.Meta.{Meta}
@@ -58,11 +58,6 @@ claim_fixed a b e =
     let sizes = and_parts (same_modes a.modes b.modes && same_amount a.amount b.amount) (beq a.block b.block) blocks.0 in
     let amounts = and_parts (same_modes a.modes b.modes) (same_amount a.amount b.amount) sizes.0 in
     (sym (same_bytes a.amount b.amount amounts.1), sym (beq_same a.block b.block sizes.1))
-
--- annotations
-
-pub value_put : (key value : List ℕ) (ps : List Pair) → value_at key (put_pair key value ps) ≡ Some value
-value_put key value ps = ap (λ x. option_map (λ (p : Pair). p.1) x) (find-put nat_list_cmp_total pairs.pair_key (key, value) ps)
 
 -- another annotation leaves the mark
 

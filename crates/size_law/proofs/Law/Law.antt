@@ -43,14 +43,14 @@ use Rattle.size_law.proofs.Law.Kept.{FittingMoves, IsLaterClaim, AreByHand, Suit
 
 -- the first world
 
-record IsVolumeImport (imports : List Object) (v : VolumeData) : Type 0 where
+record VolumeOrigin (imports : List Object) (v : VolumeData) : Type 0 where
   origin : VolumeData
   among : IsIn (Volume origin) imports
   bytes : v.amount.bytes ≡ origin.amount.bytes
   mode : v.block ≡ origin.block
   reference : v.claim_ref ≡ origin.claim_ref
 
-record IsClaimImport (imports : List Object) (c : ClaimData) : Type 0 where
+record ClaimOrigin (imports : List Object) (c : ClaimData) : Type 0 where
   origin : ClaimData
   among : IsIn (Claim origin) imports
   bytes : c.amount.bytes ≡ origin.amount.bytes
@@ -72,22 +72,22 @@ abbrev reference_in : Object → Option Ref
 reference_in (Volume v) = v.claim_ref
 reference_in o = None
 
-volume_import : (imports : List Object) (v : VolumeData) → ComesFrom imports imports (Volume v) → IsVolumeImport imports v
+volume_origin : (imports : List Object) (v : VolumeData) → ComesFrom imports imports (Volume v) → VolumeOrigin imports v
 unfolding imported_object
-volume_import imports v i = by i.import i.given i.is
+volume_origin imports v i = by i.import i.given i.is
   where
-    by : (o : Object) → IsIn o imports → Volume v ≡ imported_object imports o → IsVolumeImport imports v
+    by : (o : Object) → IsIn o imports → Volume v ≡ imported_object imports o → VolumeOrigin imports v
     by (Volume a) h e = record { origin = a; among = h; bytes = ap bytes_in e; mode = ap block_in e; reference = ap reference_in e }
     by (Class a) h e = other_kind (Volume v) (imported_object imports (Class a)) e (λ k. omega (arith, k))
     by (Node a) h e = other_kind (Volume v) (imported_object imports (Node a)) e (λ k. omega (arith, k))
     by (Claim a) h e = other_kind (Volume v) (imported_object imports (Claim a)) e (λ k. omega (arith, k))
     by (Pod a) h e = other_kind (Volume v) (imported_object imports (Pod a)) e (λ k. omega (arith, k))
 
-claim_import : (imports : List Object) (c : ClaimData) → ComesFrom imports imports (Claim c) → IsClaimImport imports c
+claim_origin : (imports : List Object) (c : ClaimData) → ComesFrom imports imports (Claim c) → ClaimOrigin imports c
 unfolding imported_object
-claim_import imports c i = by i.import i.given i.is
+claim_origin imports c i = by i.import i.given i.is
   where
-    by : (o : Object) → IsIn o imports → Claim c ≡ imported_object imports o → IsClaimImport imports c
+    by : (o : Object) → IsIn o imports → Claim c ≡ imported_object imports o → ClaimOrigin imports c
     by (Claim a) h e = record { origin = a; among = h; bytes = ap bytes_in e; mode = ap block_in e; uid = ap (λ o. (meta_of o).uid) e; annotations = ap (λ o. (meta_of o).annotations) e }
     by (Class a) h e = other_kind (Claim c) (imported_object imports (Class a)) e (λ k. omega (arith, k))
     by (Node a) h e = other_kind (Claim c) (imported_object imports (Node a)) e (λ k. omega (arith, k))
@@ -106,8 +106,8 @@ first_given : (setup : Setup) (j k : Key) (v : VolumeData) (c : ClaimData) (r : 
     → row_at j (world setup []).store.rows ≡ Some (Volume v) → row_at k (world setup []).store.rows ≡ Some (Claim c)
     → Refers v r uid → c.meta.uid ≡ Some uid → ImportsFit setup (Some uid) → Fits v c
 first_given setup j k v c r uid at_j at_k h its fit =
-    let x = volume_import setup.imports v (import_row setup.imports setup.imports j (Volume v) at_j) in
-    let y = claim_import setup.imports c (import_row setup.imports setup.imports k (Claim c) at_k) in
+    let x = volume_origin setup.imports v (import_row setup.imports setup.imports j (Volume v) at_j) in
+    let y = claim_origin setup.imports c (import_row setup.imports setup.imports k (Claim c) at_k) in
     let f = fit x.origin y.origin x.among y.among (ap ref_uid (sym x.reference ∙ h.is) ∙ h.known) (sym y.uid ∙ its) in
     let low = f.bytes in
     let wanted = y.bytes in
@@ -117,7 +117,7 @@ first_given setup j k v c r uid at_j at_k h its fit =
 -- a claim that was imported is marked and completed as it was
 first_late : (setup : Setup) (c : ClaimData) → Stands (world setup []) (Claim c) → IsMarkedLate setup c.meta.uid → is_marked c.meta ≡ true → is_completed c ≡ true
 first_late setup c was late marked =
-    let y = claim_import setup.imports c (import_row setup.imports setup.imports (key_of (Claim c)) (Claim c) was) in
+    let y = claim_origin setup.imports c (import_row setup.imports setup.imports (key_of (Claim c)) (Claim c) was) in
     let done = late y.origin y.among (sym y.uid) (ap (has_key bound_by_controller) (sym y.annotations) ∙ marked) in
     ap (has_key bind_completed) y.annotations ∙ done
 

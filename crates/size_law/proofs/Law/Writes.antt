@@ -1,11 +1,10 @@
 -- What each write of a run makes of bytes, modes, marks and references.
 use Rattle.std.proofs.Common.{sym, refl, subst, inl, inr, ap, ◌∙◌, true≢false}
-use Rattle.std.proofs.lemmas.Bool.{not-false}
-use Rattle.std.proofs.lemmas.Bool.Decides.{nat_tests}
 use Rattle.std.proofs.lemmas.Option.{same_Some}
-use Rattle.std.specs.Prelude.{ℕ, ◌≡◌, ◌==◌, ◌⊎◌, Bool, true, false, List, [], ◌∷◌, Option, Some, None, is_some, unwrap_or, ⊤}
+use Rattle.std.specs.Prelude.{ℕ, ◌≡◌, ◌==◌, ◌⊎◌, Bool, true, false, List, [], ◌∷◌, Option, Some, None, is_some, ⊤}
 use Rattle.std.proofs.Common.{arith}
 use Rattle.plain_data.specs.Pairs.{value_at}
+use Rattle.plain_data.proofs.PairValues.{value_put}
 use Rattle.kube_parts.specs.declared.uid.Uid.{Uid}
 use Rattle.kube_objects.specs.declared.key.Key.{Key}
 use Rattle.kube_parts.specs.declared.parts.Kind.TheVariants as kinds
@@ -51,12 +50,12 @@ use Rattle.safety_law.proofs.Invariant.Known.{told_volume, told_claim}
 use Rattle.safety_law.proofs.Law.Rows.{stored_volume, no_ref_uid}
 use Rattle.safety_law.proofs.Law.Claims.{stored_claim, select_keeps, clear_keeps}
 use Rattle.safety_law.proofs.Law.Users.{passes, completion_same, no_uid_given}
-use Rattle.safety_law.proofs.Law.Allowed.{Known, at_claim}
+use Rattle.safety_law.proofs.Law.Allowed.{Known, at_claim, same_version}
 use Rattle.kube_objects.proofs.KeyOrder.{row_at_key}
 use Rattle.model_laws.proofs.Stood.{one_version_one_object}
 use Rattle.safety_law.proofs.Invariant.Came.{row_was}
 use Rattle.size_law.specs.Law.Fitting.{Fits, Suits, IsGiven, GivesTo, GivesFitting, is_marked}
-use Rattle.size_law.proofs.Law.Fields.{volume_fixed, claim_fixed, value_put, completion_leaves_mark, select_leaves_mark, clear_leaves_mark, taken_marks, mark_same, user_keeps}
+use Rattle.size_law.proofs.Law.Fields.{volume_fixed, claim_fixed, completion_leaves_mark, select_leaves_mark, clear_leaves_mark, taken_marks, mark_same, user_keeps}
 
 -- the volume was given to the claim of this UID, which it suits. The mark is put on it only where it had no reference
 pub record WasGiven (setup : Setup) (past : List Entry) (old new : VolumeData) (uid : Uid) : Type 0 where
@@ -128,14 +127,6 @@ given_reference setup past mine true_of o new n row =
     }))
 
 -- the told volume at the current version is the one that stands
-
-same_version : (given : Option ℕ) (told now : ℕ) → given ≡ Some told → is_other_version given now ≡ false → told ≡ now
-same_version None told now e v = none_some e
-same_version (Some g) told now e v =
-    let same : g ≡ told = ap (λ x. unwrap_or x g) e in
-    let t : (g == now) ≡ true = not-false (g == now) v in
-    let n : g ≡ now = grind (arith, nat_tests) in
-    sym same ∙ n
 
 one_at : (setup : Setup) (past : List Entry) (o a : VolumeData) (key : Key) (given : Option ℕ) → Stood setup past (Volume o)
     → key.kind ≡ kinds.PersistentVolume → IsWrittenAt given key.namespace key.name o.meta → row_at key (world setup past).store.rows ≡ Some (Volume a)
