@@ -3,7 +3,7 @@ use Rattle.std.proofs.Common.{◌≡◌, List, Some}
 use Rattle.command_words.specs.declared.words.Command.{Command}
 use Rattle.command_words.specs.declared.words.Command.TheVariants as commands
 use Rattle.command_words.specs.declared.words.Options.{Options}
-use Rattle.command_words.specs.declared.words.Words.{Words}
+use Rattle.command_words.specs.declared.words.CommandWords.{CommandWords}
 use Rattle.command_words.specs.Grammar.{AreInRange, Text, words_of}
 use Rattle.command_words.proofs.Ranges.{words_in_range}
 use Rattle.binder_console.specs.Commands.{IsInRange, task_by, task_named}
@@ -15,5 +15,5 @@ named_in_range commands.Audit options h = tt
 named_in_range commands.Check options h = tt
 named_in_range commands.Gen options h = tt
 
-pub task_in_range : (words : List Text) (said : Words) → words_of words ≡ Some said → IsInRange (task_by said)
+pub task_in_range : (words : List Text) (said : CommandWords) → words_of words ≡ Some said → IsInRange (task_by said)
 task_in_range words said h = named_in_range said.command said.options (words_in_range words said h)

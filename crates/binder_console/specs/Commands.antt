@@ -5,7 +5,7 @@ use Rattle.std.specs.declared.result.Result.{Result}
 use Rattle.command_words.specs.declared.words.Command.{Command}
 use Rattle.command_words.specs.declared.words.Command.TheVariants as commands
 use Rattle.command_words.specs.declared.words.Options.{Options}
-use Rattle.command_words.specs.declared.words.Words.{Words}
+use Rattle.command_words.specs.declared.words.CommandWords.{CommandWords}
 use Rattle.command_words.specs.declared.words.WordsError.{WordsError}
 use Rattle.command_words.specs.declared.words.WordsError.TheVariants.{Usage, OutOfMemory}
 use Rattle.command_words.specs.Grammar.{words_of}
@@ -20,7 +20,7 @@ task_named commands.Check options = Check
 task_named commands.Audit options = Audit
 task_named commands.Gen options = Gen options.seed options.budget
 
-abbrev pub task_by : Words → Task
+abbrev pub task_by : CommandWords → Task
 task_by said = task_named said.command said.options
 
 -- what the words after the program's name ask for, if they ask for anything

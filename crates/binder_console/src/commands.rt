@@ -4,7 +4,7 @@ ghost use Rattle.std.specs.Prelude.{◌≡◌, IfOk};
 ghost use Rattle.binder_console.specs.Commands.{Asks, IsInRange, task_by, task_of};
 
 use command_words::reading::read_words;
-use command_words::words::{Command, Words, WordsError};
+use command_words::words::{Command, CommandWords, WordsError};
 use std::alloc::Global;
 
 /// What the program is asked to do.
@@ -33,7 +33,7 @@ pub enum Task {
 }
 
 /// The task of a command with its options.
-fn task_by(said: Words) -> Task
+fn task_by(said: CommandWords) -> Task
     ensures { result ≡ task_by said }
 {
     match said.command {

@@ -13,7 +13,7 @@ use Rattle.clap.specs.declared.parser.matches.ArgMatches.{ArgMatches}
 use Rattle.clap.proofs.WalkLemmas.{first_value-rows}
 use Rattle.command_words.specs.Grammar.{Reads, Text, words_by, words_of}
 use Rattle.command_words.specs.Steps.Line.{Matches, line}
-use Rattle.command_words.specs.declared.words.Words.{Words}
+use Rattle.command_words.specs.declared.words.CommandWords.{CommandWords}
 use Rattle.command_words.specs.declared.words.WordsError.{WordsError}
 use Rattle.command_words.specs.declared.words.WordsError.TheVariants.{Usage, OutOfMemory}
 use Rattle.command_words.proofs.Walking.{parse_fails, parse_ok}
@@ -38,7 +38,7 @@ module _ (l : Command) (words : List Text) (built : app_of l ≡ line) where
       go (x ∷ xs) is (inr among) = parse_fails words x xs is
 
 -- a refusal is handed on as it is
-pub passed_up : (words : List Text) (r : Result Words WordsError) (e : WordsError) → IsErrAnd r (λ y. y ≡ e) → Matches words (Err e) → Reads r (words_of words)
+pub passed_up : (words : List Text) (r : Result CommandWords WordsError) (e : WordsError) → IsErrAnd r (λ y. y ≡ e) → Matches words (Err e) → Reads r (words_of words)
 passed_up words (Ok x) e is h = absurd is
 passed_up words (Err y) e is h = go y (subst (λ z. Matches words (Err z)) (sym is) h)
   where

@@ -46,7 +46,7 @@ use Rattle.clap.specs.declared.parser.matches.ValueSource.TheVariants.{CommandLi
 use Rattle.command_words.specs.Grammar.{Part, Text, command_named, each_once, has_part, is_option, number_between, options_by, parts_from, part_text, with_part, words_by, words_of}
 use Rattle.command_words.specs.declared.words.Command.{Command}
 use Rattle.command_words.specs.declared.words.Options.{Options}
-use Rattle.command_words.specs.declared.words.Words.{Words}
+use Rattle.command_words.specs.declared.words.CommandWords.{CommandWords}
 
 abbrev pub row : Part → Row
 row p = record {
@@ -57,14 +57,14 @@ row p = record {
   reading = AsWritten;
 }
 
-abbrev pub reads : List Row → Option Words
+abbrev pub reads : List Row → Option CommandWords
 reads rows = words_by (λ id. first_of id rows)
 
 -- no part is given twice, among these and the rows that stand
 abbrev pub fits : List Row → List Part → Bool
 fits taken parts = each_once parts && list_all (λ p. not (has_row p.0 taken)) parts
 
-abbrev pub adds : List Row → Option (List Part) → Option Words
+abbrev pub adds : List Row → Option (List Part) → Option CommandWords
 adds taken None = None
 adds taken (Some parts) = cond (fits taken parts) (reads (taken ++ map row parts)) None
 
@@ -184,7 +184,7 @@ no_budget (Some w) None c = refl
 no_budget (Some w) (Some s) None = refl
 no_budget (Some w) (Some s) (Some c) = refl
 
-abbrev words_with : Option Command → Option Options → Option Words
+abbrev words_with : Option Command → Option Options → Option CommandWords
 words_with command options = option_and_then (λ c. option_map (λ o. record { command = c; options = o }) options) command
 
 no_options : (command : Option Command) → words_with command None ≡ None

@@ -8,7 +8,7 @@ use Rattle.std.specs.Str.Parse.{digits_value}
 use Rattle.std.proofs.lemmas.Bool.{and_parts}
 use Rattle.command_words.specs.declared.words.Command.{Command}
 use Rattle.command_words.specs.declared.words.Options.{Options}
-use Rattle.command_words.specs.declared.words.Words.{Words}
+use Rattle.command_words.specs.declared.words.CommandWords.{CommandWords}
 use Rattle.command_words.specs.Grammar.{AreInRange, Part, Text, command_named, each_once, is_number, number_between, options_by, parts_from, part_text, words_by, words_of}
 
 le_of : (m n : ℕ) → nat_le m n ≡ true → m ≤ n
@@ -60,7 +60,7 @@ options_in_range given options h =
         let calls = or_default 0 1000 200 (given (codes "calls")) c ec (omega arith) (omega arith) in
         subst AreInRange same (workers.0, workers.1, calls.1)
 
-words_by_in_range : (given : Text → Option Text) (said : Words) → words_by given ≡ Some said → AreInRange said.options
+words_by_in_range : (given : Text → Option Text) (said : CommandWords) → words_by given ≡ Some said → AreInRange said.options
 words_by_in_range given said h = by (option_and_then command_named (given (codes "command"))) (options_by given) refl h
   where
     by : (c : Option Command) (o : Option Options) → options_by given ≡ o
@@ -68,11 +68,11 @@ words_by_in_range given said h = by (option_and_then command_named (given (codes
     by None o eo h = absurd (cc)
     by (Some command) None eo h = absurd (cc)
     by (Some command) (Some options) eo h =
-        let made : Words = record { command = command; options = options } in
+        let made : CommandWords = record { command = command; options = options } in
         let same : made ≡ said = cc in
-        subst (λ (w : Words). AreInRange w.options) same (options_in_range given options eo)
+        subst (λ (w : CommandWords). AreInRange w.options) same (options_in_range given options eo)
 
-pub words_in_range : (words : List Text) (said : Words) → words_of words ≡ Some said → AreInRange said.options
+pub words_in_range : (words : List Text) (said : CommandWords) → words_of words ≡ Some said → AreInRange said.options
 words_in_range words said h = by (parts_from None words) h
   where
     by : (p : Option (List Part)) → option_and_then (λ parts. if each_once parts then words_by (part_text parts) else None) p ≡ Some said → AreInRange said.options

@@ -104,7 +104,7 @@ use Rattle.clap.specs.declared.error.kind.ErrorKind.TheVariants as kind
 use Rattle.clap.specs.declared.parser.matches.ValueSource.TheVariants.{CommandLine}
 use Rattle.command_words.specs.Grammar.{Part, Text, is_option, last_parts, option_parts, parts_from, with_part, word_parts, words_of}
 use Rattle.command_words.specs.Steps.Line.{line, option_rule}
-use Rattle.command_words.specs.declared.words.Words.{Words}
+use Rattle.command_words.specs.declared.words.CommandWords.{CommandWords}
 use Rattle.command_words.proofs.Parts.{adds, all_added, bad_command, bad_number, has_more, hyphen, hyphen_of_long, hyphen_of_short, is_one_of, itself, one_none, reads, row, same_text, take_part}
 
 abbrev shape : Shape
@@ -150,10 +150,10 @@ nil_or [] b = refl
 nil_or (k ∷ ks) b = refl
 
 -- what is said where the walk ends, and what the words from a walk on say
-abbrev ends : Held → Option Words
+abbrev ends : Held → Option CommandWords
 ends h = cond (is_nil (settle_fault rules false h)) (reads (settled rules h).rows) None
 
-abbrev says : Walk → List Text → Option Words
+abbrev says : Walk → List Text → Option CommandWords
 says w words = cond (is_nil (walk_fault shape [] w words)) (ends (fold (walked rules []) w words).held) None
 
 says_none : (w : Walk) → says w [] ≡ ends w.held
@@ -285,7 +285,7 @@ and_false false = refl
 -- ---- a word that no flag takes goes to the place of the command
 
 -- what the words say after it
-abbrev plain_says : Text → Held → Waiting → Bool → Bool → List Text → Option Words
+abbrev plain_says : Text → Held → Waiting → Bool → Bool → List Text → Option CommandWords
 plain_says word h waiting has_command is_trailing rest =
     cond (is_nil (step_fault shape (place has_command) h value))
     (says (after_step rules word (record { held = h; waiting = waiting; position = place has_command; is_trailing = is_trailing; stopped = None }) h value) rest)
@@ -335,7 +335,7 @@ plain_idle word is_trailing rest rows p taken good false st =
     plain_step word rows p idle is_trailing rest ∙ stands_to rows p taken good false st (λ rs. says (at rs (Some (codes "command", word ∷ [])) idle 2 is_trailing) rest)
 
 -- the command word is a part
-command_part : (taken : List Row) (word : Text) (o : Option (List Part)) (said : Option Words) (has_command : Bool) → has_row (codes "command") taken ≡ has_command
+command_part : (taken : List Row) (word : Text) (o : Option (List Part)) (said : Option CommandWords) (has_command : Bool) → has_row (codes "command") taken ≡ has_command
     → (has_command ≡ false → said ≡ adds (taken ++ row (codes "command", word) ∷ []) o) → cond has_command None said ≡ adds taken (with_part (codes "command") word o)
 command_part taken word o said true h is = sym (take_part taken (codes "command") word o ∙ ap (λ b. cond b None (adds (taken ++ row (codes "command", word) ∷ []) o)) h)
 command_part taken word o said false h is = is refl ∙ sym (take_part taken (codes "command") word o ∙ ap (λ b. cond b None (adds (taken ++ row (codes "command", word) ∷ []) o)) h)
@@ -388,10 +388,10 @@ abbrev met_by : Option (Text × Option Text) → Option Text → Waiting → Tex
 met_by (Some p) s waiting word h = long_word rules waiting word p.0 p.1 h
 met_by None s waiting word h = short_or_plain rules waiting word s h
 
-abbrev said_with : Kinds → Held × Step → Walk → Text → List Text → Option Words
+abbrev said_with : Kinds → Held × Step → Walk → Text → List Text → Option CommandWords
 said_with fault met w word rest = cond (is_nil (or_else fault (step_fault shape w.position met.0 met.1))) (says (after_step rules word w met.0 met.1) rest) None
 
-abbrev said_by : Bool → Option (Text × Option Text) → Option Text → Walk → Text → List Text → Option Words
+abbrev said_by : Bool → Option (Text × Option Text) → Option Text → Walk → Text → List Text → Option CommandWords
 said_by d l s w word rest = said_with (cond d [] (flag_fault l s w.held)) (cond d (w.held, trailing w.position) (met_by l s w.waiting word w.held)) w word rest
 
 flag_is : (l : Option (Text × Option Text)) (word : Text) (h : Held) → flag_word_fault rules false l word h ≡ flag_fault l (short_of word) h
@@ -443,7 +443,7 @@ short_case (x ∷ xs) rows p waiting position word rest = go (slice_get (chars (
     go None = refl
     go (Some y) = refl
 
-abbrev said_long : Option Rule → Option Text → Walk → Text → List Text → Option Words
+abbrev said_long : Option Rule → Option Text → Walk → Text → List Text → Option CommandWords
 said_long o v w word rest = said_with (long_fault rules false o v w.held) (after_flag rules w.waiting word (long_met rules o v w.held).0 (long_met rules o v w.held).1) w word rest
 
 -- ---- words at which nothing waits
@@ -454,7 +454,7 @@ and_true false = refl
 
 module _ (name : Text) (known : is_option name ≡ true) (word : Text) (rest : List Text) (rows : List Row) (p : Pending) (taken : List Row)
     (good has_command : Bool) (st : Stands rows p taken good has_command) where
-  abbrev said_joined : Text → List Row → Option Words
+  abbrev said_joined : Text → List Row → Option CommandWords
   said_joined text rs = cond (not (has_row name rs)) (says (at (used (option_taken name) (text ∷ []) rs) None idle (place has_command) false) rest) None
 
   joined : (text : Text) → said_long (Some (option_taken name)) (Some text) (at rows p idle (place has_command) false) word rest ≡ cond good (said_joined text taken) None
@@ -466,7 +466,7 @@ module _ (name : Text) (known : is_option name ≡ true) (word : Text) (rest : L
       (use_nil None (Some name) name text (settled_rows rules p rows))
       ∙ stands_to rows p taken good has_command st (said_joined text)
     where
-      go : (f u : Kinds) (said : Option Words) → cond (is_nil (or_else (or_else f u) [])) said None ≡ cond (is_nil f) (cond (is_nil u) said None) None
+      go : (f u : Kinds) (said : Option CommandWords) → cond (is_nil (or_else (or_else f u) [])) said None ≡ cond (is_nil f) (cond (is_nil u) said None) None
       go [] [] said = refl
       go [] (k ∷ ks) said = refl
       go (k ∷ ks) u said = refl
@@ -519,7 +519,7 @@ module _ (word : Text) (rest : List Text) (idles : Idle rest) (waits : Waits res
         ≡ cond good (adds taken (word_parts (Some (name, v)) word (parts_from None rest) (λ n. parts_from (Some n) rest))) None
     long_idle name v = ap (λ o. said_long o v (at rows p idle (place has_command) false) word rest) (arg_long name) ∙ go (is_option name) refl v
       where
-        inside : (b : Bool) (x y : Option Words) → (b ≡ true → x ≡ y) → cond b x None ≡ cond b y None
+        inside : (b : Bool) (x y : Option CommandWords) → (b ≡ true → x ≡ y) → cond b x None ≡ cond b y None
         inside true x y h = h refl
         inside false x y h = refl
 
@@ -561,11 +561,11 @@ module _ (word : Text) (rest : List Text) (idles : Idle rest) (waits : Waits res
     abbrev here : Walk
     here = at taken (Some (name, [])) (option name) (place has_command) false
 
-    unsettled : (f u : Kinds) (said : Option Words) → is_nil f ≡ false → cond (is_nil (or_else (or_else f u) [])) said None ≡ None
+    unsettled : (f u : Kinds) (said : Option CommandWords) → is_nil f ≡ false → cond (is_nil (or_else (or_else f u) [])) said None ≡ None
     unsettled [] u said e = absurd (true≢false e)
     unsettled (k ∷ ks) u said e = refl
 
-    unsettled_bare : (f : Kinds) (said : Option Words) → is_nil f ≡ false → cond (is_nil (or_else f [])) said None ≡ None
+    unsettled_bare : (f : Kinds) (said : Option CommandWords) → is_nil f ≡ false → cond (is_nil (or_else f [])) said None ≡ None
     unsettled_bare [] said e = absurd (true≢false e)
     unsettled_bare (k ∷ ks) said e = refl
 
@@ -693,7 +693,7 @@ parse_says words =
     ∙ (each_word words).0 [] None [] true false (taken_stands [] false refl)
     ∙ all_added words)
   where
-    go : (w s : Kinds) (said : Option Words) → cond (is_nil (or_else w (or_else s []))) said None ≡ cond (is_nil w) (cond (is_nil s) said None) None
+    go : (w s : Kinds) (said : Option CommandWords) → cond (is_nil (or_else w (or_else s []))) said None ≡ cond (is_nil w) (cond (is_nil s) said None) None
     go [] [] said = refl
     go [] (k ∷ ks) said = refl
     go (k ∷ ks) s said = refl

@@ -3,10 +3,10 @@ use Rattle.std.specs.Prelude.{◌≡◌, ℕ, [], ◌∷◌, Option, Some, None,
 use Rattle.command_words.specs.Grammar.{words_of}
 use Rattle.command_words.specs.declared.words.Command.{Command}
 use Rattle.command_words.specs.declared.words.Command.TheVariants.{Replay, Run, Check, Gen}
-use Rattle.command_words.specs.declared.words.Words.{Words}
+use Rattle.command_words.specs.declared.words.CommandWords.{CommandWords}
 
 -- what a line of these values says
-abbrev pub says : Command → ℕ → ℕ → ℕ → Option ℕ → Option Words
+abbrev pub says : Command → ℕ → ℕ → ℕ → Option ℕ → Option CommandWords
 says command workers seed calls budget = Some (record {
   command = command;
   options = record { workers = workers; seed = seed; calls = calls; budget = budget };

@@ -36,7 +36,7 @@ use Rattle.clap.specs.Lexer.{long_of}
 use Rattle.command_words.specs.declared.words.Command.{Command}
 use Rattle.command_words.specs.declared.words.Command.TheVariants.{Replay, Run, Audit, Check, Gen}
 use Rattle.command_words.specs.declared.words.Options.{Options}
-use Rattle.command_words.specs.declared.words.Words.{Words}
+use Rattle.command_words.specs.declared.words.CommandWords.{CommandWords}
 use Rattle.command_words.specs.declared.words.WordsError.{WordsError}
 use Rattle.command_words.specs.declared.words.WordsError.TheVariants.{Usage, OutOfMemory}
 
@@ -138,16 +138,16 @@ abbrev pub AreInRange : Options → Type 0
 AreInRange options = (1 ≤ options.workers) × (options.workers ≤ 4) × (options.calls ≤ 1000)
 
 -- the command and the options, from the text of each part that is given
-abbrev pub words_by : (Text → Option Text) → Option Words
+abbrev pub words_by : (Text → Option Text) → Option CommandWords
 words_by given = option_and_then (λ command. option_map (λ options. record { command = command; options = options })
     (options_by given)) (option_and_then command_named (given (codes "command")))
 
 -- what the words say, where they are of the grammar
-abbrev pub words_of : List Text → Option Words
+abbrev pub words_of : List Text → Option CommandWords
 words_of words = option_and_then (λ parts. if each_once parts then words_by (part_text parts) else None) (parts_from None words)
 
 -- the answer is the one that the grammar gives; want of memory says nothing of the words
-abbrev pub Reads : Result Words WordsError → Option Words → Type 0
+abbrev pub Reads : Result CommandWords WordsError → Option CommandWords → Type 0
 Reads (Ok words) said = said ≡ Some words
 Reads (Err Usage) said = said ≡ None
 Reads (Err OutOfMemory) said = ⊤

@@ -8,7 +8,7 @@ ghost use Rattle.clap.specs.Words.{app_of, first_value, found_of, rule_of};
 ghost use Rattle.command_words.specs.Grammar.{command_named, is_number, number_between, options_by, words_by, words_of, Reads};
 ghost use Rattle.command_words.specs.Steps.Line.{Matches, bare_line, line, option_rule};
 
-use crate::words::{Command, Options, Words, WordsError};
+use crate::words::{Command, CommandWords, Options, WordsError};
 use clap::error::ErrorKind;
 use clap::{Arg, ArgAction, ArgMatches};
 use std::alloc::{AllocError, Global};
@@ -87,12 +87,12 @@ fn options_in(matches: &ArgMatches<'_>) -> Option<Options>
     })
 }
 
-fn words_in(matches: &ArgMatches<'_>) -> Option<Words>
+fn words_in(matches: &ArgMatches<'_>) -> Option<CommandWords>
     ensures { result ≡ words_by (first_value (found_of matches.now)) }
 {
     let command = command_named(matches.get_str("command")?)?;
     let options = options_in(matches)?;
-    Some(Words { command, options })
+    Some(CommandWords { command, options })
 }
 
 fn option<'a>(alloc: Global, name: &'a str) -> Arg<'a>
@@ -139,7 +139,7 @@ fn matches_of<'a>(alloc: Global, words: &'a [String]) -> Result<ArgMatches<'a>, 
 }
 
 /// The command and the options that the words after the program's name give.
-pub fn read_words(alloc: Global, words: &[String]) -> Result<Words, WordsError>
+pub fn read_words(alloc: Global, words: &[String]) -> Result<CommandWords, WordsError>
     ensures { Reads result (words_of (map string_bytes words.now)) }
 {
     let matches = matches_of(alloc, words)?;

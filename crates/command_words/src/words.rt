@@ -29,7 +29,7 @@ pub struct Options {
 
 /// A command with its options, also with those that it does not use.
 #[derive(Clone, Copy, Debug, PartialEq, Eq)]
-pub struct Words {
+pub struct CommandWords {
     pub command: Command,
     pub options: Options,
 }

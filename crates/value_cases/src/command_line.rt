@@ -3,7 +3,7 @@
 
 use crate::words::word;
 use command_words::reading::read_words;
-use command_words::words::{Command, Words, WordsError};
+use command_words::words::{Command, CommandWords, WordsError};
 use plain_data::copies::OutOfMemory;
 use std::alloc::Global;
 
@@ -28,7 +28,7 @@ fn name(command: Command) -> &'static str {
     }
 }
 
-fn shown(alloc: Global, said: Words) -> Result<String, OutOfMemory> {
+fn shown(alloc: Global, said: CommandWords) -> Result<String, OutOfMemory> {
     let command = name(said.command);
     let workers = said.options.workers;
     let seed = said.options.seed;
