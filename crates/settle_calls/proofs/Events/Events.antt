@@ -18,6 +18,8 @@ use Rattle.settle_calls.specs.Events.Telling.{WatchesTellLess}
 use Rattle.settle_calls.specs.Events.Counts.{pending}
 use Rattle.settle_calls.specs.Events.Telling.{IsToldSo, told}
 use Rattle.model_laws.proofs.Lists.{IsIn, some_left, some_right}
+use Rattle.settle_slot.proofs.Told.Exact.{in_filter}
+use Rattle.settle_slot.proofs.Told.Exact.{in_reverse}
 
 -- versions that fall from the newest event on, and versions that rise
 
@@ -228,20 +230,6 @@ first_or_later low zero (x ∷ xs) y r i = inr (above low (x ∷ xs) y r i)
     above l (z ∷ zs) y r (inr i) = let a = r.0 in let b = above z.version zs y r.1 i in omega (arith, a, b)
 first_or_later low (suc n) (x ∷ xs) y r (inl is) = inl (inl is)
 first_or_later low (suc n) (x ∷ xs) y r (inr i) = elim (first_or_later x.version n xs y r.1 i) [ inl there ↦ inl (inr there) | inr late ↦ inr late ]
-
-in_reverse : (y : Event) (xs : List Event) → IsIn y xs → IsIn y (reverse xs)
-in_reverse y [] i = absurd i
-in_reverse y (x ∷ xs) (inl is) = subst (IsIn y) (sym (reverse_onto xs x [])) (some_right (λ z. z ≡ y) (reverse xs) (x ∷ []) (inl is))
-in_reverse y (x ∷ xs) (inr more) = subst (IsIn y) (sym (reverse_onto xs x [])) (some_left (λ z. z ≡ y) (reverse xs) (x ∷ []) (in_reverse y xs more))
-
-in_filter : (p : Event → Bool) (y : Event) (xs : List Event) → IsIn y xs → p y ≡ true → IsIn y (filter p xs)
-in_filter p y [] i e = absurd i
-in_filter p y (x ∷ xs) (inl is) e = let h : p x ≡ true = ap p is ∙ e in rw h (inl is)
-in_filter p y (x ∷ xs) (inr more) e = by (p x) (in_filter p y xs more e)
-  where
-    by : (b : Bool) → IsIn y (filter p xs) → IsIn y (cond b (x ∷ filter p xs) (filter p xs))
-    by true i = inr i
-    by false i = i
 
 pub told_or_later : (setup : Setup) (past : List Entry) (kind : Kind) (from : ℕ) (y : Event) → from ≤ (world setup past).store.version → IsIn y (world setup past).log → is_later kind from y ≡ true
     → IsIn y (told kind from (world setup past).log) ⊎ ((told_events kind from (world setup past).store.version (world setup past).log).upto < y.version)

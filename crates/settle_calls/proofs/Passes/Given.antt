@@ -54,6 +54,7 @@ use Rattle.settle_calls.proofs.Tasks.Tasks.{under_goes}
 use Rattle.settle_calls.specs.Events.Ahead.{from_of}
 use Rattle.settle_calls.specs.Tasks.Ends.{done_by, start_left}
 use Rattle.settle_calls.specs.Passes.Passes.{IsCallGiven}
+pub use Rattle.settle_slot.proofs.Slot.Slots.{kind_in as in_place}
 
 -- what was given is a task's call, a call of the start, or a read
 
@@ -237,11 +238,6 @@ unwritten setup e past answered none = elim (world_moves setup e past answered) 
     | inr gone ↦ absurd (true≢false (sym (ap tells_write gone.0) ∙ none))
   ]
 ]
-
-pub in_place : (ks : List Kind) (place : ℕ) (kind : Kind) → slice_get ks place ≡ Some kind → IsIn kind ks
-in_place [] place kind at = none_some at
-in_place (k ∷ ks) zero kind at = inl (one k kind at)
-in_place (k ∷ ks) (suc place) kind at = inr (in_place ks place kind at)
 
 module _ (setup : Setup) (seat : ℕ) (x : ActorState) (request : Request) (reply : Reply) (h : List Entry) (given : IsCallGiven setup seat x request reply h) where
   pub low_from : (kind : Kind) (from : ℕ) → from_of seat h kind ≡ Some from → from ≤ (world setup h).store.version

@@ -33,14 +33,11 @@ use Rattle.settle_due.proofs.Upkeep.Claims.{claim_guards_act, uses_pod}
 use Rattle.settle_due.proofs.Upkeep.Guards.{volume_guards_act}
 use Rattle.settle_due.specs.Begun.Begun.{ClaimGuardsLast, VolumeGuardsLast}
 use Rattle.settle_due.proofs.Begun.Seeing.{any_seen, by_acting}
+use Rattle.settle_writes.proofs.Done.Saying.{no_task as not_dropped}
 
 abbrev is_drop : First → Bool
 is_drop firsts.Drops = true
 is_drop first = false
-
--- a task is no key that is dropped
-pub not_dropped : {X : Type 0} (task : Task) → firsts.Begins task ≡ firsts.Drops → X
-not_dropped task e = absurd (true≢false (sym (ap is_drop e)))
 
 module _ (setup : Setup) (seat : ℕ) (role : Role) (start : List Entry) (pass : ImportsPass setup.imports) (s : ActorState) (h : List Entry)
     (u : Under) (p : IsDecisionPoint setup seat role start s h) (gives : GivesCall s.role s.memory (all_objects s.caches) u) where

@@ -27,8 +27,8 @@ use Rattle.settle_slot.specs.Slot.Would.{WouldLast}
 use Rattle.settle_due.proofs.Upkeep.Reclaims.{reclaims_act}
 use Rattle.settle_due.proofs.Provisioning.Provisions.{provisioner_acts}
 use Rattle.settle_due.specs.Begun.Begun.{IsOfNoneDue, OpsLast}
-use Rattle.settle_due.proofs.Begun.Guards.{not_dropped}
 use Rattle.settle_due.proofs.Begun.Seeing.{by_acting}
+use Rattle.settle_writes.proofs.Done.Saying.{no_task as not_dropped}
 
 module _ (setup : Setup) (seat : ℕ) (role : Role) (start : List Entry) (pass : ImportsPass setup.imports) (kind : role.kind ≡ seats.Ops)
     (s : ActorState) (h : List Entry) (u : Under) (p : IsDecisionPoint setup seat role start s h) (gives : GivesCall s.role s.memory (all_objects s.caches) u) where

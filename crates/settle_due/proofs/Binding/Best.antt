@@ -11,6 +11,7 @@ use Rattle.kube_objects.specs.Keys.{is_of_kind, rows_of}
 use Rattle.binder_model.specs.Matching.{IsCandidate, only_own_passes}
 use Rattle.model_laws.proofs.Lists.{IsIn}
 use Rattle.settle_due.specs.Binding.Best.{BestIsOwn}
+use Rattle.model_laws.proofs.Readings.{filter_keeps as kept}
 
 record At (x : Object) (xs : List Object) : Type 0 where
   place : ℕ
@@ -20,15 +21,6 @@ at_place : (x : Object) (xs : List Object) → IsIn x xs → At x xs
 at_place x [] i = absurd i
 at_place x (y ∷ ys) (inl is) = record { place = zero; is = ap Some is }
 at_place x (y ∷ ys) (inr more) = let r = at_place x ys more in record { place = suc r.place; is = r.is }
-
-kept : (p : Object → Bool) (x : Object) (xs : List Object) → IsIn x xs → p x ≡ true → IsIn x (filter p xs)
-kept p x [] i e = absurd i
-kept p x (y ∷ ys) (inl is) e = let h : p y ≡ true = ap p is ∙ e in rw h (inl is)
-kept p x (y ∷ ys) (inr more) e = by (p y) (kept p x ys more e)
-  where
-    by : (b : Bool) → IsIn x (filter p ys) → IsIn x (cond b (y ∷ filter p ys) (filter p ys))
-    by true i = inr i
-    by false i = i
 
 own_passes : (b : Bool) (u : VolumeData) (c : ClaimData) → is_for u c ≡ true → only_own_passes b u c ≡ true
 own_passes true u c e = e

@@ -70,9 +70,12 @@ use Rattle.settle_due.proofs.Upkeep.Claims.{or_true}
 use Rattle.settle_due.proofs.Upkeep.Deciding.{DecisionLasts, acts_each, claim_alike, stored, volume_in}
 use Rattle.settle_due.proofs.Upkeep.Known.{rows_known}
 use Rattle.settle_due.proofs.Binding.Matches.{AgreeForBinder, goes_over, match_same, some_among}
-use Rattle.settle_due.proofs.Binding.NextWrites.{IsOpenTo, carries_for, next_lasts, next_some}
+use Rattle.settle_due.proofs.Binding.NextWrites.{IsOpenTo, next_lasts, next_some}
 use Rattle.settle_due.proofs.Upkeep.Reclaims.{HasUid, has_uid}
 use Rattle.settle_due.proofs.Upkeep.Volumes.{begins_one, get_said, get_stays, got, machine_in}
+use Rattle.model_laws.proofs.References.{carries_for}
+use Rattle.model_laws.proofs.References.{available_lives as available_stays}
+use Rattle.binder_machines.proofs.Calling.{written_reference as carried_open}
 
 -- the machine has a call, and will make one that lasts
 record MachineLasts (setup : Setup) (seat : ℕ) (role : Role) (start : List Entry) (key : Key) (h : List Entry) (f : BinderFirst) : Type 0 where
@@ -154,15 +157,6 @@ volume_or name rows (Some (Node o)) e = let k = ap (λ (k : Key). kind_index k.k
 volume_or name rows (Some (Claim o)) e = let k = ap (λ (k : Key). kind_index k.kind) (row_at_key (volume_key name) (Claim o) rows e) in absurd (omega (arith, k))
 volume_or name rows (Some (Pod o)) e = let k = ap (λ (k : Key). kind_index k.kind) (row_at_key (volume_key name) (Pod o) rows e) in absurd (omega (arith, k))
 
--- a volume without a reference, or that carries the claim, is open to it
-carried_open : (v : VolumeData) (c : ClaimData) → (is_none v.claim_ref || carries v c) ≡ true → (is_none v.claim_ref || is_for v c) ≡ true
-carried_open v c e = by (is_none v.claim_ref) (carries v c) refl e
-  where
-    by : (free carried : Bool) → carries v c ≡ carried → (free || carried) ≡ true → (free || is_for v c) ≡ true
-    by true carried ec e = refl
-    by false true ec e = carries_for v c ec
-    by false false ec e = absurd (true≢false (sym e))
-
 -- a valid class has no namespace
 class_unplaced : (x : ClassData) → IsValid (Class x) → is_empty x.meta.namespace ≡ true
 unfolding create_fault kind_fault class_fault
@@ -179,13 +173,6 @@ record IsFitting (v : VolumeData) (c : ClaimData) : Type 0 where
   guarded : is_protected_volume v ≡ true
   staying : is_ended v.phase ≡ false
   open_to : (is_none v.claim_ref || is_for v c) ≡ true
-
-available_stays : (p : VolumePhase) → is_available p ≡ true → is_ended p ≡ false
-available_stays volumes.Available e = refl
-available_stays volumes.Pending e = refl
-available_stays volumes.Bound e = refl
-available_stays volumes.Released e = absurd (true≢false (sym e))
-available_stays volumes.Failed e = absurd (true≢false (sym e))
 
 fitting : (v : VolumeData) (c : ClaimData) → eligible v c None ≡ true → IsFitting v c
 fitting v c e = by (is_deleting v.meta) (is_protected_volume v) (fits v c) (is_selected c.selector v.meta.labels) (is_for v c) (is_ended v.phase)

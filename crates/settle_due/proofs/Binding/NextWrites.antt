@@ -19,19 +19,7 @@ use Rattle.settle_writes.specs.Writes.Lasting.{Lasts}
 use Rattle.settle_writes.specs.Writes.Writes.{IsStored}
 use Rattle.settle_writes.proofs.Writes.Claims.{completion_lasts, status_is_lasting}
 use Rattle.settle_writes.proofs.Writes.Volumes.{phase_lasts, reference_lasts}
-
--- a volume that carries a claim is for it
-pub carries_for : (v : VolumeData) (c : ClaimData) → carries v c ≡ true → is_for v c ≡ true
-carries_for v c e = by v.claim_ref e
-  where
-    by_uid : (u : Option Uid) → (b : Bool) → (b && uid_carries u c) ≡ true → (b && uid_fits u c) ≡ true
-    by_uid None true e = refl
-    by_uid None false e = e
-    by_uid (Some u) b e = e
-
-    by : (r : Option Ref) → refers_carrying r c ≡ true → refers_for r c ≡ true
-    by None e = e
-    by (Some r) e = by_uid r.uid (names_claim r c) e
+use Rattle.model_laws.proofs.References.{carries_for}
 
 -- the claim is open, and names the volume or none; or it is completed with it
 abbrev pub IsOpenTo : VolumeData → ClaimData → Type 0

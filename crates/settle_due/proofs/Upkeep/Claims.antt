@@ -46,17 +46,9 @@ use Rattle.settle_due.specs.Upkeep.Acts.{ClaimGuardsAct}
 use Rattle.settle_due.proofs.Upkeep.Deciding.{BeginsLasting, acts_by, claim_alike, stored}
 use Rattle.settle_due.proofs.Upkeep.Guards.{GuardOrUnguard, IsGuard, IsUnguard, one_of}
 use Rattle.settle_due.proofs.Upkeep.Known.{rows_known}
+use Rattle.settle_measure.proofs.Left.Others.{any_in as any_of}
 
 -- tests over rows
-
-any_of : (p : Object → Bool) (o : Object) (rows : List Object) → IsIn o rows → p o ≡ true → list_any p rows ≡ true
-any_of p o [] h e = absurd h
-any_of p o (x ∷ xs) (inl is) e = ap (λ b. b || list_any p xs) (ap p is ∙ e)
-any_of p o (x ∷ xs) (inr more) e = by (p x) (any_of p o xs more e)
-  where
-    by : (b : Bool) → list_any p xs ≡ true → (b || list_any p xs) ≡ true
-    by true rest = refl
-    by false rest = rest
 
 -- no row of these passes where each that would stands among others, of which none does
 pub none_among : (p : Object → Bool) (xs rows : List Object) → ((o : Object) → IsIn o xs → p o ≡ true → IsIn o rows) → list_any p rows ≡ false → list_any p xs ≡ false

@@ -23,11 +23,12 @@ use Rattle.binder_model.specs.World.{World}
 use Rattle.settle_measure.specs.Left.Measure.{binding_left, claim_left, completed_left, guard_left, has_class, has_offer, is_held_by, is_seeking, offers_claim, open_left, provision_left, unless}
 use Rattle.settle_measure.specs.Binding.Pays.{ClassPays, NodeGoes, NodeStays}
 use Rattle.settle_measure.specs.Left.Lowers.{Lowers, StandsClaim}
-use Rattle.settle_measure.proofs.Binding.Binding.{carries_for, offer_eligible, offer_of, seeking_parts}
+use Rattle.settle_measure.proofs.Binding.Binding.{offer_eligible, offer_of, seeking_parts}
 use Rattle.settle_measure.proofs.Binding.Claims.{claim_update_lowers, rewritten_claim}
 use Rattle.settle_measure.proofs.Left.Others.{any_in}
 use Rattle.settle_measure.proofs.Left.Sums.{found_in}
 use Rattle.settle_measure.proofs.Left.Words.{carries_alike, value_other, value_without}
+use Rattle.model_laws.proofs.References.{carries_for}
 
 -- what the measure reads of a claim's meta, but for its finalizers, is the same
 pub record MetaAlike (old new : Meta) : Type 0 where

@@ -43,6 +43,7 @@ use Rattle.settle_measure.proofs.Left.Others.{any_found, any_in}
 use Rattle.settle_measure.proofs.Binding.References.{awaited_pays, claim_pays, completed_claim_pays, named_pays, seeking_pays}
 use Rattle.settle_measure.proofs.Binding.Stages.{at_key}
 use Rattle.settle_measure.proofs.Left.Sums.{found_in, stands}
+use Rattle.model_laws.proofs.References.{carries_for}
 
 pub record IsSeeking (c : ClaimData) : Type 0 where
   pub open_ : is_completed c ≡ false
@@ -102,17 +103,6 @@ for_awaited rows v c there seeking own = by v.claim_ref own
     by : (r : Option Ref) → refers_for r c ≡ true → is_awaited rows r ≡ true
     by None e = absurd (true≢false (sym e))
     by (Some r) e = ap (λ k. seeks (row_at k rows)) (for_key r c e) ∙ ap seeks there ∙ seeking
-
-pub carries_for : (u : VolumeData) (c : ClaimData) → carries u c ≡ true → is_for u c ≡ true
-carries_for u c e = by u.claim_ref e
-  where
-    uid : (x : Option Uid) → uid_carries x c ≡ true → uid_fits x c ≡ true
-    uid None e = refl
-    uid (Some y) e = e
-
-    by : (r : Option Ref) → refers_carrying r c ≡ true → refers_for r c ≡ true
-    by None e = e
-    by (Some r) e = let p = and_parts (names_claim r c) (uid_carries r.uid c) e in and_from (names_claim r c) (uid_fits r.uid c) p.0 (uid r.uid p.1)
 
 pub offer_eligible : (u : VolumeData) (c : ClaimData) → offers u c ≡ true → (carries u c ≡ true) × (eligible u c None ≡ true)
 offer_eligible u c e =

@@ -67,18 +67,13 @@ use Rattle.settle_measure.proofs.Left.Others.{AsGood, away_most, carried_most, p
 use Rattle.settle_measure.proofs.Binding.Stages.{AllSafe, at_key, false_not, key_is, life_kept, lowered, lowered_paid, no_carrier, not_over, rewritten, update_by, with_uid}
 use Rattle.settle_measure.proofs.Left.Sums.{found_in}
 use Rattle.settle_measure.proofs.Left.Words.{annotated_beta, annotated_finalizers, annotated_labels, annotated_name, annotated_namespace}
+pub use Rattle.model_laws.proofs.References.{refers_to}
 
 equal_texts : (t : List ℕ) → bytes_eq t t ≡ true
 equal_texts t = (bytes_eq-Decides t t).1 refl
 
 own_uid : (u : Option Uid) (uid : Uid) → u ≡ Some uid → is_uid u uid ≡ true
 own_uid u uid e = let same : (uid.0 == uid.0) ≡ true = grind (arith, nat_tests) in ap (λ x. is_uid x uid) e ∙ same
-
--- the reference to a claim carries it
-pub refers_to : (c : ClaimData) (uid : Uid) → c.meta.uid ≡ Some uid → refers_carrying (Some (ref_to c)) c ≡ true
-refers_to c uid e =
-    let names = and_from (bytes_eq c.meta.namespace c.meta.namespace) (bytes_eq c.meta.name c.meta.name) (equal_texts c.meta.namespace) (equal_texts c.meta.name) in
-    and_from (bytes_eq c.meta.namespace c.meta.namespace && bytes_eq c.meta.name c.meta.name) (uid_carries c.meta.uid c) names (ap (λ u. uid_carries u c) e ∙ own_uid c.meta.uid uid e)
 
 -- a reference that is the claim's and does not carry it has no UID
 no_uid : (v : VolumeData) (c : ClaimData) → MayTake v c → ref_uid v.claim_ref ≡ None

@@ -45,6 +45,7 @@ use Rattle.settle_measure.specs.Left.Measure.{
   was_erased,
 }
 use Rattle.settle_measure.proofs.Left.Sums.{found_in, stands}
+pub use Rattle.safety_law.proofs.Mounts.Loose.{any_in}
 
 pub unless_less : (b c : Bool) (n : ℕ) → (b ≡ true → c ≡ true) → unless c n ≤ unless b n
 unless_less true true n h = omega arith
@@ -53,15 +54,6 @@ unless_less false true n h = omega arith
 unless_less false false n h = omega arith
 
 -- lists
-
-pub any_in : (p : Object → Bool) (x : Object) (xs : List Object) → IsIn x xs → p x ≡ true → list_any p xs ≡ true
-any_in p x [] i e = absurd i
-any_in p x (y ∷ ys) (inl is) e = let h : p y ≡ true = ap p is ∙ e in rw h refl
-any_in p x (y ∷ ys) (inr more) e = by (p y) (any_in p x ys more e)
-  where
-    by : (b : Bool) → list_any p ys ≡ true → (b || list_any p ys) ≡ true
-    by true e = refl
-    by false e = e
 
 pub record Found (p : Object → Bool) (xs : List Object) : Type 0 where
   pub object : Object
@@ -191,7 +183,7 @@ volume_less rows rows_after d devices_after v none erased =
 is_claim_index : (k : Key) → ℕ
 is_claim_index k = kind_index k.kind
 
-other_kind : (v : VolumeData) (namespace name : List ℕ) → key_of (Volume v) ≢ claim_key namespace name
+pub other_kind : (v : VolumeData) (namespace name : List ℕ) → key_of (Volume v) ≢ claim_key namespace name
 other_kind v namespace name e = let n : 2 ≡ 3 = ap (λ k. kind_index k.kind) e in absurd (omega (arith, n))
 
 pub volume_puts_no_claim : (v : VolumeData) (rows : List Object) → NoneSeeks rows (put_row (Volume v) rows)

@@ -103,7 +103,7 @@ record IsErasure (d : Devices) (id : DataId) (a : DeviceAnswer) : Type 0 where
   stored : is_erased a.reply ≡ true → a.devices.stored ≡ data_after_erase id d.stored
   mounts : a.devices.mounts ≡ d.mounts
 
-erasure_form : (setup : Setup) (d : Devices) (id : DataId) → IsErasure d id (unless_planned setup d (erase d id))
+pub erasure_form : (setup : Setup) (d : Devices) (id : DataId) → IsErasure d id (unless_planned setup d (erase d id))
 unfolding unless_planned erase
 erasure_form setup d id = by (is_planned (d.calls + 1) setup.faults)
   where
@@ -111,7 +111,7 @@ erasure_form setup d id = by (is_planned (d.calls + 1) setup.faults)
     by true = record { stored = λ h. absurd (true≢false (sym h)); mounts = refl }
     by false = record { stored = λ h. refl; mounts = refl }
 
-erasure_is : (setup : Setup) (d : Devices) (id : DataId) (a : DeviceAnswer) → device_answer setup d (Erase id) ≡ Some a → IsErasure d id a
+pub erasure_is : (setup : Setup) (d : Devices) (id : DataId) (a : DeviceAnswer) → device_answer setup d (Erase id) ≡ Some a → IsErasure d id a
 unfolding device_answer
 erasure_is setup d id a e = subst (IsErasure d id) (one _ a e) (erasure_form setup d id)
 

@@ -75,6 +75,8 @@ use Rattle.settle_measure.proofs.Left.Entries.{Put, Took, came}
 use Rattle.settle_measure.proofs.Left.Others.{Harmless, away_most, claim_less, volume_takes_no_claim}
 use Rattle.settle_measure.proofs.Binding.Stages.{at_key, false_not, lowered, no_carrier, not_over, phased, rewritten, same_ref, status_lowers, unbound_left, update_lowers, with_uid}
 use Rattle.settle_measure.proofs.Left.Sums.{paid_at}
+use Rattle.model_laws.proofs.FinalizerNames.{without_lacks}
+use Rattle.model_laws.proofs.FinalizerNames.{has_appended as named_last}
 
 abbrev is_guard_due : Option Due → Bool
 is_guard_due (Some dues.Guard) = true
@@ -100,14 +102,6 @@ unguard_facts true true false e = (refl, refl)
 unguard_facts true true true e = no e
 unguard_facts true false c e = no e
 unguard_facts false true c e = no e
-
-named_last : (x : List ℕ) (names : List (List ℕ)) → has_name x (names ++ x ∷ []) ≡ true
-named_last x [] = let e : bytes_eq x x ≡ true = (bytes_eq-Decides x x).1 refl in rw e refl
-named_last x (y ∷ ys) = by (bytes_eq y x) (named_last x ys)
-  where
-    by : (b : Bool) → has_name x (ys ++ x ∷ []) ≡ true → (b || has_name x (ys ++ x ∷ [])) ≡ true
-    by true e = refl
-    by false e = e
 
 pub volume_guard_pays : VolumeGuardPays
 unfolding leaves
@@ -267,14 +261,6 @@ useless_safe v new c held offered less = record {
   offered = λ open_ staying empty h. false_not _ offered h;
   done = λ completed named. less;
 }
-
-without_lacks : (x : List ℕ) (names : List (List ℕ)) → has_name x (without_name x names) ≡ false
-without_lacks x [] = refl
-without_lacks x (y ∷ ys) = by (bytes_eq y x) refl (without_lacks x ys)
-  where
-    by : (b : Bool) → bytes_eq y x ≡ b → has_name x (without_name x ys) ≡ false → has_name x (cond (not b) (y ∷ without_name x ys) (without_name x ys)) ≡ false
-    by true e rest = rest
-    by false e rest = rw e rest
 
 unguard_unbound : (a b c : Bool) → is_unguard_due (guard_due a b c) ≡ true → c ≡ false
 unguard_unbound true true false e = refl

@@ -76,6 +76,8 @@ use Rattle.settle_alike.specs.Alike.Alike.{AreAlike}
 use Rattle.settle_alike.proofs.Alike.Calls.{LastsOrAlike, calls_last_or_leave_alike, then_alike}
 use Rattle.settle_slot.specs.Slot.Slots.{ActsOn, CachedKeysWait, IsDecisionPoint, KnowsBehind, Now, OthersStayAwake, PassedSeeTheStore, SlotsLast, Then, WillLast, begun, own_entry}
 use Rattle.settle_slot.proofs.Slot.Knowing.{lost_knows, sees, told_knows, turned_knows}
+use Rattle.worker_core.proofs.ByKind.{keeps_fresh as remembers_awake}
+pub use Rattle.worker_core.proofs.ByKind.{fresh as memory_awake}
 
 -- a history without its newest entries is one
 pub older : (setup : Setup) (newer past : List Entry) → IsHistory setup (newer ++ past) → IsHistory setup past
@@ -405,7 +407,7 @@ slots_last setup lets seat start key old after h past b left built history alike
 
 -- cached keys
 
-kind_in : (xs : List Kind) (place : ℕ) (kind : Kind) → slice_get xs place ≡ Some kind → IsIn kind xs
+pub kind_in : (xs : List Kind) (place : ℕ) (kind : Kind) → slice_get xs place ≡ Some kind → IsIn kind xs
 kind_in [] place kind at = none_some at
 kind_in (x ∷ xs) zero kind at = inl (one x kind at)
 kind_in (x ∷ xs) (suc place) kind at = inr (kind_in xs place kind at)
@@ -419,23 +421,6 @@ cached_keys_wait s mine key o stands none f there =
     cached_self s.caches (kinds_of s.role.kind) key.kind key s.work (kind_in (kinds_of s.role.kind) p.place key.kind p.at) (row_any key o _ row) (stands.queue.taken ∙ ap under_keys none)
 
 -- no actor but an agent remembers that its epoch is stale
-
-remembers_awake : (kind : SeatKind) (node : List ℕ) (request : Request) (reply : Reply) (m : Memory) → kind ≢ seats.Agent → (remembers kind node request reply m).stale ≡ m.stale
-remembers_awake seats.Agent node request reply m other = absurd (other refl)
-remembers_awake seats.User node request reply m other = refl
-remembers_awake seats.Binder node request reply m other = refl
-remembers_awake seats.Ops node request reply m other = refl
-remembers_awake seats.Scheduler node request reply m other = refl
-remembers_awake seats.ClaimProtect node request reply m other = refl
-remembers_awake seats.VolumeProtect node request reply m other = refl
-
-pub memory_awake : (role : Role) (mine : List Entry) → role.kind ≢ seats.Agent → (memory_of role mine).stale ≡ false
-memory_awake role [] other = refl
-memory_awake role (e ∷ mine) other = by e.told (memory_awake role mine other)
-  where
-    by : (b : Bool) → (memory_of role mine).stale ≡ false → (if b then memory_after role e.request e.reply (memory_of role mine) else memory_of role mine).stale ≡ false
-    by true before = remembers_awake role.kind role.node e.request e.reply (memory_of role mine) other ∙ before
-    by false before = before
 
 module _ (lets : Lets) (seat : ℕ) (after : ActorState) (past : List Entry) (left : ℕ) where
   awake_by : (s : ActorState) (h : List Entry) (b : ℕ) → s.role.kind ≢ seats.Agent → Runs lets seat after past left true s h b → after.memory.stale ≡ false

@@ -26,7 +26,8 @@ use Rattle.model_laws.proofs.Lists.{IsIn, none_some, one, some_is, some_reverse,
 use Rattle.model_laws.proofs.Readings.{lists_tell_what_stands}
 use Rattle.model_laws.proofs.Uids.{rises}
 use Rattle.settle_slot.specs.Told.Exact.{AllowedIsExact, WatchesFrom, WatchesOn, reached_by}
-use Rattle.settle_slot.proofs.Told.Exact.{filter_passes, kind_is, last_in, reached_is_exact}
+use Rattle.settle_slot.proofs.Told.Exact.{filter_passes, kind_is, reached_is_exact}
+use Rattle.model_laws.proofs.ToldEvents.{last_in}
 
 -- a watch reaches its start at least
 

@@ -42,6 +42,10 @@ use Rattle.settle_slot.specs.Told.Knowing.{HasReached}
 use Rattle.settle_slot.specs.Told.Exact.{ReachedIsExact, WatchesOn, reached_by}
 use Rattle.settle_slot.specs.Told.Telling.{IsTrue, IsTrueIfAny, changed_at}
 use Rattle.settle_slot.proofs.Told.Telling.{Changed, KeyStep, LeftAlone, are_same, is_same, newest_is_true, not_same, step_of}
+use Rattle.model_laws.proofs.ToldEvents.{reached_below as upto_below}
+use Rattle.model_laws.proofs.ToldEvents.{last_below}
+use Rattle.model_laws.proofs.ToldEvents.{version_below as below}
+use Rattle.model_laws.proofs.ToldEvents.{last_in}
 
 -- a row is no older than the last change of its key
 
@@ -102,7 +106,7 @@ changed_below setup past key = by (nat_lt 0 (changed_at key (world setup past).l
 
 -- membership
 
-in_filter : (p : Event → Bool) (y : Event) (xs : List Event) → IsIn y xs → p y ≡ true → IsIn y (filter p xs)
+pub in_filter : (p : Event → Bool) (y : Event) (xs : List Event) → IsIn y xs → p y ≡ true → IsIn y (filter p xs)
 in_filter p y [] h e = absurd h
 in_filter p y (x ∷ xs) (inl is) e = let passes : p x ≡ true = ap p is ∙ e in rw passes (inl is)
 in_filter p y (x ∷ xs) (inr more) e = by (p x) (in_filter p y xs more e)
@@ -120,7 +124,7 @@ in_right : (y : Event) (xs ys : List Event) → IsIn y ys → IsIn y (xs ++ ys)
 in_right y [] ys h = h
 in_right y (x ∷ xs) ys h = inr (in_right y xs ys h)
 
-in_reverse : (y : Event) (xs : List Event) → IsIn y xs → IsIn y (reverse xs)
+pub in_reverse : (y : Event) (xs : List Event) → IsIn y xs → IsIn y (reverse xs)
 in_reverse y [] h = absurd h
 in_reverse y (x ∷ xs) (inl is) = subst (IsIn y) (sym (reverse_onto xs x [])) (in_right y (reverse xs) (x ∷ []) (inl is))
 in_reverse y (x ∷ xs) (inr more) = subst (IsIn y) (sym (reverse_onto xs x [])) (in_left y (reverse xs) (x ∷ []) (in_reverse y xs more))
@@ -161,28 +165,6 @@ reached_second n (Some a) (Some b) h = by (nat_lt a.version b.version) refl
     by false e = record { telling = a; is = refl; up = grind (arith, nat_tests, low, e) }
 
 -- a watch reaches no further than the store
-
-pub last_in : (none : ℕ) (es : List Event) → (last_version none es ≡ none) ⊎ SomeOf (λ e. e.version ≡ last_version none es) es
-last_in none [] = inl refl
-last_in none (e ∷ es) = elim (last_in e.version es) [ inl own ↦ inr (inl (sym own)) | inr more ↦ inr (inr more) ]
-
-below : (high last : ℕ) (es : List Event) → AreBetween 0 high es → SomeOf (λ e. e.version ≡ last) es → last ≤ high
-below high last [] b s = absurd s
-below high last (e ∷ es) b (inl is) = let h = b.1 in omega (arith, h, is)
-below high last (e ∷ es) b (inr more) = below high last es b.2 more
-
-last_below : (k : Kind) (from high : ℕ) (log : List Event) → AreBetween 0 high log → last_version high (take most_events (events_after k from log)) ≤ high
-last_below k from high log b = elim (last_in high (take most_events (events_after k from log))) [
-  | inl is ↦ omega (arith, is)
-  | inr more ↦ below high _ log b (some_filter _ (is_later k from) log (some_reverse _ (filter (is_later k from) log) (some_take _ most_events (events_after k from log) more)))
-]
-
-upto_below : (k : Kind) (from high : ℕ) (log : List Event) → AreBetween 0 high log → (told_events k from high log).upto ≤ high
-upto_below k from high log b = by (length (take most_events (events_after k from log)) == most_events) refl
-  where
-    by : (full : Bool) → (length (take most_events (events_after k from log)) == most_events) ≡ full → (told_events k from high log).upto ≤ high
-    by true is = rw is (last_below k from high log b)
-    by false is = rw is (omega arith)
 
 abbrev ReachesUpTo : ℕ → Reply → Type 0
 ReachesUpTo n (replies.Events events) = events.upto ≤ n

@@ -128,28 +128,19 @@ use Rattle.settle_writes.specs.Writes.Lasting.{IsChanged, Lasts, LastsBetween, c
 use Rattle.settle_writes.specs.Writes.Valid.{IsValid}
 use Rattle.settle_writes.specs.Writes.Writes.{IsStored, write_phase}
 use Rattle.settle_writes.proofs.Writes.Claims.{claim_guard_lasts, class_lasts, lost_lasts, status_is_lasting}
-use Rattle.settle_writes.proofs.Writes.Fitting.{dropped}
 use Rattle.settle_writes.proofs.Writes.Pods.{node_named}
 use Rattle.settle_writes.proofs.Writes.Valid.{rows_are_valid}
 use Rattle.settle_writes.proofs.Writes.Volumes.{phase_lasts, reference_lasts, unbind_lasts, volume_guard_lasts, volume_unguard_lasts}
 use Rattle.settle_writes.specs.Done.Apart.{OtherWritesLast, is_apart}
 use Rattle.settle_writes.proofs.Done.Saying.{IsNewClaimGuard, IsNewMachine, IsNewTask, IsNewVolumeGuard, under_new}
+use Rattle.model_laws.proofs.FinalizerNames.{without_lacks as dropped}
+use Rattle.safety_law.proofs.Invariant.StandsAt.{is_volume}
+use Rattle.safety_law.proofs.Invariant.StandsAt.{is_claim}
+use Rattle.safety_law.proofs.Invariant.StandsAt.{same_version}
+pub use Rattle.safety_law.proofs.Invariant.StandsAt.{stands_it}
+pub use Rattle.safety_law.proofs.Invariant.Known.{told_one}
 
 -- ---- what was told, and stands at the version of the write
-
-is_volume : (v : VolumeData) (o : Object) → IsVolumeWith (λ u. u ≡ v) o → o ≡ Volume v
-is_volume v (Volume u) h = ap (λ x. Volume x) h
-is_volume v (Class x) h = absurd h
-is_volume v (Node x) h = absurd h
-is_volume v (Claim x) h = absurd h
-is_volume v (Pod x) h = absurd h
-
-is_claim : (c : ClaimData) (o : Object) → IsClaimWith (λ d. d ≡ c) o → o ≡ Claim c
-is_claim c (Claim d) h = ap (λ x. Claim x) h
-is_claim c (Class x) h = absurd h
-is_claim c (Node x) h = absurd h
-is_claim c (Volume x) h = absurd h
-is_claim c (Pod x) h = absurd h
 
 -- an object that was told, of which P holds
 
@@ -159,23 +150,6 @@ some_in P (o ∷ os) h = elim h [
   | inl is ↦ (o, inl refl, is)
   | inr more ↦ let r = some_in P os more in (r.0, inr r.1, r.2)
 ]
-
-pub told_one : (P : Object → Type 0) (mine : List Entry) → ToldObject P mine → (o : Object) × ToldObject (λ x. x ≡ o) mine × P o
-told_one P [] h = absurd h
-told_one P (e ∷ mine) h = elim h [
-  | inl now ↦ let r = some_in P (objects_in e.reply) now.1 in (r.0, inl (now.0, r.1), r.2)
-  | inr more ↦ let r = told_one P mine more in (r.0, inr r.1, r.2)
-]
-
-same_version : (told now : ℕ) → is_other_version (Some told) now ≡ false → now ≡ told
-same_version told now v = let t : (told == now) ≡ true = not-false (told == now) v in grind (arith, nat_tests)
-
--- what stands at the version of an object that stood is that object
-pub stands_it : (setup : Setup) (h : List Entry) (x old : Object) (key : Key) → Stood setup h x → key_of x ≡ key
-    → row_at key (world setup h).store.rows ≡ Some old → is_other_version (Some (meta_of x).version) (meta_of old).version ≡ false → old ≡ x
-stands_it setup h x old key was keyed there version =
-    one_version_one_object setup h old x (row_was setup h key old there) was (same_version (meta_of x).version (meta_of old).version version)
-    (inl (row_at_key key old (world setup h).store.rows there ∙ sym keyed))
 
 -- what stood passes the tests of a create
 stood_valid : (setup : Setup) → ImportsPass setup.imports → (past : List Entry) (o : Object) → Stood setup past o → IsValid o

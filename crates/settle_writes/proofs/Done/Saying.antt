@@ -234,7 +234,7 @@ task_in first = None
 same_task : (a b : Task) → firsts.Begins a ≡ firsts.Begins b → IsNewTask b → IsNewTask a
 same_task a b e n = subst IsNewTask (sym (one a b (ap task_in e))) n
 
-no_task : {X : Type 0} (a : Task) → firsts.Begins a ≡ firsts.Drops → X
+pub no_task : {X : Type 0} (a : Task) → firsts.Begins a ≡ firsts.Drops → X
 no_task a e = none_some (sym (ap task_in e))
 
 claim_guard_new : (rows : List Object) (row : Option Object) (t : Task) → firsts.Begins t ≡ claim_guard_first (claim_guard_begins rows row) → IsNewTask t

@@ -49,10 +49,13 @@ use Rattle.binder_model.specs.World.{World}
 use Rattle.field_rules.proofs.Equalities.{same_amount-Decides, same_modes-Decides}
 use Rattle.settle_writes.specs.Writes.Lasting.{Lasts, content_of}
 use Rattle.settle_writes.specs.Writes.Writes.{ClaimGuardLasts, ClaimUnguardLasts, ClassLasts, ClearLasts, CompletionLasts, IsStored, LostLasts, NodeLasts, StatusLasts, update_claim}
-use Rattle.settle_writes.proofs.Writes.Fitting.{adds_none, claim_facts, claim_fits, class_kept, dropped, drops_add_none, drops_once}
+use Rattle.settle_writes.proofs.Writes.Fitting.{adds_none, claim_facts, claim_fits, class_kept, drops_add_none, drops_once}
 use Rattle.settle_writes.proofs.Writes.Making.{status_lasts, update_lasts}
 use Rattle.settle_writes.proofs.Writes.Valid.{twice_last}
-use Rattle.settle_writes.proofs.Writes.Volumes.{guard_lacks, last_there, unguard_has}
+use Rattle.settle_writes.proofs.Writes.Volumes.{guard_lacks, unguard_has}
+use Rattle.model_laws.proofs.FinalizerNames.{without_lacks as dropped}
+use Rattle.model_laws.proofs.FinalizerNames.{has_appended as last_there}
+use Rattle.plain_data.proofs.PairValues.{value_put}
 
 abbrev claim_in : ClaimData → Object → ClaimData
 claim_in c (Claim x) = x
@@ -157,9 +160,6 @@ class_lasts setup w kind c class controller s lacks open_ =
 
 abbrev node_in : ClaimData → Object → Option (List ℕ)
 node_in c o = value_at selected_node (claim_in c o).meta.annotations
-
-value_put : (k v : List ℕ) (ps : List Pair) → value_at k (put_pair k v ps) ≡ Some v
-value_put k v ps = ap (option_map (λ (p : Pair). p.1)) (find-put nat_list_cmp_total pair_key (k, v) ps)
 
 pub node_lasts : NodeLasts
 unfolding updated_object with_meta with_status_of

@@ -31,6 +31,7 @@ use Rattle.binder_model.specs.Fields.{
 use Rattle.binder_model.specs.Same.{same_amount, same_modes, same_option, same_selector, same_source, same_terms}
 use Rattle.field_rules.proofs.Equalities.{same_amount-Decides, same_modes-Decides, same_option-Decides, same_selector-Decides, same_source-Decides, same_terms-Decides}
 use Rattle.settle_writes.specs.Writes.Valid.{IsValid}
+use Rattle.model_laws.proofs.FinalizerNames.{without_lacks as dropped}
 
 -- the tests of a fault, one by one
 
@@ -150,14 +151,6 @@ drops_once name (x ∷ xs) e = let p = or_parts (has_name x xs) (has_twice xs) e
     by : (b : Bool) → has_name x xs ≡ false → has_twice (without_name name xs) ≡ false → has_twice (cond b (x ∷ without_name name xs) (without_name name xs)) ≡ false
     by true new rest = rw (left_unnamed x name xs new, rest) refl
     by false new rest = rest
-
-pub dropped : (name : List ℕ) (xs : List (List ℕ)) → has_name name (without_name name xs) ≡ false
-dropped name [] = refl
-dropped name (x ∷ xs) = by (bytes_eq x name) refl (dropped name xs)
-  where
-    by : (b : Bool) → bytes_eq x name ≡ b → has_name name (without_name name xs) ≡ false → has_name name (cond (not b) (x ∷ without_name name xs) (without_name name xs)) ≡ false
-    by true e rest = rest
-    by false e rest = rw (e, rest) refl
 
 -- updates that fit
 

@@ -69,7 +69,7 @@ pub named_last : (x f : List ℕ) (fs : List (List ℕ)) → has_name x (fs ++ f
 named_last x f [] = or_false (bytes_eq f x)
 named_last x f (y ∷ fs) = ap (λ b. bytes_eq y x || b) (named_last x f fs) ∙ sym (or_assoc (bytes_eq y x) (has_name x fs) (bytes_eq f x))
 
-flipped : (a b : List ℕ) → bytes_eq a b ≡ false → bytes_eq b a ≡ false
+pub flipped : (a b : List ℕ) → bytes_eq a b ≡ false → bytes_eq b a ≡ false
 flipped a b differs = by (bytes_eq b a) refl
   where
     by : (t : Bool) → bytes_eq b a ≡ t → bytes_eq b a ≡ false

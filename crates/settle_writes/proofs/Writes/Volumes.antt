@@ -31,9 +31,12 @@ use Rattle.binder_model.specs.Store.{at_version, leaves_at_once, marked_object, 
 use Rattle.binder_model.specs.World.{World, effect, on_devices, reply_to}
 use Rattle.settle_writes.specs.Writes.Lasting.{Lasts, content_of}
 use Rattle.settle_writes.specs.Writes.Writes.{DeleteLasts, IsStored, PhaseLasts, ReferenceLasts, UnbindLasts, VolumeGuardLasts, VolumeUnguardLasts, update_volume, write_phase}
-use Rattle.settle_writes.proofs.Writes.Fitting.{adds_none, dropped, drops_add_none, drops_once, no_namespace, refers_well, volume_facts, volume_fits}
+use Rattle.settle_writes.proofs.Writes.Fitting.{adds_none, drops_add_none, drops_once, no_namespace, refers_well, volume_facts, volume_fits}
 use Rattle.settle_writes.proofs.Writes.Making.{status_lasts, update_lasts, written_lasts}
 use Rattle.settle_writes.proofs.Writes.Valid.{named_last, twice_last}
+use Rattle.model_laws.proofs.References.{refers_to as taken_carries}
+use Rattle.model_laws.proofs.FinalizerNames.{without_lacks as dropped}
+use Rattle.model_laws.proofs.FinalizerNames.{has_appended as last_there}
 
 abbrev volume_in : VolumeData → Object → VolumeData
 volume_in v (Volume x) = x
@@ -96,10 +99,6 @@ or_true : (b : Bool) → (b || true) ≡ true
 or_true true = refl
 or_true false = refl
 
--- a finalizer behind the others is there
-pub last_there : (name : List ℕ) (names : List (List ℕ)) → has_name name (names ++ name ∷ []) ≡ true
-last_there name names = named_last name name names ∙ ap (λ b. has_name name names || b) ((bytes_eq-Decides name name).1 refl) ∙ or_true (has_name name names)
-
 pub volume_guard_lasts : VolumeGuardLasts
 unfolding updated_object with_meta with_status_of
 volume_guard_lasts setup w kind v controller s due =
@@ -160,12 +159,6 @@ carries_in c o = false
 
 uid_itself : (u : Uid) → is_uid (Some u) u ≡ true
 uid_itself u = grind (arith, nat_tests)
-
-taken_carries : (c : ClaimData) (uid : Uid) → c.meta.uid ≡ Some uid → refers_carrying (Some (ref_to c)) c ≡ true
-taken_carries c uid has =
-    let a : bytes_eq c.meta.namespace c.meta.namespace ≡ true = (bytes_eq-Decides c.meta.namespace c.meta.namespace).1 refl in
-    let b : bytes_eq c.meta.name c.meta.name ≡ true = (bytes_eq-Decides c.meta.name c.meta.name).1 refl in
-    rw (a, b, has, uid_itself uid) refl
 
 pub reference_lasts : ReferenceLasts
 unfolding taken_for updated_object with_meta with_status_of
