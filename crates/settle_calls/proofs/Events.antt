@@ -2,5 +2,4 @@ pub mod Calls
 pub mod Events
 pub mod Points
 pub mod Rows
-pub mod Sizes
 pub mod Sums

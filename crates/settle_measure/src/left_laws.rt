@@ -1,16 +1,11 @@
 //! What a world has still to do, as a number.
 //!
-//! Each object has so much left to do: a volume its way to Bound, its deletion and its guard; a claim its class, a
-//! volume that offers itself or is provisioned, its completion and status; a pod its node, its mount and its end
-//! (`specs/Measure`). Promises: the sum is bounded by how many objects there are (`left_is_bounded`,
-//! `counts_are_bounded`), and the measure by the sizes of the world (`measure_is_bounded`). It falls in each round
-//! that lowers what is left, and in each that tries a node less (`rounds_fall`), so as often as its first value at
-//! most (`falls_are_short`). A planned fault that came lowers it, and no call raises it by faults
-//! (`back_fault_pays`, `calls_stay`). From a node that was refused on, one node less is tried
-//! (`refused_node_is_tried`, `tries_are_few`). Four examples are computed, with writes that must not lower it. Not
-//! said: which writes lower what is left, which is for `settle_measure` and `settle_measure` to say.
+//! Promises: the sum is bounded by how many claims, volumes and pods there are (`left_is_bounded`). A planned fault that came
+//! lowers what is ahead, and no call raises it by faults (`back_fault_pays`, `calls_stay`). No more nodes are tried than there
+//! are, and from a node that was refused on one node less is tried (`tries_are_few`, `refused_node_is_tried`). Four examples
+//! are computed, with writes that must not lower the number. Not said: which writes lower it; that is for the other laws here.
 
-ghost use Rattle.settle_measure.specs.Left.Bounds.{BackFaultPays, CallsStay, CountsAreBounded, FallsAreShort, LeftIsBounded, MeasureIsBounded, RoundsFall};
+ghost use Rattle.settle_measure.specs.Left.Bounds.{BackFaultPays, CallsStay, LeftIsBounded};
 ghost use Rattle.settle_measure.specs.Left.Small.{CountsOffers, FallsAsItBinds, FallsAsItLeaves, RisesWhereItMust};
 ghost use Rattle.settle_measure.specs.Left.Tries.{RefusedNodeIsTried, TriesAreFew};
 
@@ -18,30 +13,6 @@ ghost use Rattle.settle_measure.specs.Left.Tries.{RefusedNodeIsTried, TriesAreFe
 #[tactic(auto, using(crate::proofs::Left::Bounds::left_is_bounded))]
 pub fn left_is_bounded()
     ensures { LeftIsBounded }
-{}
-
-/// Claims, volumes and pods are no more than the objects.
-#[tactic(auto, using(crate::proofs::Left::Bounds::counts_are_bounded))]
-pub fn counts_are_bounded()
-    ensures { CountsAreBounded }
-{}
-
-/// The measure, from the sizes of the world.
-#[tactic(auto, using(crate::proofs::Left::Bounds::measure_is_bounded))]
-pub fn measure_is_bounded()
-    ensures { MeasureIsBounded }
-{}
-
-/// The measure falls in a round that lowers what is left, and in a quiet one that tries a node less.
-#[tactic(auto, using(crate::proofs::Left::Bounds::rounds_fall))]
-pub fn rounds_fall()
-    ensures { RoundsFall }
-{}
-
-/// A falling number falls as often as its first value at most.
-#[tactic(auto, using(crate::proofs::Left::Bounds::falls_are_short))]
-pub fn falls_are_short()
-    ensures { FallsAreShort }
 {}
 
 /// A planned fault that came is not ahead any more.

@@ -15,7 +15,6 @@ use Rattle.kube_objects.specs.declared.objects.Pod.{Pod as PodData}
 use Rattle.kube_objects.specs.declared.objects.Object.{Object}
 use Rattle.kube_objects.specs.declared.objects.Object.TheVariants.{Class, Node, Volume, Claim, Pod}
 use Rattle.call_types.specs.declared.setup.Setup.{Setup}
-use Rattle.binder_model.specs.Choice.{Serves}
 use Rattle.binder_model.specs.Due.{CanPrepare, provision_due}
 use Rattle.binder_model.specs.World.{World}
 use Rattle.settle_measure.specs.Left.Tries.{TriesLeft}
@@ -23,11 +22,11 @@ use Rattle.settle_writes.specs.Writes.Lasting.{content_of}
 use Rattle.settle_alike.specs.Alike.Alike.{contents_of}
 use Rattle.settle_alike.proofs.Alike.Rows.{plain_claim, plain_node, plain_pod, plain_volume}
 use Rattle.settle_alike.proofs.Alike.Pods.{plain_step}
-use Rattle.settle_alike.specs.Near.Near.{AlikeAreNear, AreNear, NearAssigns, NearImmediates, NearPrepares, NearProvisions, NearSearches, NearServe, NearTries, rest_of, rests_of}
+use Rattle.settle_alike.specs.Near.Near.{AlikeAreNear, AreNear, NearAssigns, NearImmediates, NearPrepares, NearProvisions, NearSearches, NearTries, rest_of, rests_of}
 use Rattle.settle_alike.proofs.Near.Annotations.{rest_claim}
 use Rattle.settle_alike.proofs.Near.Provisioning.{immediate_rest, late_rest, provision_rest}
 use Rattle.settle_alike.proofs.Near.Rows.{rest_world, row_rest}
-use Rattle.settle_alike.proofs.Near.Serving.{prepare_from, prepare_to, serves_from, serves_to, volume_back}
+use Rattle.settle_alike.proofs.Near.Serving.{prepare_from, prepare_to, volume_back}
 use Rattle.settle_alike.proofs.Near.Trying.{left_from, left_to}
 use Rattle.settle_alike.proofs.Near.Steps.{assigning_plain, assigns_any, is_assigning, is_searching, searches_is, searches_so, searching_plain, step_rest, step_with}
 use Rattle.binder_model.specs.Due.{IsDue, IsPodDue, IsStepDue}
@@ -86,12 +85,6 @@ one_claim c d same = ap (claim_or c) same
 
 pub one_rest_claim : (c d : ClaimData) → rest_of (Claim c) ≡ rest_of (Claim d) → rest_claim c ≡ rest_claim d
 one_rest_claim c d same = ap (claim_or c) same
-
-pub near_serve : NearServe
-near_serve old new p q n m shares near pod node s =
-    let at = one_pod p q pod in
-    let on = one_node n m node in
-    serves_from new q m shares (subst (λ (x : World × (PodData × NodeData)). Serves x.0.store.rows x.1.0 x.1.1 shares) (λ i. (one_rest old new near i, (at i, on i))) (serves_to old p n shares s))
 
 pub near_prepares : NearPrepares
 near_prepares setup old new p q near pod k =

@@ -7,14 +7,13 @@ use Rattle.plain_data.specs.Pairs.{Pair, pair_key, text_cmp}
 use Rattle.kube_parts.specs.declared.names.Due.TheVariants as dues
 use Rattle.kube_objects.specs.declared.objects.Claim.{Claim as ClaimData}
 use Rattle.kube_objects.specs.declared.objects.Meta.{Meta}
-use Rattle.kube_objects.specs.declared.objects.Node.{Node as NodeData}
 use Rattle.kube_objects.specs.declared.objects.Object.{Object}
-use Rattle.kube_objects.specs.declared.objects.Object.TheVariants.{Claim, Node, Pod}
+use Rattle.kube_objects.specs.declared.objects.Object.TheVariants.{Claim, Pod}
 use Rattle.kube_objects.specs.declared.objects.Pod.{Pod as PodData}
 use Rattle.kube_objects.specs.Bindings.{class_of_claim, is_scheduled, selected_node}
 use Rattle.kube_objects.specs.Keys.{row_at}
 use Rattle.call_types.specs.declared.setup.Setup.{Setup}
-use Rattle.binder_model.specs.Choice.{Serves, Share, claims_of, is_under_way}
+use Rattle.binder_model.specs.Choice.{claims_of, is_under_way}
 use Rattle.binder_model.specs.Due.{CanPrepare, IsDue, provision_due}
 use Rattle.binder_model.specs.Matching.{is_delayed}
 use Rattle.binder_model.specs.ObjectKeys.{class_key}
@@ -50,12 +49,6 @@ pub record AreNear (old new : World) : Type 0 where
 -- worlds that are alike are near
 abbrev pub AlikeAreNear : Type 0
 AlikeAreNear = (old new : World) → AreAlike old new → AreNear old new
-
--- a node that serves a pod serves it in a world that is near, with the same shares
-abbrev pub NearServe : Type 0
-NearServe =
-    (old new : World) (p q : PodData) (n m : NodeData) (shares : List Share) → AreNear old new → content_of (Pod p) ≡ content_of (Pod q) → content_of (Node n) ≡ content_of (Node m)
-    → Serves old.store.rows p n shares → Serves new.store.rows q m shares
 
 -- a pod that can be prepared can be prepared there
 abbrev pub NearPrepares : Type 0

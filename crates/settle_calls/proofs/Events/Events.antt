@@ -17,7 +17,7 @@ use Rattle.model_laws.proofs.Watched.{AreBetween, logs}
 use Rattle.settle_calls.specs.Events.Telling.{WatchesTellLess}
 use Rattle.settle_calls.specs.Events.Counts.{pending}
 use Rattle.settle_calls.specs.Events.Telling.{IsToldSo, told}
-use Rattle.model_laws.proofs.Lists.{IsIn, some_left, some_right}
+use Rattle.model_laws.proofs.Lists.{IsIn}
 use Rattle.settle_slot.proofs.Told.Exact.{in_filter}
 use Rattle.settle_slot.proofs.Told.Exact.{in_reverse}
 

@@ -48,7 +48,6 @@ use Rattle.worker_core.specs.declared.task.Task.TheVariants as tasks
 use Rattle.worker_core.specs.Memories.{Memory}
 use Rattle.worker_core.specs.Tasks.{IsAgentFirst, IsFirstOf, agent_first, claim_guard_first, ops_first, volume_guard_first}
 use Rattle.worker_core.proofs.Machines.{queued_kinds}
-use Rattle.settle_calls.specs.Tasks.Ends.{DecisionsAreLight}
 use Rattle.settle_calls.specs.Tasks.Costs.{calls_for}
 use Rattle.settle_calls.specs.Tasks.Tasks.{agent_left, claim_guard_left, erase_left, machine_left, mount_left, provision_left, schedule_left, volume_guard_left}
 use Rattle.settle_calls.specs.Tasks.Ends.{BeginsOnRow}
@@ -279,6 +278,3 @@ queued_on role m rows key other first = by role.kind first (queued_kinds role m 
     by seats.VolumeProtect f k = absurd (guard_volumes (volume_guard_begins (row_at key rows)) f)
     by seats.Agent f k = absurd (agents m.epoch m.mounts f)
     by seats.User f k = absurd f
-
-pub decisions_are_light : DecisionsAreLight
-decisions_are_light role memory rows u gives = begun_on role.kind role.node memory rows u.key u.task gives.decided

@@ -35,7 +35,6 @@ use Rattle.node_agent.specs.Agents.{agent_call_at}
 use Rattle.worker_core.specs.declared.role.Role.{Role}
 use Rattle.worker_core.specs.Memories.{Memory, agent_remembers, is_stale_told, memory_after, mounts_after, mounts_told, scheduler_remembers}
 use Rattle.worker_core.specs.States.{agent_start, start_call, start_of}
-use Rattle.settle_calls.specs.Tasks.Ends.{StartsEnd}
 use Rattle.settle_calls.specs.Tasks.Ends.{start_left, starts_left}
 
 abbrev pub is_take : Request → Bool
@@ -275,6 +274,3 @@ module _ (setup : Setup) (w : World) where
   agent_done op agent_steps.Finishes request e = subst (λ r. is_done (reply_to (effect setup w seats.Agent r)) ≡ false) (one _ request e) (finish_done _ _ _ _)
   agent_done op agent_steps.Done request e = none_some e
   agent_done op agent_steps.Parked request e = none_some e
-
-pub starts_end : StartsEnd
-starts_end setup w role m request fresh call = (start_falls setup w role m request (reply_to (effect setup w role.kind request)) fresh call refl).less

@@ -1,20 +1,13 @@
--- What a watch tells is so much less to be told; and a write adds little to what all objects may cost.
+-- What a watch tells is so much less to be told.
 -- A choice of this project, after the watch cache of Kubernetes.
-use Rattle.std.specs.Prelude.{Bool, List, false, length, take, true, ℕ, ◌*◌, ◌+◌, ◌==◌, ◌≡◌, ◌≤◌}
-use Rattle.binder_model.specs.Licence.{Licensed}
+use Rattle.std.specs.Prelude.{Bool, List, false, length, take, true, ℕ, ◌+◌, ◌==◌, ◌≡◌, ◌≤◌}
 use Rattle.binder_model.specs.Watching.{events_after, most_events, told_events}
-use Rattle.binder_model.specs.World.{World, effect, world, world_after}
+use Rattle.binder_model.specs.World.{world}
 use Rattle.call_types.specs.declared.entry.Entry.{Entry}
 use Rattle.call_types.specs.declared.reply.Event.{Event}
-use Rattle.call_types.specs.declared.request.Request.{Request}
-use Rattle.call_types.specs.declared.request.SeatKind.{SeatKind}
-use Rattle.call_types.specs.declared.request.SeatKind.TheVariants as seats
 use Rattle.call_types.specs.declared.setup.Setup.{Setup}
-use Rattle.settle_calls.specs.Tasks.Costs.{calls_for}
 use Rattle.settle_calls.specs.Events.Counts.{pending}
 use Rattle.kube_parts.specs.declared.parts.Kind.{Kind}
-use Rattle.settle_measure.specs.Left.Measure.{total}
-use Rattle.worker_core.specs.Roles.{IsBuiltKind}
 
 -- what a watch from the version tells
 abbrev pub told : Kind → ℕ → List Event → List Event
@@ -26,18 +19,8 @@ pub record IsToldSo (kind : Kind) (from high : ℕ) (log : List Event) (full : B
   pub reached : full ≡ true → from + most_events ≤ (told_events kind from high log).upto
   pub whole : full ≡ false → (told_events kind from high log).upto ≡ high
 
--- what all objects may cost an agent, after one call: three more for a write, else the same
-pub record Grows (old new : World) : Type 0 where
-  pub costs : total (calls_for seats.Agent) new.store.rows + 3 * old.store.version ≤ total (calls_for seats.Agent) old.store.rows + 3 * new.store.version
-
 -- a watch that was answered, its answer full or not
 abbrev pub WatchesTellLess : Type 0
 WatchesTellLess =
     (setup : Setup) (past : List Entry) (kind : Kind) (from : ℕ) (full : Bool) → from ≤ (world setup past).store.version → (length (told kind from (world setup past).log) == most_events) ≡ full
     → IsToldSo kind from (world setup past).store.version (world setup past).log full
-
--- a call that a controller may make
-abbrev pub CallsAddLittle : Type 0
-CallsAddLittle =
-    (setup : Setup) (h : List Entry) (kind : SeatKind) (mine : List Entry) (request : Request) → IsBuiltKind kind → Licensed kind mine request
-    → Grows (world setup h) (world_after (world setup h) (effect setup (world setup h) kind request))

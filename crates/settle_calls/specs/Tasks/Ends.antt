@@ -1,21 +1,19 @@
--- Each call of a task is a write that is done, or leaves it fewer calls to make; so is each call of an agent's start.
+-- Each call of a task is a write that is done, or leaves it fewer calls to make. What is left of the calls of an agent's start.
 -- A choice of this project.
-use Rattle.std.specs.Prelude.{List, None, Option, Some, false, if◌then◌else◌, true, ℕ, ◌+◌, ◌≡◌, ◌≤◌}
+use Rattle.std.specs.Prelude.{None, Option, Some, if◌then◌else◌, true, ℕ, ◌+◌, ◌≡◌, ◌≤◌}
 use Rattle.binder_model.specs.Reading.{follows}
-use Rattle.binder_model.specs.World.{World, effect, reply_to}
 use Rattle.call_types.specs.declared.reply.Reply.{Reply}
 use Rattle.call_types.specs.declared.reply.Reply.TheVariants as replies
 use Rattle.call_types.specs.declared.request.Request.{Request}
 use Rattle.call_types.specs.declared.request.Request.TheVariants as requests
 use Rattle.call_types.specs.declared.request.SeatKind.{SeatKind}
-use Rattle.call_types.specs.declared.setup.Setup.{Setup}
 use Rattle.settle_calls.specs.Tasks.Costs.{calls_for}
 use Rattle.settle_calls.specs.Tasks.Tasks.{task_left, under_left}
-use Rattle.kube_objects.specs.Keys.{kind_of, row_at}
+use Rattle.kube_objects.specs.Keys.{kind_of}
 use Rattle.kube_objects.specs.declared.objects.Object.{Object}
-use Rattle.worker_core.specs.Memories.{Memory, memory_after}
+use Rattle.worker_core.specs.Memories.{Memory}
 use Rattle.worker_core.specs.States.{start_call}
-use Rattle.worker_core.specs.Tasks.{GivesCall, task_call, under_after}
+use Rattle.worker_core.specs.Tasks.{task_call, under_after}
 use Rattle.worker_core.specs.declared.role.Role.{Role}
 use Rattle.worker_core.specs.declared.task.Task.{Task}
 use Rattle.worker_core.specs.declared.task.Under.{Under}
@@ -46,13 +44,3 @@ pub record BeginsOnRow (kind : SeatKind) (row : Option Object) (task : Task) : T
 -- each answer leaves a task fewer calls, but for a write that was done
 abbrev pub TasksEnd : Type 0
 TasksEnd = (u : Under) (reply : Reply) → task_call u.task ≡ Some u.call → under_left (under_after u reply) + 1 ≤ task_left u.task + done_by u.call reply
-
--- a decision begins no more than the object that stands there may cost
-abbrev pub DecisionsAreLight : Type 0
-DecisionsAreLight = (role : Role) (memory : Memory) (rows : List Object) (u : Under) → GivesCall role memory rows u → BeginsOnRow role.kind (row_at u.key rows) u.task
-
--- each call of the start is made once, or ends the agent: it was told that its epoch is stale
-abbrev pub StartsEnd : Type 0
-StartsEnd =
-    (setup : Setup) (w : World) (role : Role) (m : Memory) (request : Request) → m.stale ≡ false → start_call role m ≡ Some request
-    → start_left role (memory_after role request (reply_to (effect setup w role.kind request)) m) + 1 ≤ start_left role m

@@ -1,5 +1,5 @@
 -- What the protection controllers begin lasts: they begin only what is due.
-use Rattle.std.proofs.Common.{◌≡◌, ◌∙◌, ℕ, List, Bool, true, false, true≢false, Option, Some, None, refl, sym, ap, subst}
+use Rattle.std.proofs.Common.{◌≡◌, ◌∙◌, ℕ, List, Bool, true, false, Option, Some, None, refl, sym, ap, subst}
 use Rattle.kube_objects.specs.declared.key.Key.{Key}
 use Rattle.kube_parts.specs.declared.names.Due.{Due}
 use Rattle.kube_objects.specs.declared.objects.Claim.{Claim as ClaimData}
@@ -23,7 +23,6 @@ use Rattle.protect_sync.specs.Decisions.{claim_guard_begins, claim_guard_for, vo
 use Rattle.worker_core.specs.declared.role.Role.{Role}
 use Rattle.worker_core.specs.declared.task.First.{First}
 use Rattle.worker_core.specs.declared.task.First.TheVariants as firsts
-use Rattle.worker_core.specs.declared.task.Task.{Task}
 use Rattle.worker_core.specs.declared.task.Under.{Under}
 use Rattle.worker_core.specs.States.{ActorState}
 use Rattle.worker_core.specs.Tasks.{GivesCall, IsFirstOf, claim_guard_first, volume_guard_first}

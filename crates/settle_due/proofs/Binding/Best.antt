@@ -1,6 +1,6 @@
 -- The best volume of a claim is for the claim where any is.
-use Rattle.std.proofs.Common.{◌≡◌, ◌∙◌, ℕ, zero, suc, List, [], ◌∷◌, Bool, true, false, Some, None, inl, inr, refl, ap}
-use Rattle.std.specs.Prelude.{cond, filter, slice_get}
+use Rattle.std.proofs.Common.{◌≡◌, ℕ, zero, suc, List, [], ◌∷◌, Bool, true, false, Some, None, inl, inr, refl, ap}
+use Rattle.std.specs.Prelude.{slice_get}
 use Rattle.kube_parts.specs.declared.parts.Kind.TheVariants as kinds
 use Rattle.kube_objects.specs.declared.objects.Claim.{Claim as ClaimData}
 use Rattle.kube_objects.specs.declared.objects.Volume.{Volume as VolumeData}

@@ -9,8 +9,6 @@ use Rattle.kube_parts.specs.declared.names.Due.{Due}
 use Rattle.kube_parts.specs.declared.names.Due.TheVariants as dues
 use Rattle.kube_types.specs.declared.lookup.Live.TheVariants.{NotAsked}
 use Rattle.kube_parts.specs.declared.parts.Kind.TheVariants as kinds
-use Rattle.kube_parts.specs.declared.parts.VolumePhase.{VolumePhase}
-use Rattle.kube_parts.specs.declared.parts.VolumePhase.TheVariants as volumes
 use Rattle.kube_objects.specs.declared.objects.Class.{Class as ClassData}
 use Rattle.kube_objects.specs.declared.objects.Claim.{Claim as ClaimData}
 use Rattle.kube_objects.specs.declared.objects.Volume.{Volume as VolumeData}
@@ -73,7 +71,6 @@ use Rattle.settle_due.proofs.Binding.Matches.{AgreeForBinder, goes_over, match_s
 use Rattle.settle_due.proofs.Binding.NextWrites.{IsOpenTo, next_lasts, next_some}
 use Rattle.settle_due.proofs.Upkeep.Reclaims.{HasUid, has_uid}
 use Rattle.settle_due.proofs.Upkeep.Volumes.{begins_one, get_said, get_stays, got, machine_in}
-use Rattle.model_laws.proofs.References.{carries_for}
 use Rattle.model_laws.proofs.References.{available_lives as available_stays}
 use Rattle.binder_machines.proofs.Calling.{written_reference as carried_open}
 

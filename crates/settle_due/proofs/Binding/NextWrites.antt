@@ -1,13 +1,12 @@
 -- The next of the four writes of a binding, on a volume and a claim as they stand, lasts.
-use Rattle.std.proofs.Common.{◌≡◌, ◌≢◌, ◌∙◌, ◌⊎◌, Bool, true, false, true≢false, Option, Some, None, inl, inr, refl, sym, ap, subst, if◌then◌else◌}
-use Rattle.std.specs.Prelude.{◌&&◌, ◌||◌, is_some, not}
+use Rattle.std.proofs.Common.{◌≡◌, ◌≢◌, ◌∙◌, ◌⊎◌, Bool, true, false, true≢false, Some, None, inl, inr, refl, sym, ap, subst, if◌then◌else◌}
+use Rattle.std.specs.Prelude.{◌||◌, is_some, not}
 use Rattle.kube_parts.specs.declared.uid.Uid.{Uid}
 use Rattle.kube_parts.specs.declared.parts.VolumePhase.TheVariants as volumes
-use Rattle.kube_objects.specs.declared.objects.Ref.{Ref}
 use Rattle.kube_objects.specs.declared.objects.Claim.{Claim as ClaimData}
 use Rattle.kube_objects.specs.declared.objects.Volume.{Volume as VolumeData}
 use Rattle.kube_objects.specs.declared.objects.Object.TheVariants.{Claim, Volume}
-use Rattle.kube_objects.specs.Bindings.{carries, is_bound, is_completed, is_empty, is_ended, is_for, is_protected_volume, names_claim, refers_carrying, refers_for, uid_carries, uid_fits}
+use Rattle.kube_objects.specs.Bindings.{carries, is_bound, is_completed, is_empty, is_ended, is_protected_volume}
 use Rattle.call_types.specs.declared.request.Request.{Request}
 use Rattle.call_types.specs.declared.request.SeatKind.{SeatKind}
 use Rattle.call_types.specs.declared.setup.Setup.{Setup}
@@ -19,7 +18,6 @@ use Rattle.settle_writes.specs.Writes.Lasting.{Lasts}
 use Rattle.settle_writes.specs.Writes.Writes.{IsStored}
 use Rattle.settle_writes.proofs.Writes.Claims.{completion_lasts, status_is_lasting}
 use Rattle.settle_writes.proofs.Writes.Volumes.{phase_lasts, reference_lasts}
-use Rattle.model_laws.proofs.References.{carries_for}
 
 -- the claim is open, and names the volume or none; or it is completed with it
 abbrev pub IsOpenTo : VolumeData → ClaimData → Type 0

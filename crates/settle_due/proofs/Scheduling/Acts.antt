@@ -1,15 +1,13 @@
 -- The scheduler acts on a pod that no node runs: it is bound to its node, or its claims are prepared on one.
-use Rattle.std.proofs.Common.{◌≡◌, ◌∙◌, ℕ, List, [], ◌∷◌, Bool, true, false, true≢false, Option, Some, None, refl, sym, ap, subst, if◌then◌else◌}
-use Rattle.std.specs.Prelude.{◌&&◌, map, not}
-use Rattle.std.specs.List.{list_all}
+use Rattle.std.proofs.Common.{◌≡◌, ◌∙◌, ℕ, List, [], ◌∷◌, true, false, Option, Some, None, refl, sym, ap, subst}
+use Rattle.std.specs.Prelude.{map}
 use Rattle.kube_objects.specs.declared.key.Key.{Key}
 use Rattle.kube_parts.specs.declared.names.Due.{Due}
-use Rattle.kube_parts.specs.declared.names.Due.TheVariants as dues
 use Rattle.kube_objects.specs.declared.objects.Claim.{Claim as ClaimData}
 use Rattle.kube_objects.specs.declared.objects.Pod.{Pod as PodData}
 use Rattle.kube_objects.specs.declared.objects.Object.{Object}
 use Rattle.kube_objects.specs.declared.objects.Object.TheVariants.{Claim, Node, Pod, Volume}
-use Rattle.kube_objects.specs.Bindings.{is_deleting, is_scheduled}
+use Rattle.kube_objects.specs.Bindings.{is_scheduled}
 use Rattle.kube_objects.specs.Keys.{AreRows, key_of, row_at}
 use Rattle.call_types.specs.declared.entry.Entry.{Entry}
 use Rattle.call_types.specs.declared.request.Request.{Request}
@@ -18,11 +16,11 @@ use Rattle.call_types.specs.declared.request.SeatKind.TheVariants as seats
 use Rattle.call_types.specs.declared.setup.Setup.{Setup}
 use Rattle.binder_model.specs.Answers.{is_user}
 use Rattle.binder_model.specs.BindWrites.{write_reference}
-use Rattle.binder_model.specs.Choice.{claim_named, claims_of, others_of}
-use Rattle.binder_model.specs.Due.{IsDue, IsPodDue, agent_due, is_pod_mounted, is_ready}
+use Rattle.binder_model.specs.Choice.{claims_of, others_of}
+use Rattle.binder_model.specs.Due.{IsDue}
 use Rattle.binder_model.specs.Imports.{ImportsPass}
 use Rattle.binder_model.specs.ObjectKeys.{node_key}
-use Rattle.binder_model.specs.World.{World, world}
+use Rattle.binder_model.specs.World.{world}
 use Rattle.informer_cache.specs.All.{all_objects}
 use Rattle.model_laws.proofs.Histories.{rows_stand_in_order}
 use Rattle.model_laws.proofs.Lists.{none_some, one}
@@ -56,7 +54,7 @@ use Rattle.settle_slot.specs.Slot.Would.{AtOnce, WouldLast}
 use Rattle.settle_due.proofs.Upkeep.Deciding.{DecisionLasts, IsPodAt, acts_each, pod_alike, stored}
 use Rattle.settle_due.proofs.Upkeep.Known.{rows_known}
 use Rattle.settle_due.proofs.Upkeep.Reclaims.{has_uid}
-use Rattle.settle_due.specs.Scheduling.Acts.{AssignsAct, PodsAct, PreparesAct}
+use Rattle.settle_due.specs.Scheduling.Acts.{PodsAct}
 use Rattle.settle_due.specs.Scheduling.Writes.{AreWritesOn, Places, Takes, placing}
 use Rattle.settle_due.proofs.Scheduling.Choosing.{are_writes, assigned_of, claims_known, search_of, some_open}
 use Rattle.settle_due.proofs.Scheduling.Placing.{SomeOpen, all_from, places_last}
@@ -191,31 +189,3 @@ module _ (setup : Setup) (seat : ℕ) (role : Role) (start : List Entry) (key : 
 
 pub pods_act : PodsAct
 pods_act setup seat role start key p action pass kind there unscheduled due = acts_each setup seat role start key (at_point setup seat role start key pass kind p action there unscheduled due)
-
--- an agent has neither to bind a pod to a node nor to prepare one
-
-abbrev is_agents : Option Due → Bool
-is_agents (Some dues.Assign) = false
-is_agents (Some dues.Prepare) = false
-is_agents x = true
-
-for_agents : (w : World) (p : PodData) → is_agents (agent_due w p) ≡ true
-for_agents w p = by (is_deleting p.meta) (not (is_pod_mounted w.devices p) && list_all (λ name. is_ready w.store.rows (claim_named w.store.rows p.meta.namespace name)) p.claims)
-  where
-    by : (deleting mounts : Bool) → is_agents (if deleting then Some dues.Finish else if mounts then Some dues.Mount else None) ≡ true
-    by true mounts = refl
-    by false true = refl
-    by false false = refl
-
-pub for_scheduler : (setup : Setup) (w : World) (p : PodData) (action : Due) → is_agents (Some action) ≡ false → IsDue setup w (Pod p) (Some action) → is_scheduled p ≡ false
-for_scheduler setup w p action other due = by (is_scheduled p) refl due
-  where
-    by : (b : Bool) → is_scheduled p ≡ b → IsPodDue setup w p b (Some action) → is_scheduled p ≡ false
-    by true is d = absurd (true≢false (sym (ap is_agents d ∙ for_agents w p) ∙ other))
-    by false is d = is
-
-pub assigns_act : AssignsAct
-assigns_act setup seat role start key p pass kind there due = pods_act setup seat role start key p dues.Assign pass kind there (for_scheduler setup (world setup start) p dues.Assign refl due) due
-
-pub prepares_act : PreparesAct
-prepares_act setup seat role start key p pass kind there due = pods_act setup seat role start key p dues.Prepare pass kind there (for_scheduler setup (world setup start) p dues.Prepare refl due) due

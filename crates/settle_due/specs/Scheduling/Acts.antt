@@ -3,7 +3,6 @@
 use Rattle.std.specs.Prelude.{ℕ, ◌≡◌, false, List, Some}
 use Rattle.kube_objects.specs.declared.key.Key.{Key}
 use Rattle.kube_parts.specs.declared.names.Due.{Due}
-use Rattle.kube_parts.specs.declared.names.Due.TheVariants as dues
 use Rattle.kube_objects.specs.declared.objects.Pod.{Pod as PodData}
 use Rattle.kube_objects.specs.declared.objects.Object.TheVariants.{Pod}
 use Rattle.kube_objects.specs.Bindings.{is_scheduled}
@@ -30,15 +29,3 @@ abbrev pub PodsAct : Type 0
 PodsAct =
     (setup : Setup) (seat : ℕ) (role : Role) (start : List Entry) (key : Key) (p : PodData) (action : Due) → ImportsPass setup.imports → role.kind ≡ seats.Scheduler
     → row_at key (world setup start).store.rows ≡ Some (Pod p) → is_scheduled p ≡ false → IsDue setup (world setup start) (Pod p) (Some action) → WouldActOn setup seat role start key
-
--- one that is to be bound to a node. It is for no agent, since an agent has other actions
-abbrev pub AssignsAct : Type 0
-AssignsAct =
-    (setup : Setup) (seat : ℕ) (role : Role) (start : List Entry) (key : Key) (p : PodData) → ImportsPass setup.imports → role.kind ≡ seats.Scheduler
-    → row_at key (world setup start).store.rows ≡ Some (Pod p) → IsDue setup (world setup start) (Pod p) (Some dues.Assign) → WouldActOn setup seat role start key
-
--- one whose claims are to be prepared on a node
-abbrev pub PreparesAct : Type 0
-PreparesAct =
-    (setup : Setup) (seat : ℕ) (role : Role) (start : List Entry) (key : Key) (p : PodData) → ImportsPass setup.imports → role.kind ≡ seats.Scheduler
-    → row_at key (world setup start).store.rows ≡ Some (Pod p) → IsDue setup (world setup start) (Pod p) (Some dues.Prepare) → WouldActOn setup seat role start key

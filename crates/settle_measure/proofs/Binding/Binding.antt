@@ -3,7 +3,6 @@ use Rattle.std.proofs.Common.{◌≡◌, ◌∙◌, ◌⊎◌, List, Bool, true,
 use Rattle.std.specs.Prelude.{bytes_eq, not, ◌&&◌, ◌||◌, is_none, is_some}
 use Rattle.std.proofs.lemmas.Bool.{and_from, and_parts, or_left, false_from_ne_true, not-true}
 use Rattle.std.proofs.lemmas.Slice.Eq.{bytes_eq-Decides}
-use Rattle.kube_parts.specs.declared.uid.Uid.{Uid}
 use Rattle.kube_parts.specs.declared.names.Due.{Due}
 use Rattle.kube_parts.specs.declared.names.Due.TheVariants as dues
 use Rattle.kube_objects.specs.declared.objects.Ref.{Ref}
@@ -12,22 +11,7 @@ use Rattle.kube_objects.specs.declared.objects.Node.{Node as NodeData}
 use Rattle.kube_objects.specs.declared.objects.Volume.{Volume as VolumeData}
 use Rattle.kube_objects.specs.declared.objects.Object.{Object}
 use Rattle.kube_objects.specs.declared.objects.Object.TheVariants.{Class, Node, Volume, Claim, Pod}
-use Rattle.kube_objects.specs.Bindings.{
-  is_available,
-  is_completed,
-  is_deleting,
-  is_empty,
-  is_ended,
-  is_bound,
-  is_for,
-  is_protected_volume,
-  carries,
-  names_claim,
-  refers_carrying,
-  refers_for,
-  uid_carries,
-  uid_fits,
-}
+use Rattle.kube_objects.specs.Bindings.{is_available, is_completed, is_deleting, is_empty, is_ended, is_bound, is_for, is_protected_volume, carries, names_claim, refers_carrying, refers_for, uid_fits}
 use Rattle.kube_objects.specs.Keys.{AreRows, key_of, row_at}
 use Rattle.binder_model.specs.BinderDue.{named_due}
 use Rattle.binder_model.specs.BindWrites.{claim_write, next_write, write_bound, write_reference}

@@ -1,6 +1,6 @@
--- How large the measure is, and that a falling number falls so often at most.
-use Rattle.std.proofs.Common.{ℕ, ◌+◌, ◌*◌, ◌≤◌, List, [], ◌∷◌, Bool, true, false, Option, Some, None, inl, inr, arith, length}
-use Rattle.std.specs.Prelude.{cond, filter, nat_lt, not}
+-- How large what is left to do is.
+use Rattle.std.proofs.Common.{ℕ, ◌+◌, ◌*◌, ◌≤◌, List, [], ◌∷◌, Bool, true, false, Option, Some, None, arith}
+use Rattle.std.specs.Prelude.{cond, not}
 use Rattle.kube_parts.specs.declared.uid.Uid.{Uid}
 use Rattle.kube_parts.specs.declared.parts.VolumePhase.{VolumePhase}
 use Rattle.kube_parts.specs.declared.parts.VolumePhase.TheVariants as volumes
@@ -43,7 +43,7 @@ use Rattle.settle_measure.specs.Left.Measure.{
   volumes_in,
   was_erased,
 }
-use Rattle.settle_measure.specs.Left.Bounds.{CountsAreBounded, FallsAreShort, LeftIsBounded, MeasureIsBounded, RoundsFall}
+use Rattle.settle_measure.specs.Left.Bounds.{LeftIsBounded}
 use Rattle.settle_measure.proofs.Left.Others.{away_most}
 
 at_most : (b : Bool) (n : ℕ) → unless b n ≤ n
@@ -129,34 +129,3 @@ bounded all (Pod p ∷ os) d = let h = bounded all os d in let x = pod_most d p 
 
 pub left_is_bounded : LeftIsBounded
 left_is_bounded rows d = bounded rows rows d
-
-pub counts_are_bounded : CountsAreBounded
-counts_are_bounded [] = omega arith
-counts_are_bounded (Class x ∷ os) = let h = counts_are_bounded os in omega (arith, h)
-counts_are_bounded (Node x ∷ os) = let h = counts_are_bounded os in omega (arith, h)
-counts_are_bounded (Volume x ∷ os) = let h = counts_are_bounded os in omega (arith, h)
-counts_are_bounded (Claim x ∷ os) = let h = counts_are_bounded os in omega (arith, h)
-counts_are_bounded (Pod x ∷ os) = let h = counts_are_bounded os in omega (arith, h)
-
-pub rounds_fall : RoundsFall
-rounds_fall work tries next_work next_tries most (inl less) = omega (arith, most, less)
-rounds_fall work tries next_work next_tries most (inr both) = let a = both.0 in let b = both.1 in omega (arith, a, b)
-
-pub falls_are_short : FallsAreShort
-falls_are_short n [] h = omega arith
-falls_are_short n (m ∷ ms) h = let rest = falls_are_short m ms h.1 in let less = h.0 in omega (arith, rest, less)
-
-shorter : (p : ℕ → Bool) (xs : List ℕ) → length (filter p xs) ≤ length xs
-shorter p [] = omega arith
-shorter p (x ∷ xs) = by (p x) (shorter p xs)
-  where
-    by : (b : Bool) → length (filter p xs) ≤ length xs → length (cond b (x ∷ filter p xs) (filter p xs)) ≤ length (x ∷ xs)
-    by true h = omega (arith, h)
-    by false h = omega (arith, h)
-
-pub measure_is_bounded : MeasureIsBounded
-measure_is_bounded setup w tries most =
-    let a = left_is_bounded w.store.rows w.devices in
-    let b = counts_are_bounded w.store.rows in
-    let c = shorter (λ f. nat_lt w.devices.calls f) setup.faults in
-    omega (arith, most, a, b, c)

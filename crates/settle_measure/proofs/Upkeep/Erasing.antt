@@ -1,5 +1,5 @@
 -- Data are erased: who pays.
-use Rattle.std.proofs.Common.{◌≡◌, ◌∙◌, ℕ, ◌+◌, ◌≤◌, List, [], ◌∷◌, Bool, true, false, true≢false, Option, Some, None, inl, inr, refl, sym, ap, subst, arith, if◌then◌else◌}
+use Rattle.std.proofs.Common.{◌≡◌, ◌∙◌, ◌⊎◌, ℕ, ◌+◌, ◌≤◌, List, [], ◌∷◌, Bool, true, false, true≢false, Option, Some, None, inl, inr, refl, sym, ap, subst, arith, if◌then◌else◌}
 use Rattle.std.specs.Prelude.{bytes_eq, cond, not, ◌&&◌, ◌||◌}
 use Rattle.std.specs.List.{list_any}
 use Rattle.std.proofs.lemmas.Bool.{and_parts, or_left, or_parts, or_right}
@@ -93,23 +93,24 @@ data_kept id name other (x ∷ xs) named differs e = by (same_id x.id id) (x.the
         let same : other ≡ name = sym ((bytes_eq-Decides x.name other).0 p.1) ∙ is in
         absurd (true≢false (sym ((bytes_eq-Decides other name).1 same) ∙ differs))
 
--- an erasure that was answered
-
-abbrev is_erased : Reply → Bool
+-- the answer is that data were erased, or that there were none
+abbrev pub is_erased : Reply → Bool
 is_erased (Erased removed) = true
 is_erased reply = false
 
-record IsErasure (d : Devices) (id : DataId) (a : DeviceAnswer) : Type 0 where
-  stored : is_erased a.reply ≡ true → a.devices.stored ≡ data_after_erase id d.stored
-  mounts : a.devices.mounts ≡ d.mounts
+-- the data of the id were erased, or the call failed as planned
+pub record IsErasure (d : Devices) (id : DataId) (a : DeviceAnswer) : Type 0 where
+  pub stored : is_erased a.reply ≡ true → a.devices.stored ≡ data_after_erase id d.stored
+  pub either : (a.devices.stored ≡ d.stored) ⊎ (a.devices.stored ≡ data_after_erase id d.stored)
+  pub mounts : a.devices.mounts ≡ d.mounts
 
 pub erasure_form : (setup : Setup) (d : Devices) (id : DataId) → IsErasure d id (unless_planned setup d (erase d id))
 unfolding unless_planned erase
 erasure_form setup d id = by (is_planned (d.calls + 1) setup.faults)
   where
     by : (p : Bool) → IsErasure d id (cond p (after_call d (Refused (BackFault (d.calls + 1)))) (erase d id))
-    by true = record { stored = λ h. absurd (true≢false (sym h)); mounts = refl }
-    by false = record { stored = λ h. refl; mounts = refl }
+    by true = record { stored = λ h. absurd (true≢false (sym h)); either = inl refl; mounts = refl }
+    by false = record { stored = λ h. refl; either = inr refl; mounts = refl }
 
 pub erasure_is : (setup : Setup) (d : Devices) (id : DataId) (a : DeviceAnswer) → device_answer setup d (Erase id) ≡ Some a → IsErasure d id a
 unfolding device_answer

@@ -1,39 +1,11 @@
 -- A slot that ends idle decides each key that waits, where it sees the store as it is; so a key on which the actor acts leaves an
 -- entry that lasts.
-use Rattle.std.proofs.Common.{
-  ◌≡◌,
-  ◌∙◌,
-  ℕ,
-  zero,
-  suc,
-  ◌-◌,
-  List,
-  [],
-  ◌∷◌,
-  ◌++◌,
-  append_assoc,
-  Bool,
-  true,
-  false,
-  true≢false,
-  Option,
-  Some,
-  None,
-  inl,
-  inr,
-  refl,
-  sym,
-  ap,
-  subst,
-  arith,
-  ◌≢◌,
-  if◌then◌else◌,
-}
+use Rattle.std.proofs.Common.{◌≡◌, ◌∙◌, ℕ, zero, suc, ◌-◌, List, [], ◌∷◌, ◌++◌, append_assoc, Bool, true, false, true≢false, Option, Some, None, inl, inr, refl, sym, ap, subst, arith, ◌≢◌}
 use Rattle.std.specs.Prelude.{slice_get, ⊤}
 use Rattle.std.specs.List.{list_any}
 use Rattle.kube_objects.specs.declared.key.Key.{Key}
 use Rattle.kube_parts.specs.declared.parts.Kind.{Kind}
-use Rattle.kube_objects.specs.Keys.{row_at, same_key}
+use Rattle.kube_objects.specs.Keys.{same_key}
 use Rattle.call_types.specs.declared.entry.Entry.{Entry}
 use Rattle.kube_objects.specs.declared.objects.Object.{Object}
 use Rattle.call_types.specs.declared.reply.Reply.{Reply}
@@ -43,13 +15,12 @@ use Rattle.call_types.specs.declared.request.SeatKind.TheVariants as seats
 use Rattle.call_types.specs.declared.setup.Setup.{Setup}
 use Rattle.binder_model.specs.Told.{own}
 use Rattle.binder_model.specs.World.{IsHistory, effect, reply_to, world}
-use Rattle.informer_cache.specs.All.{AllKnown, all_objects, cache_of}
-use Rattle.informer_cache.specs.Cache.{kind_known, objects_of}
+use Rattle.informer_cache.specs.All.{AllKnown, all_objects}
 use Rattle.model_laws.proofs.Histories.{rows_stand_in_order}
 use Rattle.model_laws.proofs.Lists.{IsIn, none_some, one}
 use Rattle.worker_core.specs.declared.role.Role.{Role}
 use Rattle.sync_queue.specs.Work.{Work}
-use Rattle.worker_core.specs.Memories.{Memory, memory_after, memory_of, remembers}
+use Rattle.worker_core.specs.Memories.{Memory}
 use Rattle.worker_core.specs.declared.task.First.{First}
 use Rattle.worker_core.specs.declared.task.Under.{Under}
 use Rattle.worker_core.specs.declared.turn.Given.{Given}
@@ -58,15 +29,12 @@ use Rattle.worker_core.specs.declared.turn.Next.{Next}
 use Rattle.worker_core.specs.declared.turn.Next.TheVariants.{Call, Idle}
 use Rattle.worker_core.specs.declared.turn.Outcome.TheVariants.{Lost, Told}
 use Rattle.worker_core.specs.Absorbs.{absorbed, given_told, learned, lost_given, woken}
-use Rattle.worker_core.specs.Roles.{IsBuiltKind, kinds_of}
+use Rattle.worker_core.specs.Roles.{IsBuiltKind}
 use Rattle.worker_core.specs.States.{ActorState, call_in, start_call, waits}
 use Rattle.worker_core.specs.Tasks.{GivesCall, GivesNone, under_after}
 use Rattle.worker_core.specs.Turns.{AfterKeys, Begins, Decides, Drops, IsTurn, Nothing, TurnBy, passing, unlisted}
-use Rattle.worker_core.proofs.ByKind.{placed}
 use Rattle.worker_core.proofs.KeyMoves.{begun_waits, dropped_waits}
 use Rattle.worker_core.proofs.KeysKept.{answers_keep_keys}
-use Rattle.attention_law.specs.Queues.{under_keys}
-use Rattle.attention_law.proofs.Queues.{cached_self, row_any}
 use Rattle.attention_law.proofs.Turned.{answer_role, calls_fresh, idle_rests}
 use Rattle.actor_rounds.specs.Rounds.{Asks, IsHeld, IsIdle, IsReady, IsSpent, Lets, Runs, told_entry}
 use Rattle.actor_rounds.proofs.RunFacts.{run_grows, still_role, turn_memory}
@@ -74,9 +42,8 @@ use Rattle.worker_core.proofs.Answered.{turn_role}
 use Rattle.settle_writes.specs.Writes.Lasting.{HasLasting, Lasts, LastsBetween}
 use Rattle.settle_alike.specs.Alike.Alike.{AreAlike}
 use Rattle.settle_alike.proofs.Alike.Calls.{LastsOrAlike, calls_last_or_leave_alike, then_alike}
-use Rattle.settle_slot.specs.Slot.Slots.{ActsOn, CachedKeysWait, IsDecisionPoint, KnowsBehind, Now, OthersStayAwake, PassedSeeTheStore, SlotsLast, Then, WillLast, begun, own_entry}
+use Rattle.settle_slot.specs.Slot.Slots.{ActsOn, IsDecisionPoint, KnowsBehind, Now, OthersStayAwake, PassedSeeTheStore, SlotsLast, Then, WillLast, begun, own_entry}
 use Rattle.settle_slot.proofs.Slot.Knowing.{lost_knows, sees, told_knows, turned_knows}
-use Rattle.worker_core.proofs.ByKind.{keeps_fresh as remembers_awake}
 pub use Rattle.worker_core.proofs.ByKind.{fresh as memory_awake}
 
 -- a history without its newest entries is one
@@ -411,14 +378,6 @@ pub kind_in : (xs : List Kind) (place : ℕ) (kind : Kind) → slice_get xs plac
 kind_in [] place kind at = none_some at
 kind_in (x ∷ xs) zero kind at = inl (one x kind at)
 kind_in (x ∷ xs) (suc place) kind at = inr (kind_in xs place kind at)
-
-pub cached_keys_wait : CachedKeysWait
-cached_keys_wait s mine key o stands none f there =
-    let p = placed s.role.kind key.kind f in
-    let c = stands.told.caches in
-    let own_kind : key.kind ≡ kind_known (cache_of key.kind s.caches) = sym (c.kinds key.kind) in
-    let row : row_at key (objects_of (cache_of key.kind s.caches)) ≡ Some o = (c.each key.kind).rows key own_kind ∙ (sym (c.rows key) ∙ there) in
-    cached_self s.caches (kinds_of s.role.kind) key.kind key s.work (kind_in (kinds_of s.role.kind) p.place key.kind p.at) (row_any key o _ row) (stands.queue.taken ∙ ap under_keys none)
 
 -- no actor but an agent remembers that its epoch is stale
 

@@ -25,8 +25,8 @@ use Rattle.model_laws.proofs.Histories.{rows_stand_in_order}
 use Rattle.model_laws.proofs.Lists.{IsIn, none_some, one, some_is, some_reverse, some_take}
 use Rattle.model_laws.proofs.Readings.{lists_tell_what_stands}
 use Rattle.model_laws.proofs.Uids.{rises}
-use Rattle.settle_slot.specs.Told.Exact.{AllowedIsExact, WatchesFrom, WatchesOn, reached_by}
-use Rattle.settle_slot.proofs.Told.Exact.{filter_passes, kind_is, reached_is_exact}
+use Rattle.settle_slot.specs.Told.Exact.{WatchesFrom, WatchesOn, reached_by}
+use Rattle.settle_slot.proofs.Told.Exact.{filter_passes, kind_is}
 use Rattle.model_laws.proofs.ToldEvents.{last_in}
 
 -- a watch reaches its start at least
@@ -173,6 +173,3 @@ watches_on setup (e ∷ past) seat kind history from = by (e.seat == seat) from 
         → (WatchesFrom kind (own seat past) → WatchesOn kind (own seat past)) → WatchesOn kind (if mine then e ∷ own seat past else own seat past)
     by false f before = before f
     by true f before = (before f.0, λ start reached er is. below_reached _ start reached (following_of (own seat past) kind) (ordered setup past seat kind history.0 f.0) (f.1 start er) is)
-
-pub allowed_is_exact : AllowedIsExact
-allowed_is_exact setup past seat kind history from is = reached_is_exact setup past seat kind history (watches_on setup past seat kind history from) is

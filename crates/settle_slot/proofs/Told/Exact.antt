@@ -1,6 +1,6 @@
 -- A seat that has reached the store's version with a kind knows each key of it as it is.
-use Rattle.std.proofs.Common.{◌≡◌, ◌∙◌, ◌⊎◌, ℕ, ◌≤◌, ◌<◌, List, [], ◌∷◌, ◌++◌, length, Bool, true, false, true≢false, Option, Some, None, inl, inr, refl, sym, ap, subst, arith, if◌then◌else◌}
-use Rattle.std.specs.Prelude.{◌==◌, ◌&&◌, nat_lt, filter, reverse, take, cond, ⊤}
+use Rattle.std.proofs.Common.{◌≡◌, ◌∙◌, ◌⊎◌, ℕ, ◌≤◌, ◌<◌, List, [], ◌∷◌, ◌++◌, Bool, true, false, true≢false, Option, Some, None, inl, inr, refl, sym, ap, subst, arith, if◌then◌else◌}
+use Rattle.std.specs.Prelude.{◌==◌, ◌&&◌, nat_lt, filter, reverse, cond, ⊤}
 use Rattle.std.proofs.lemmas.Bool.Decides.{nat_tests}
 use Rattle.std.proofs.lemmas.Grind.{reverse_onto}
 use Rattle.kube_objects.specs.declared.key.Key.{Key}
@@ -21,31 +21,26 @@ use Rattle.call_types.specs.declared.request.Request.TheVariants as requests
 use Rattle.call_types.specs.declared.setup.Setup.{Setup}
 use Rattle.binder_model.specs.Answers.{Removes, Says, Stores, after}
 use Rattle.binder_model.specs.Reading.{Following, ListedAt, Unlisted, follow_on, following_of, reached_on}
-use Rattle.binder_model.specs.Told.{Telling, later, listing, newest, object_of, of_event, own, told_by_events, told_of, tells_of}
-use Rattle.binder_model.specs.Watching.{events_after, is_later, last_version, most_events, told_events}
+use Rattle.binder_model.specs.Told.{Telling, later, listing, newest, of_event, own, told_by_events, told_of, tells_of}
+use Rattle.binder_model.specs.Watching.{events_after, is_later}
 use Rattle.binder_model.specs.World.{Effect, IsHistory, OnDevices, OnStore, SetsMoment, World, effect, log_after, reply_to, world, world_after}
 use Rattle.model_laws.proofs.Goings.{watches_go_on}
 use Rattle.model_laws.proofs.Histories.{rows_stand_in_order}
-use Rattle.model_laws.proofs.Lists.{IsIn, none_some, one, some_filter, some_or, some_reverse}
+use Rattle.model_laws.proofs.Lists.{IsIn, none_some, one, some_or, some_reverse}
 use Rattle.model_laws.proofs.Uids.{rises}
 use Rattle.model_laws.proofs.Watched.{AreBetween, logs}
 use Rattle.kube_objects.proofs.KeyOrder.{row_at_key}
 use Rattle.model_laws.specs.Reads.{TellsRows}
 use Rattle.model_laws.proofs.Readings.{found_stands, lists_tell_what_stands}
-use Rattle.model_laws.proofs.Lists.{some_take}
 use Rattle.model_laws.proofs.Said.{EffectSays, IsOfDevices, Sayings, effect_said}
 use Rattle.binder_model.specs.Answers.{reply_of}
-use Rattle.binder_model.specs.Told.{SomeOf}
 use Rattle.call_types.specs.declared.reply.Events.{Events as EventsData}
 use Rattle.call_types.specs.declared.request.SeatKind.{SeatKind}
 use Rattle.settle_slot.specs.Told.Knowing.{HasReached}
-use Rattle.settle_slot.specs.Told.Exact.{ReachedIsExact, WatchesOn, reached_by}
-use Rattle.settle_slot.specs.Told.Telling.{IsTrue, IsTrueIfAny, changed_at}
-use Rattle.settle_slot.proofs.Told.Telling.{Changed, KeyStep, LeftAlone, are_same, is_same, newest_is_true, not_same, step_of}
+use Rattle.settle_slot.specs.Told.Exact.{WatchesOn, reached_by}
+use Rattle.settle_slot.specs.Told.Telling.{changed_at}
+use Rattle.settle_slot.proofs.Told.Telling.{Changed, KeyStep, LeftAlone, are_same, is_same, not_same, step_of}
 use Rattle.model_laws.proofs.ToldEvents.{reached_below as upto_below}
-use Rattle.model_laws.proofs.ToldEvents.{last_below}
-use Rattle.model_laws.proofs.ToldEvents.{version_below as below}
-use Rattle.model_laws.proofs.ToldEvents.{last_in}
 
 -- a row is no older than the last change of its key
 
@@ -416,13 +411,3 @@ caught setup (e ∷ past) seat kind history watches from is = by (e.seat == seat
         let low = b.0 in
         let more = rises setup (e ∷ []) past in
         (omega (arith, low, more), λ key of. still setup e past key from (newest (own seat past) key) _ low (λ n k. reached_second n (told_of e key) (newest (own seat past) key) k) (b.1 key of))
-
-pub reached_is_exact : ReachedIsExact
-reached_is_exact setup past seat kind history watches is key of = by ((caught setup past seat kind history watches (world setup past).store.version is).1 key of)
-  where
-    true_of : (t : Telling) → newest (own seat past) key ≡ Some t → IsTrue (world setup past) key t
-    true_of t e = subst (IsTrueIfAny (world setup past) key) e (newest_is_true setup past seat key history)
-
-    by : IsCaught (world setup past) key (world setup past).store.version (newest (own seat past) key) → object_of (newest (own seat past) key) ≡ row_at key (world setup past).store.rows
-    by (inl since) = let low = changed_below setup past key in absurd (omega (arith, low, since))
-    by (inr h) = ap object_of h.is ∙ (true_of h.telling h.is).now h.up

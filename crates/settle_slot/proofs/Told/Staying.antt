@@ -1,5 +1,5 @@
 -- A seat that alone calls, and is told, goes on knowing each key as it is.
-use Rattle.std.proofs.Common.{◌≡◌, ◌∙◌, ◌⊎◌, ℕ, List, [], ◌∷◌, ◌++◌, true, Some, None, inl, inr, refl, sym, ap, subst, arith}
+use Rattle.std.proofs.Common.{◌≡◌, ◌∙◌, ◌⊎◌, ℕ, List, ◌∷◌, true, Some, None, inl, inr, refl, sym, ap, subst, arith}
 use Rattle.std.specs.Prelude.{◌==◌}
 use Rattle.std.proofs.lemmas.Bool.Decides.{nat_tests}
 use Rattle.kube_objects.specs.declared.key.Key.{Key}
@@ -13,7 +13,7 @@ use Rattle.binder_model.specs.Answers.{Removes, Says, Stores, after, reply_of}
 use Rattle.binder_model.specs.Reading.{following_of}
 use Rattle.binder_model.specs.Told.{Telling, later, newest, object_of, own, presence, told_of, tells_of}
 use Rattle.binder_model.specs.World.{Effect, IsHistory, OnDevices, OnStore, SetsMoment, World, effect, log_after, reply_to, world, world_after}
-use Rattle.settle_slot.specs.Told.Exact.{AreToldTo, StaysExact, WatchesFrom, reached_by}
+use Rattle.settle_slot.specs.Told.Exact.{WatchesFrom, reached_by}
 use Rattle.settle_slot.specs.Told.Telling.{IsTrue, IsTrueIfAny, changed_at}
 use Rattle.settle_slot.proofs.Told.Allowed.{watches_on}
 use Rattle.settle_slot.specs.Told.Knowing.{HasReached, KnowledgeStays, KnownIsExact, Knows}
@@ -57,15 +57,6 @@ one_more setup e past seat key answered told of knows =
     by (inl same) = subst (λ n. HasReached n (later (told_of e key) (newest (own seat past) key))) (sym same) (reached_second _ (told_of e key) (newest (own seat past) key) knows)
     by (inr new) = reached_first _ (told_of e key) (newest (own seat past) key) (subst (λ x. HasReached (changed_at key (world setup (e ∷ past)).log) x) (sym told_is) new)
 
-knows_on : (setup : Setup) (past : List Entry) (seat : ℕ) (key : Key) (newer : List Entry) → IsHistory setup (newer ++ past) → AreToldTo seat newer
-    → Knows setup past seat key → Knows setup (newer ++ past) seat key
-knows_on setup past seat key [] history told knows = knows
-knows_on setup past seat key (e ∷ newer) history told knows = one_more setup e (newer ++ past) seat key history.1 told.1 told.0 (knows_on setup past seat key newer history.0 told.2 knows)
-
-older : (setup : Setup) (newer past : List Entry) → IsHistory setup (newer ++ past) → IsHistory setup past
-older setup [] past history = history
-older setup (e ∷ newer) past history = older setup newer past history.0
-
 -- where the seat has reached the store's version it knows each key
 pub knows_first : (setup : Setup) (past : List Entry) (seat : ℕ) (kind : Kind) → IsHistory setup past → WatchesFrom kind (own seat past)
     → reached_by (following_of (own seat past) kind) ≡ Some (world setup past).store.version
@@ -83,10 +74,6 @@ is_so setup past seat key history h = ap object_of h.is ∙ (true_of h.telling h
   where
     true_of : (t : Telling) → newest (own seat past) key ≡ Some t → IsTrue (world setup past) key t
     true_of t e = subst (IsTrueIfAny (world setup past) key) e (newest_is_true setup past seat key history)
-
-pub stays_exact : StaysExact
-stays_exact setup past seat kind newer history from is told key of =
-    is_so setup (newer ++ past) seat key history (knows_on setup past seat key newer history told (knows_first setup past seat kind (older setup newer past history) from is key of))
 
 pub known_is_exact : KnownIsExact
 known_is_exact setup past seat key history knows = is_so setup past seat key history knows

@@ -4,7 +4,6 @@
 use Rattle.std.specs.Prelude.{ℕ, ◌≡◌, ◌≢◌, ◌<◌, Bool, true, false, List, ◌∷◌, Some, None}
 use Rattle.kube_objects.specs.declared.key.Key.{Key}
 use Rattle.kube_parts.specs.declared.parts.Kind.{Kind}
-use Rattle.kube_objects.specs.declared.objects.Object.{Object}
 use Rattle.kube_objects.specs.Keys.{row_at}
 use Rattle.call_types.specs.declared.entry.Entry.{Entry}
 use Rattle.call_types.specs.declared.request.Request.{Request}
@@ -23,7 +22,6 @@ use Rattle.worker_core.specs.Roles.{IsBuiltKind, kind_in_order}
 use Rattle.worker_core.specs.States.{ActorState, waits}
 use Rattle.worker_core.specs.Tasks.{GivesCall, GivesNone, under_after}
 use Rattle.worker_core.specs.Turns.{passing}
-use Rattle.actor_rounds.specs.Drainers.{StandsWhole}
 use Rattle.actor_rounds.specs.Rounds.{IsReady, Lets, Runs}
 use Rattle.settle_slot.specs.Told.Knowing.{KnowsKind}
 use Rattle.settle_writes.specs.Writes.Lasting.{HasLasting, Lasts}
@@ -84,9 +82,3 @@ SlotsLast =
 abbrev pub OthersStayAwake : Type 0
 OthersStayAwake = (lets : Lets) (seat : ℕ) (s after : ActorState) (h past : List Entry) (b left : ℕ) → s.role.kind ≢ seats.Agent
     → Runs lets seat after past left true s h b → after.memory.stale ≡ false
-
--- a key that an actor with nothing under way has cached waits once it is woken
-abbrev pub CachedKeysWait : Type 0
-CachedKeysWait =
-    (s : ActorState) (mine : List Entry) (key : Key) (o : Object) → StandsWhole s mine → s.under ≡ None → follows s.role.kind key.kind ≡ true
-    → row_at key (all_objects s.caches) ≡ Some o → waits key (woken s).work ≡ true

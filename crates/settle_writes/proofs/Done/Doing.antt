@@ -1,8 +1,6 @@
 -- A write that is done and says something new lasts.
 use Rattle.std.proofs.Common.{◌≡◌, ◌≢◌, ◌∙◌, ◌⊎◌, ℕ, ◌+◌, List, [], ◌∷◌, Bool, true, false, true≢false, Option, Some, None, inl, inr, refl, sym, ap, subst, arith, if◌then◌else◌}
-use Rattle.std.specs.Prelude.{◌==◌, ◌&&◌, ◌||◌, bytes_eq, is_none, is_some, not, option_map, ⊤}
-use Rattle.std.proofs.lemmas.Bool.{not-false}
-use Rattle.std.proofs.lemmas.Bool.Decides.{nat_tests}
+use Rattle.std.specs.Prelude.{◌&&◌, ◌||◌, bytes_eq, is_none, is_some, not, option_map, ⊤}
 use Rattle.std.proofs.lemmas.Cmp.{nat_list_cmp_total}
 use Rattle.std.proofs.lemmas.Slice.Eq.{bytes_eq-Decides}
 use Rattle.plain_data.specs.Pairs.{Pair, pair_key, put_pair, without_key}
@@ -76,18 +74,16 @@ use Rattle.binder_model.specs.Licence.{AreOfKind, RowAllows}
 use Rattle.binder_model.specs.ObjectKeys.{claim_key, node_key, volume_key}
 use Rattle.binder_model.specs.SchedulerLicence.{MayAssign}
 use Rattle.binder_model.specs.Store.{State, at_version, created_object, admitted_object, leaves_at_once, marked_object, updated_object, with_meta, with_status_of, without_status}
-use Rattle.binder_model.specs.Told.{IsClaimWith, IsVolumeWith, SomeOf, ToldObject, objects_in, own}
+use Rattle.binder_model.specs.Told.{IsClaimWith, IsVolumeWith, SomeOf, ToldObject, own}
 use Rattle.binder_model.specs.World.{Effect, IsHistory, OnDevices, OnStore, SetsMoment, World, effect, on_devices, reply_to, stale_epoch, world, world_after}
 use Rattle.model_laws.specs.Stood.{Stood}
 use Rattle.model_laws.proofs.Evidence.{told_map}
 use Rattle.model_laws.proofs.Histories.{rows_stand_in_order}
 use Rattle.model_laws.proofs.Lists.{none_some, one}
 use Rattle.model_laws.proofs.Newest.{newest_told}
-use Rattle.model_laws.proofs.Stood.{one_version_one_object}
 use Rattle.model_laws.proofs.Truths.{told_is_true}
 use Rattle.safety_law.specs.Invariant.Moves.{written_by}
 use Rattle.safety_law.specs.Invariant.Writes.{EffectOf, IsUpdate, Writes}
-use Rattle.safety_law.proofs.Invariant.Came.{row_was}
 use Rattle.safety_law.proofs.Invariant.Effects.{effect_form}
 use Rattle.binder_machines.specs.declared.machine.Machine.{Machine}
 use Rattle.binder_machines.specs.declared.machine.Machine.TheVariants.{Frees, Binds, MarksBound, ReadsClaim, Releases, Unbinds, ReadsVolume, AssignsClass, Loses}
@@ -136,7 +132,6 @@ use Rattle.settle_writes.proofs.Done.Saying.{IsNewClaimGuard, IsNewMachine, IsNe
 use Rattle.model_laws.proofs.FinalizerNames.{without_lacks as dropped}
 use Rattle.safety_law.proofs.Invariant.StandsAt.{is_volume}
 use Rattle.safety_law.proofs.Invariant.StandsAt.{is_claim}
-use Rattle.safety_law.proofs.Invariant.StandsAt.{same_version}
 pub use Rattle.safety_law.proofs.Invariant.StandsAt.{stands_it}
 pub use Rattle.safety_law.proofs.Invariant.Known.{told_one}
 

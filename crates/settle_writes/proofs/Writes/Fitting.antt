@@ -31,7 +31,6 @@ use Rattle.binder_model.specs.Fields.{
 use Rattle.binder_model.specs.Same.{same_amount, same_modes, same_option, same_selector, same_source, same_terms}
 use Rattle.field_rules.proofs.Equalities.{same_amount-Decides, same_modes-Decides, same_option-Decides, same_selector-Decides, same_source-Decides, same_terms-Decides}
 use Rattle.settle_writes.specs.Writes.Valid.{IsValid}
-use Rattle.model_laws.proofs.FinalizerNames.{without_lacks as dropped}
 
 -- the tests of a fault, one by one
 

@@ -1,8 +1,7 @@
 -- Each write of a volume as it stands is done, and lasts.
-use Rattle.std.proofs.Common.{◌≡◌, ◌≢◌, ◌∙◌, ℕ, ◌+◌, List, [], ◌∷◌, ◌++◌, Bool, true, false, true≢false, Option, Some, None, inl, refl, sym, ap, arith}
+use Rattle.std.proofs.Common.{◌≡◌, ◌≢◌, ◌∙◌, ◌+◌, [], ◌∷◌, ◌++◌, Bool, true, false, true≢false, Option, Some, None, inl, refl, sym, ap, arith}
 use Rattle.std.proofs.lemmas.Bool.Decides.{nat_tests}
-use Rattle.std.specs.Prelude.{◌&&◌, ◌||◌, bytes_eq, is_none}
-use Rattle.std.proofs.lemmas.Slice.Eq.{bytes_eq-Decides}
+use Rattle.std.specs.Prelude.{◌&&◌, ◌||◌, is_none}
 use Rattle.std.proofs.lemmas.Bool.{and_right}
 use Rattle.kube_parts.specs.declared.uid.Uid.{Uid}
 use Rattle.kube_parts.specs.declared.names.Due.{Due}
@@ -14,7 +13,7 @@ use Rattle.kube_objects.specs.declared.objects.Claim.{Claim as ClaimData}
 use Rattle.kube_objects.specs.declared.objects.Volume.{Volume as VolumeData}
 use Rattle.kube_objects.specs.declared.objects.Object.{Object}
 use Rattle.kube_objects.specs.declared.objects.Object.TheVariants.{Volume}
-use Rattle.kube_objects.specs.Bindings.{bound_by_controller, carries, has_key, has_name, is_bound, is_deleting, is_protected_volume, is_uid, pv_protection, ref_uid, refers_carrying}
+use Rattle.kube_objects.specs.Bindings.{bound_by_controller, carries, has_key, has_name, is_bound, is_deleting, is_protected_volume, is_uid, pv_protection, ref_uid}
 use Rattle.kube_objects.specs.Keys.{key_of, meta_of, row_at}
 use Rattle.call_types.specs.declared.request.NewStatus.TheVariants as statuses
 use Rattle.call_types.specs.declared.request.SeatKind.{SeatKind}
@@ -33,7 +32,7 @@ use Rattle.settle_writes.specs.Writes.Lasting.{Lasts, content_of}
 use Rattle.settle_writes.specs.Writes.Writes.{DeleteLasts, IsStored, PhaseLasts, ReferenceLasts, UnbindLasts, VolumeGuardLasts, VolumeUnguardLasts, update_volume, write_phase}
 use Rattle.settle_writes.proofs.Writes.Fitting.{adds_none, drops_add_none, drops_once, no_namespace, refers_well, volume_facts, volume_fits}
 use Rattle.settle_writes.proofs.Writes.Making.{status_lasts, update_lasts, written_lasts}
-use Rattle.settle_writes.proofs.Writes.Valid.{named_last, twice_last}
+use Rattle.settle_writes.proofs.Writes.Valid.{twice_last}
 use Rattle.model_laws.proofs.References.{refers_to as taken_carries}
 use Rattle.model_laws.proofs.FinalizerNames.{without_lacks as dropped}
 use Rattle.model_laws.proofs.FinalizerNames.{has_appended as last_there}
