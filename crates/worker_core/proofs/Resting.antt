@@ -16,7 +16,7 @@ use Rattle.pod_scheduler.specs.Decisions.{BeginsOn}
 use Rattle.pod_scheduler.specs.declared.tries.Tried.{Tried}
 use Rattle.protect_sync.specs.Decisions.{claim_guard_begins, volume_guard_begins}
 use Rattle.reclaim_ops.specs.Decisions.{claim_begins, volume_begins}
-use Rattle.worker_core.specs.declared.task.FirstMachine.TheVariants as firsts
+use Rattle.worker_core.specs.declared.task.First.TheVariants as firsts
 use Rattle.worker_core.specs.Memories.{Memory}
 use Rattle.worker_core.specs.Tasks.{IsFirstOf, claim_guard_first, ops_first, volume_guard_first}
 

@@ -31,8 +31,8 @@ use Rattle.reclaim_ops.specs.Provisions.{provision_call, provision_moved, provis
 use Rattle.worker_core.specs.declared.role.Role.{Role}
 use Rattle.worker_core.specs.declared.task.Task.{Task}
 use Rattle.worker_core.specs.declared.task.Task.TheVariants as tasks
-use Rattle.worker_core.specs.declared.task.FirstMachine.{FirstMachine}
-use Rattle.worker_core.specs.declared.task.FirstMachine.TheVariants as firsts
+use Rattle.worker_core.specs.declared.task.First.{First}
+use Rattle.worker_core.specs.declared.task.First.TheVariants as firsts
 use Rattle.worker_core.specs.declared.task.Under.{Under}
 use Rattle.worker_core.specs.Memories.{Memory}
 
@@ -70,7 +70,7 @@ task_parks (tasks.Schedule op) reply = schedule_parks (schedule_moved op reply).
 -- the decision on a key
 
 -- what the binder begins for a key
-abbrev pub IsBinderFirst : List Object → Key → FirstMachine → Type 0
+abbrev pub IsBinderFirst : List Object → Key → First → Type 0
 IsBinderFirst rows key firsts.Drops = IsFirst rows (row_at key rows) binder_firsts.Drops
 IsBinderFirst rows key (firsts.Queues other) = IsFirst rows (row_at key rows) (binder_firsts.Queues other)
 IsBinderFirst rows key (firsts.Begins (tasks.Binder machine)) = IsFirst rows (row_at key rows) (binder_firsts.Begins machine)
@@ -79,43 +79,43 @@ IsBinderFirst rows key (firsts.Begins task) = ⊥
 -- the other actors begin a machine or drop the key, and queue no other
 
 -- what the claim protection controller begins
-abbrev pub claim_guard_first : Option ClaimGuardOp → FirstMachine
+abbrev pub claim_guard_first : Option ClaimGuardOp → First
 claim_guard_first None = firsts.Drops
 claim_guard_first (Some op) = firsts.Begins (tasks.ClaimProtect op)
 
 -- what the volume protection controller begins
-abbrev pub volume_guard_first : Option VolumeGuardOp → FirstMachine
+abbrev pub volume_guard_first : Option VolumeGuardOp → First
 volume_guard_first None = firsts.Drops
 volume_guard_first (Some op) = firsts.Begins (tasks.VolumeProtect op)
 
 -- what an agent begins
-abbrev pub agent_first : Option AgentOp → FirstMachine
+abbrev pub agent_first : Option AgentOp → First
 agent_first None = firsts.Drops
 agent_first (Some op) = firsts.Begins (tasks.Agent op)
 
 -- what the reclaimer begins
-abbrev pub erase_first : Option EraseOp → FirstMachine
+abbrev pub erase_first : Option EraseOp → First
 erase_first None = firsts.Drops
 erase_first (Some op) = firsts.Begins (tasks.Erase op)
 
 -- the provisioner and reclaimer provisions for a claim and reclaims a volume; a key is of at most one of them
-abbrev pub ops_first : Option ProvisionOp → Option EraseOp → FirstMachine
+abbrev pub ops_first : Option ProvisionOp → Option EraseOp → First
 ops_first None erasing = erase_first erasing
 ops_first (Some op) erasing = firsts.Begins (tasks.Provision op)
 
 -- an agent decides a pod by its epoch and by the mounts that it was told last, once it was told both
-abbrev pub IsAgentFirst : List ℕ → Option ℕ → Option (List MountRow) → Option Object → FirstMachine → Type 0
+abbrev pub IsAgentFirst : List ℕ → Option ℕ → Option (List MountRow) → Option Object → First → Type 0
 IsAgentFirst node (Some epoch) (Some mounts) row first = first ≡ agent_first (agent_begins node epoch mounts row)
 IsAgentFirst node epoch mounts row first = ⊥
 
 -- a scheduler decides a pod, and the search for its node begins after the one that was refused last; it drops any other key
-abbrev pub IsPodFirst : List Object → List Tried → Option Object → FirstMachine → Type 0
+abbrev pub IsPodFirst : List Object → List Tried → Option Object → First → Type 0
 IsPodFirst rows refused row firsts.Drops = BeginsOn rows refused row None
 IsPodFirst rows refused row (firsts.Begins (tasks.Schedule op)) = BeginsOn rows refused row (Some op)
 IsPodFirst rows refused row first = ⊥
 
 -- what an actor of the kind begins for a key
-abbrev pub IsFirstOf : SeatKind → List ℕ → Memory → List Object → Key → FirstMachine → Type 0
+abbrev pub IsFirstOf : SeatKind → List ℕ → Memory → List Object → Key → First → Type 0
 IsFirstOf seats.Binder node m rows key first = IsBinderFirst rows key first
 IsFirstOf seats.Ops node m rows key first = first ≡ ops_first (claim_begins rows (row_at key rows)) (volume_begins (row_at key rows))
 IsFirstOf seats.Scheduler node m rows key first = IsPodFirst rows m.tries.refused (row_at key rows) first
@@ -125,7 +125,7 @@ IsFirstOf seats.Agent node m rows key first = IsAgentFirst node m.epoch m.mounts
 IsFirstOf seats.User node m rows key first = ⊥
 
 -- what the decision on the key, by what the actor remembers and by these rows, comes to
-abbrev pub IsDecision : Role → Memory → List Object → Key → FirstMachine → Type 0
+abbrev pub IsDecision : Role → Memory → List Object → Key → First → Type 0
 IsDecision role memory rows key first = IsFirstOf role.kind role.node memory rows key first
 
 -- the decision on the key gives this call
@@ -134,7 +134,7 @@ pub record GivesCall (role : Role) (memory : Memory) (rows : List Object) (u : U
   pub call : task_call u.task ≡ Some u.call
 
 -- the decision on the key gives no call
-pub record GivesNone (role : Role) (memory : Memory) (rows : List Object) (key : Key) (first : FirstMachine) : Type 0 where
+pub record GivesNone (role : Role) (memory : Memory) (rows : List Object) (key : Key) (first : First) : Type 0 where
   pub decided : IsDecision role memory rows key first
   pub none : (task : Task) → first ≡ firsts.Begins task → task_call task ≡ None
 

@@ -13,7 +13,7 @@ ghost use Rattle.pod_scheduler.specs.Decisions.{BeginsOn};
 ghost use Rattle.pod_scheduler.specs.declared.tries.Tried.{Tried};
 ghost use Rattle.protect_sync.specs.Decisions.{claim_guard_begins, volume_guard_begins};
 ghost use Rattle.reclaim_ops.specs.Decisions.{claim_begins, volume_begins};
-ghost use Rattle.worker_core.specs.declared.task.FirstMachine.TheVariants as firsts;
+ghost use Rattle.worker_core.specs.declared.task.First.TheVariants as firsts;
 ghost use Rattle.worker_core.specs.Memories.{Memory};
 ghost use Rattle.worker_core.specs.Tasks.{IsFirstOf, claim_guard_first, ops_first, volume_guard_first};
 

@@ -26,7 +26,7 @@ use Rattle.binder_machines.specs.declared.decide.FirstMachine.TheVariants as bin
 use Rattle.binder_machines.specs.declared.machine.Machine.{Machine}
 use Rattle.binder_machines.specs.FirstSteps.{IsClaimFirst, IsFirst, volume_first}
 use Rattle.worker_core.specs.declared.role.Role.{Role}
-use Rattle.worker_core.specs.declared.task.FirstMachine.TheVariants as firsts
+use Rattle.worker_core.specs.declared.task.First.TheVariants as firsts
 use Rattle.worker_core.specs.declared.task.Task.{Task}
 use Rattle.worker_core.specs.declared.task.Task.TheVariants as tasks
 use Rattle.worker_core.specs.declared.task.Under.{Under}
