@@ -52,7 +52,7 @@ use Rattle.worker_core.specs.States.{ActorState}
 use Rattle.actor_rounds.specs.declared.drainers.Drainer.{Drainer}
 use Rattle.actor_rounds.specs.Drainers.{AreRoles, AreSeats, agent_of, of_kind, roles_of, seats_of}
 use Rattle.actor_rounds.specs.Longer.{GrowsWithin, HasGrown, IsLonger, IsOneOf, users_of}
-use Rattle.actor_rounds.specs.Rounds.{Ends, IsRound, Lets, Runs, Turns, all_pass}
+use Rattle.actor_rounds.specs.Rounds.{Ends, IsRound, Lets, RoundOf, Runs, Turns, all_pass}
 use Rattle.actor_rounds.proofs.Entries.{grown_others, longer_then, longer_wider, not_longer, not_within, within_then, within_wider}
 use Rattle.actor_rounds.proofs.RunFacts.{run_grows, run_left, run_longer, run_part, run_role, run_users}
 
@@ -304,3 +304,7 @@ pub fewer_left : (place rest left budget : ℕ) → rest ≤ left → left ≤ b
 fewer_left zero rest zero budget low few before some any = omega arith
 fewer_left zero rest (suc left) budget low few before some any = let less : rest < suc left = some refl (omega arith) in omega arith
 fewer_left (suc place) rest left budget low few before some any = let less : left < budget = before (omega arith) any in omega arith
+
+-- a round that is whole ends so
+pub whole_round : (lets : Lets) (round : RoundOf lets) → round.whole ≡ true → IsRound lets round.past round.left round.drainers round.start round.budget round.after true
+whole_round lets round whole = subst (λ w. IsRound lets round.past round.left round.drainers round.start round.budget round.after w) whole round.is_round

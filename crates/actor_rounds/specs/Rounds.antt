@@ -62,6 +62,22 @@ pub data IsRound (lets : Lets) (past : List Entry) (left : ℕ) : List Drainer �
       → ran.seat ≡ d.seat → Runs lets d.seat ran.actor middle rest idle (woken d.actor) h b → IsRound lets past left ds middle rest after whole
       → IsRound lets past left (d ∷ ds) h b (ran ∷ after) (idle && whole)
 
+-- a round: the drainers, entries and budget with which it starts, and those with which it ends
+pub record RoundOf (lets : Lets) : Type 0 where
+  pub drainers : List Drainer
+  pub start : List Entry
+  pub budget : ℕ
+  pub after : List Drainer
+  pub past : List Entry
+  pub left : ℕ
+  pub whole : Bool
+  pub is_round : IsRound lets past left drainers start budget after whole
+
+-- the round that is shown to be one
+abbrev pub round_of : {lets : Lets} {ds after : List Drainer} {h past : List Entry} {b left : ℕ} {whole : Bool} → IsRound lets past left ds h b after whole → RoundOf lets
+round_of {ds = ds} {after = after} {h = h} {past = past} {b = b} {left = left} {whole = whole} is =
+    record { drainers = ds; start = h; budget = b; after = after; past = past; left = left; whole = whole; is_round = is }
+
 -- rounds are made while something is due and the budget is not spent
 pub data Drains (lets : Lets) (setup : Setup) (after : List Drainer) (past : List Entry) (left : ℕ) : List Drainer → List Entry → ℕ → Type 0 where
   NothingDue : {ds : List Drainer} {h : List Entry} {b : ℕ} → IsSettled setup (world setup h) → after ≡ ds → past ≡ h → left ≡ b → Drains lets setup after past left ds h b
