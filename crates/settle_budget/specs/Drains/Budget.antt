@@ -41,6 +41,7 @@ pub record CostsLittle (setup : Setup) (h past : List Entry) (b left actors roun
       ≤ left + (23 * to_write setup (world setup h) + rounds * round_calls actors (most_size (world setup h)) (pods_size (world setup h)) + 5 *
       ((3 * most_size (world setup h) + 3 * round_writes setup (world setup h) + 7) * sweeps))
 
+-- so much a drain costs that begins with nothing under way, with pods and named claims of at most 512 together, and with so many rounds
 abbrev pub DrainsCostLittle : Type 0
 DrainsCostLittle =
     (setup : Setup) (lets : Lets) (ds after : List Drainer) (h past : List Entry) (b left : ℕ) → ImportsAllow setup → MayDrain setup h ds

@@ -21,6 +21,7 @@ pub record IsBounded (setup : Setup) (h past : List Entry) (b left actors : ℕ)
   pub writes : writes_since setup h past ≤ most_writes setup (world setup h)
   pub calls : b ≤ left + (23 * most_writes setup (world setup h) + idle_calls actors (most_size (world setup h)) (most_writes setup (world setup h)))
 
+-- so is each round in which no list or watch is held back, where the scheduler has at most 512 writes to do
 abbrev pub RoundsAreBounded : Type 0
 RoundsAreBounded =
     (setup : Setup) (lets : Lets) (ds after : List Drainer) (h past : List Entry) (b left : ℕ) (whole : Bool) → ImportsAllow setup

@@ -38,6 +38,7 @@ FewSelectionsSettle =
 abbrev pub NoneProvisionsLate : Setup → List Entry → Type 0
 NoneProvisionsLate setup past = (class : ClassData) → Stood setup past (Class class) → class.delayed ≡ true → provisions class ≡ false
 
+-- then a drain ends settled
 abbrev pub StaticDrainsSettle : Type 0
 StaticDrainsSettle =
     (setup : Setup) (ds after : List Drainer) (h past : List Entry) (b left : ℕ) → ImportsAllow setup → MaySettle setup ds h → HasBudget setup ds h b → IsRunOf setup past → AreAlwaysInOrder setup past
@@ -50,6 +51,7 @@ pub record AreFresh (setup : Setup) (first : ℕ) (nodes : List (List ℕ)) (ds 
   pub differ : (i j : ℕ) (node : List ℕ) → slice_get nodes i ≡ Some node → slice_get nodes j ≡ Some node → i ≡ j
   pub given : (node : List ℕ) → WasGiven setup h node → SomeOf (λ n. n ≡ node) nodes
 
+-- so does a drain of new drainers
 abbrev pub NewDrainsSettle : Type 0
 NewDrainsSettle =
     (setup : Setup) (first : ℕ) (nodes : List (List ℕ)) (ds after : List Drainer) (h past : List Entry) (b left : ℕ) → ImportsAllow setup

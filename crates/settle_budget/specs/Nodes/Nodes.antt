@@ -26,6 +26,7 @@ abbrev pub CreatesNode : List ℕ → Request → Type 0
 CreatesNode node (requests.Create (Node n)) = n.meta.name ≡ node
 CreatesNode node request = ⊥
 
+-- an import gives the node, or an entry asks to create it, whatever the answer is
 abbrev pub WasGiven : Setup → List Entry → List ℕ → Type 0
 WasGiven setup past node = SomeOf (GivesNode node) setup.imports ⊎ SomeOf (λ e. CreatesNode node e.request) past
 

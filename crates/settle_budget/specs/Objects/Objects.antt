@@ -18,6 +18,7 @@ is_create request = false
 abbrev pub asks_create : Entry → Bool
 asks_create e = is_user e.kind && is_create e.request
 
+-- how many entries do
 abbrev pub creations : List Entry → ℕ
 creations past = count_by asks_create past
 

@@ -7,5 +7,6 @@ use Rattle.call_types.specs.declared.setup.Setup.{Setup}
 use Rattle.worker_core.specs.declared.role.Role.{Role}
 use Rattle.settle_pays.specs.Pays.Pays.{DecisionsPay}
 
+-- whatever a node agent begins in a run, where it sees the store as it is, will pay
 abbrev pub AgentsPay : Type 0
 AgentsPay = (setup : Setup) (seat : ℕ) (role : Role) → role.kind ≡ seats.Agent → DecisionsPay setup seat role

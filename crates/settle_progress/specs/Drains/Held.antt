@@ -25,6 +25,7 @@ use Rattle.settle_progress.specs.Drains.Settling.{MayDrain}
 
 -- ---- the Mount of a pod
 
+-- the UID of the claim, if there is a claim and it has one
 abbrev pub uid_in : Option ClaimData → Option Uid
 uid_in None = None
 uid_in (Some c) = c.meta.uid

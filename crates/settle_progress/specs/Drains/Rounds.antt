@@ -31,12 +31,14 @@ use Rattle.settle_progress.specs.Drains.Settling.{MayDrain}
 
 -- ---- who does what is due
 
+-- the controller that has to do this for a volume
 abbrev pub for_volume : Due → SeatKind
 for_volume dues.Reclaim = seats.Ops
 for_volume dues.Guard = seats.VolumeProtect
 for_volume dues.Unguard = seats.VolumeProtect
 for_volume action = seats.Binder
 
+-- the controller that has to do this for a claim
 abbrev pub for_claim : Due → SeatKind
 for_claim dues.Provision = seats.Ops
 for_claim dues.ClearNode = seats.Ops

@@ -31,6 +31,7 @@ abbrev pub erase_rise : Request → ℕ
 erase_rise (requests.Erase id) = 1
 erase_rise request = 0
 
+-- a call of a controller raises what is left to do by no more for each write, and by one if it is an Erase
 abbrev pub CallsRaiseLittle : Type 0
 CallsRaiseLittle =
     (setup : Setup) (e : Entry) (h : List Entry) → ImportsAllow setup → IsBuiltKind e.kind → e.kind ≢ seats.Agent → IsRunOf setup (e ∷ h)
@@ -41,6 +42,7 @@ abbrev pub erases_rise : List Entry → ℕ
 erases_rise [] = 0
 erases_rise (e ∷ newer) = erase_rise e.request + erases_rise newer
 
+-- so do these entries, by the sum
 abbrev pub EntriesRaiseLittle : Type 0
 EntriesRaiseLittle =
     (setup : Setup) (kind : SeatKind) (newer h : List Entry) → ImportsAllow setup → IsBuiltKind kind → kind ≢ seats.Agent → AreOfKind kind newer → IsRunOf setup (newer ++ h)
@@ -51,13 +53,16 @@ abbrev pub one_if_none : Option Uid → ℕ
 one_if_none None = 1
 one_if_none (Some uid) = 0
 
+-- one for such a volume
 abbrev pub is_untaken : Object → ℕ
 is_untaken (Volume v) = one_if_none (ref_uid v.claim_ref)
 is_untaken o = 0
 
+-- how many of these there are
 abbrev pub untaken_in : List Object → ℕ
 untaken_in rows = total is_untaken rows
 
+-- they are no more than the volumes
 abbrev pub UntakenAreVolumes : Type 0
 UntakenAreVolumes = (rows : List Object) → untaken_in rows ≤ volumes_in rows
 

@@ -21,6 +21,7 @@ abbrev pub volume_calls : SeatKind → VolumeData → ℕ
 volume_calls seats.Ops v = if is_ended v.phase then 3 else 0
 volume_calls kind v = made_calls kind
 
+-- on a claim
 abbrev pub claim_calls : SeatKind → ℕ
 claim_calls seats.Binder = 2
 claim_calls seats.Ops = 2

@@ -41,6 +41,7 @@ abbrev pub volume_write : Request → Reply → ℕ
 volume_write (requests.Update (Volume v) given) (replies.Done o) = 1
 volume_write request reply = 0
 
+-- how many of these entries are such
 abbrev pub volume_writes : List Entry → ℕ
 volume_writes [] = 0
 volume_writes (e ∷ es) = volume_write e.request e.reply + volume_writes es
@@ -51,6 +52,7 @@ pub record IsBy (seat : ℕ) (kind : SeatKind) (e : Entry) : Type 0 where
   pub of_kind : e.kind ≡ kind
   pub told : e.told ≡ true
 
+-- each of these entries is
 abbrev pub AreBy : ℕ → SeatKind → List Entry → Type 0
 AreBy seat kind [] = ⊤
 AreBy seat kind (e ∷ es) = AreBy seat kind es × IsBy seat kind e

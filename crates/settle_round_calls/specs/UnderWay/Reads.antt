@@ -21,15 +21,16 @@ use Rattle.worker_core.specs.declared.task.Task.{Task}
 use Rattle.worker_core.specs.declared.task.Task.TheVariants as tasks
 use Rattle.worker_core.specs.declared.task.Under.{Under}
 
--- the claims that stand and are none of these
-
+-- the claim is in this namespace and has one of these names
 abbrev pub is_among : List ℕ → List (List ℕ) → ClaimData → Bool
 is_among namespace names c = bytes_eq c.meta.namespace namespace && has_name c.meta.name names
 
+-- one for a claim that is not
 abbrev pub unread : List ℕ → List (List ℕ) → Object → ℕ
 unread namespace names (Claim c) = unless (is_among namespace names c) 1
 unread namespace names o = 0
 
+-- how many claims that stand are not
 abbrev pub unread_in : List ℕ → List (List ℕ) → List Object → ℕ
 unread_in namespace names rows = total (unread namespace names) rows
 
@@ -53,6 +54,7 @@ abbrev pub calls_left : List Object → Task → ℕ
 calls_left rows (tasks.Agent op) = reads_left op.pod.meta.namespace (names_of op.ready) rows op.step
 calls_left rows task = task_left task
 
+-- of what is under way, if anything is
 abbrev pub under_calls : List Object → Option Under → ℕ
 under_calls rows None = 0
 under_calls rows (Some u) = calls_left rows u.task

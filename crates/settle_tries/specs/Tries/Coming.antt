@@ -62,6 +62,7 @@ pub record IsForPod (setup : Setup) (h : List Entry) (refused : List Tried) (key
   pub place : ℕ
   pub among : slice_get (writes_for (world setup h).store.rows pod choice) place ≡ Some call
 
+-- whatever is under way of a scheduler's decision in such a slot makes such a call
 abbrev pub DecidedAreForPods : Type 0
 DecidedAreForPods =
     (setup : Setup) (seat : ℕ) (role : Role) (h g : List Entry) (u : Under) → role.kind ≡ seats.Scheduler → (i : IsDecidedIn setup seat role h g u)

@@ -38,6 +38,7 @@ pub record StandsStill (w : World) (key : Key) (x : ClassData) : Type 0 where
   pub there : row_at key w.store.rows ≡ Some (Class class)
   pub delayed : class.delayed ≡ x.delayed
 
+-- each pod that waits waited before, each claim that is open was open, and each class that stood stands with the same mode of binding
 pub record KeepsSharing (old new : World) : Type 0 where
   pub pods : (key : Key) (p : PodData) → row_at key new.store.rows ≡ Some (Pod p) → is_scheduled p ≡ false → WaitedSo old key p
   pub claims : (key : Key) (c : ClaimData) → row_at key new.store.rows ≡ Some (Claim c) → StoodOpen old key c

@@ -61,6 +61,7 @@ pub record IsWritten (setup : Setup) (first : Drainer) (h middle : List Entry) (
   pub stands : row_at key (world setup (entry ∷ older ++ h)).store.rows ≡ Some (Claim now)
   pub changes : content_of (Claim before) ≢ content_of (Claim now)
 
+-- behind the scheduler's slot the claim had no node, or it was written in that slot by what the scheduler decided in it
 pub record IsGiven (setup : Setup) (ds : List Drainer) (h past : List Entry) (key : Key) : Type 0 where
   pub first : Drainer
   pub scheduler : first.actor.role.kind ≡ seats.Scheduler

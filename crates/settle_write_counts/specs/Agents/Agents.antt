@@ -33,6 +33,7 @@ abbrev pub if_agent : SeatKind → ℕ → ℕ
 if_agent seats.Agent n = n
 if_agent kind n = 0
 
+-- and of those of a whole round: the sum over the agents' slots
 abbrev pub agents_writes : (setup : Setup) (lets : Lets) (past : List Entry) (left : ℕ) (ds : List Drainer) (h : List Entry) (b : ℕ)
     (after : List Drainer) (whole : Bool) → IsRound lets past left ds h b after whole → ℕ
 agents_writes setup lets past left ds h b after whole (Ends entries rest) = 0

@@ -26,6 +26,7 @@ use Rattle.settle_calls.specs.Slots.Slots.{writes_since}
 use Rattle.settle_write_counts.specs.Scheduler.Pods.{pods_writes}
 use Rattle.settle_pays.specs.Pays.Pays.{DecisionsPay, IsPayer}
 
+-- one where it holds
 abbrev pub one_if : Bool → ℕ
 one_if true = 1
 one_if false = 0
@@ -35,6 +36,7 @@ abbrev pub selections_in : List Pair → ℕ
 selections_in [] = 0
 selections_in (p ∷ ps) = one_if (is_eq (text_cmp (pair_key p) selected_node)) + selections_in ps
 
+-- and so among those of a claim; other objects have none
 abbrev pub nodes_on : Object → ℕ
 nodes_on (Claim c) = selections_in c.meta.annotations
 nodes_on o = 0

@@ -40,6 +40,7 @@ abbrev pub pod_size : Object → ℕ
 pod_size (Pod p) = 1 + length p.claims
 pod_size o = 0
 
+-- summed over all rows
 abbrev pub pods_size : World → ℕ
 pods_size w = total pod_size w.store.rows
 

@@ -19,6 +19,7 @@ abbrev pub pod_writes : Object → ℕ
 pod_writes (Pod p) = if is_scheduled p then 0 else 1 + length p.claims
 pod_writes o = 0
 
+-- summed over all rows
 abbrev pub pods_writes : World → ℕ
 pods_writes w = total pod_writes w.store.rows
 
