@@ -1,16 +1,16 @@
 -- Budgets, classes, shared claims, nodes of scripts and numbers of volumes, computed.
 use Rattle.std.specs.Prelude.{slice_get}
-use Rattle.std.proofs.Common.{ℕ, zero, suc, ◌≡◌, ◌≢◌, ◌∙◌, Bool, true, false, true≢false, not, List, [], ◌∷◌, Option, Some, None, arith, inl, inr, bytes_eq, codes, length, refl, sym, ap, subst}
+use Rattle.std.proofs.Common.{ℕ, zero, suc, ◌≡◌, ◌≢◌, ◌∙◌, Bool, true, false, true≢false, not, List, [], ◌∷◌, Some, None, arith, inl, inr, bytes_eq, codes, length, refl, sym, ap, subst}
 use Rattle.kube_objects.specs.declared.key.Key.{Key}
 use Rattle.kube_parts.specs.declared.parts.VolumePhase.TheVariants as volumes
 use Rattle.kube_objects.specs.declared.objects.Claim.{Claim as ClaimData}
 use Rattle.kube_objects.specs.declared.objects.Object.{Object}
-use Rattle.kube_objects.specs.declared.objects.Object.TheVariants.{Claim, Class, Node, Pod, Volume}
+use Rattle.kube_objects.specs.declared.objects.Object.TheVariants.{Claim, Class, Pod, Volume}
 use Rattle.kube_objects.specs.Bindings.{class_of_claim, is_completed, is_scheduled, no_provisioner}
 use Rattle.kube_objects.specs.Keys.{key_of, row_at}
 use Rattle.kube_objects.proofs.KeyOrder.{row_at_key}
 use Rattle.binder_model.specs.BindWrites.{completed_with}
-use Rattle.binder_model.specs.Choice.{claim_in, claim_named}
+use Rattle.binder_model.specs.Choice.{claim_named}
 use Rattle.binder_model.specs.Devices.{device_answer, take_node}
 use Rattle.binder_model.specs.Imports.{imported_meta, imported_object}
 use Rattle.binder_model.specs.ObjectKeys.{claim_key, class_key}
@@ -28,29 +28,8 @@ use Rattle.settle_progress.proofs.Drains.Rounds.{is_agent}
 use Rattle.script_runs.specs.Parts.{drain_roles}
 use Rattle.volume_index.specs.VolumePlaces.{count_before, has_size, those_in}
 use Rattle.settle_budget.specs.Drains.Measured.{SharesWell, WaitingPodNames, is_immediate}
-use Rattle.settling_examples.specs.Ending.{
-  AgentExamples,
-  AllowanceExamples,
-  BudgetExamples,
-  CallExamples,
-  ClassExamples,
-  LineExamples,
-  NamingExamples,
-  NumberExamples,
-  SharingExamples,
-  SizeExamples,
-  class_of,
-  copies,
-  faults_upto,
-  one_node,
-  pod_on,
-  script_naming,
-  setup_with,
-  shared_rows,
-  takes,
-  three_volumes,
-  world_with,
-}
+use Rattle.settling_examples.specs.Ending.{AgentExamples, AllowanceExamples, BudgetExamples, CallExamples, ClassExamples, LineExamples, NamingExamples, NumberExamples, SharingExamples, SizeExamples, class_of, copies, faults_upto, one_node, pod_on, script_naming, setup_with, shared_rows, takes, three_volumes, world_with}
+use Rattle.delayed_binding.proofs.Known.{claim_of_row}
 
 abbrev is_agent_role : Role → Bool
 is_agent_role r = is_agent r.kind
@@ -90,14 +69,6 @@ class_examples = record {
 }
 
 -- ---- shared claims
-
-claim_of_row : (o : Option Object) (c : ClaimData) → claim_in o ≡ Some c → o ≡ Some (Claim c)
-claim_of_row (Some (Claim d)) c e = ap (λ d. Some (Claim d)) (one d c e)
-claim_of_row (Some (Class x)) c e = cc
-claim_of_row (Some (Node x)) c e = cc
-claim_of_row (Some (Volume x)) c e = cc
-claim_of_row (Some (Pod x)) c e = cc
-claim_of_row None c e = cc
 
 abbrev is_waiting : Object → Bool
 is_waiting (Pod p) = not (is_scheduled p)

@@ -16,7 +16,7 @@ use Rattle.actor_rounds.proofs.RoundFacts.{round_grows}
 use Rattle.settle_budget.specs.Drains.Measured.{SharesWell}
 use Rattle.settle_budget.specs.Drains.Selections.{NoneProvisionsLate}
 use Rattle.settle_slot.proofs.Slot.Held.{all_holds}
-use Rattle.settle_pays.proofs.Pays.Slots.{older_run}
+use Rattle.settle_progress.proofs.Epochs.Silent.{older_run}
 use Rattle.settle_progress.specs.Drains.Settling.{MayDrain}
 use Rattle.settle_progress.proofs.Drains.Drained.{drained_rounds_last}
 use Rattle.settle_progress.proofs.Drains.Held.{held_rounds_last}

@@ -18,7 +18,7 @@ use Rattle.history_laws.proofs.Runs.Runs.{past_given}
 use Rattle.settle_measure.proofs.Left.Sums.{found_in}
 use Rattle.actor_rounds.proofs.DrainFacts.{drains_grow}
 use Rattle.actor_rounds.specs.Rounds.{all_pass}
-use Rattle.settle_pays.proofs.Pays.Slots.{older_run}
+use Rattle.settle_progress.proofs.Epochs.Silent.{older_run}
 use Rattle.settle_budget.proofs.Drains.Fresh.{new_drains_settle}
 use Rattle.replay_laws.specs.Settles.Given.{GivenDrainsSettle, GivenImportsFit, GivenRunsStayInOrder}
 

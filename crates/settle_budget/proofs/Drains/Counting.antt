@@ -20,7 +20,7 @@ use Rattle.settle_budget.proofs.Nodes.Nodes.{pods_are_on_given_nodes}
 use Rattle.settle_progress.specs.Drains.Rounds.{HasDue}
 use Rattle.settle_progress.proofs.Drains.Drained.{passed_rounds_last, served_have_doers}
 use Rattle.settle_progress.proofs.Drains.Leaving.{rounds_leave_drainers}
-use Rattle.settle_pays.proofs.Pays.Slots.{older_run}
+use Rattle.settle_progress.proofs.Epochs.Silent.{older_run}
 use Rattle.settle_pays.specs.Drains.All.{ImportsAllow}
 use Rattle.settle_pays.proofs.Drains.Rounds.{round_paid}
 use Rattle.settle_write_counts.specs.Rounds.Counts.{to_write}

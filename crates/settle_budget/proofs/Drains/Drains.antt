@@ -18,7 +18,7 @@ use Rattle.actor_rounds.proofs.DrainFacts.{drains_grow}
 use Rattle.actor_rounds.proofs.RoundFacts.{roles_built, round_grows, round_part, round_seats, same_length}
 use Rattle.settle_calls.specs.Slots.Slots.{PassesReads, writes_since}
 use Rattle.settle_write_counts.specs.Scheduler.Pods.{pod_writes, pods_writes}
-use Rattle.settle_pays.proofs.Pays.Slots.{older_run}
+use Rattle.settle_progress.proofs.Epochs.Silent.{older_run}
 use Rattle.settle_progress.specs.Drains.Settling.{MayDrain}
 use Rattle.settle_progress.proofs.Drains.Leaving.{rounds_leave_drainers}
 use Rattle.settle_pays.specs.Drains.All.{ImportsAllow}

@@ -28,7 +28,7 @@ use Rattle.settle_writes.proofs.Done.Doing.{write_asked}
 use Rattle.settle_pays.specs.Pays.Pays.{AllPay, Pays, worth}
 use Rattle.settle_pays.proofs.Pays.Calls.{lasting_writes, stored_effect}
 use Rattle.settle_pays.proofs.Pays.Entries.{one_paid, paid_is_less}
-use Rattle.settle_pays.proofs.Pays.Slots.{older_run}
+use Rattle.settle_progress.proofs.Epochs.Silent.{older_run}
 use Rattle.settle_write_counts.specs.Rounds.Counts.{nodes_in, nodes_on, to_write}
 use Rattle.settle_write_counts.proofs.Rounds.Keeping.{other_nodes}
 use Rattle.settle_write_counts.proofs.Rounds.Nodes.{IsMoved, no_node, ops_nodes, scheduled_nodes, taken_back, updated_none}
@@ -93,7 +93,7 @@ module _ (setup : Setup) (seat : ℕ) (h : List Entry) (history : IsHistory setu
 -- ---- one entry
 
 -- what is written moves the rows
-moves_by : (w : World) (x : Effect) (o : Object) → written_by x ≡ Some o → IsMoved w.store.rows (world_after w x).store.rows o
+pub moves_by : (w : World) (x : Effect) (o : Object) → written_by x ≡ Some o → IsMoved w.store.rows (world_after w x).store.rows o
 unfolding world_after after
 moves_by w (OnStore (Says reply)) o e = none_some e
 moves_by w (OnStore (Stores change p)) o e = subst (IsMoved w.store.rows (world_after w (OnStore (Stores change p))).store.rows) (one p o e) (inl refl)

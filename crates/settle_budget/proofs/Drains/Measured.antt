@@ -9,7 +9,7 @@ use Rattle.actor_rounds.specs.declared.drainers.Drainer.{Drainer}
 use Rattle.actor_rounds.specs.Rounds.{Drains, Goes, IsSpent, NothingDue, all_pass}
 use Rattle.actor_rounds.proofs.DrainFacts.{drains_grow}
 use Rattle.actor_rounds.proofs.RoundFacts.{round_part, same_or_not}
-use Rattle.settle_pays.proofs.Pays.Slots.{older_run}
+use Rattle.settle_progress.proofs.Epochs.Silent.{older_run}
 use Rattle.settle_pays.specs.Drains.All.{ImportsAllow}
 use Rattle.settle_pays.proofs.Drains.Rounds.{rounds_pay}
 use Rattle.settle_budget.specs.Drains.Drains.{rounds_in}

@@ -52,7 +52,7 @@ use Rattle.actor_rounds.specs.Rounds.{Asks, Drains, Ends, Goes, IsHeld, IsIdle, 
 use Rattle.actor_rounds.proofs.DrainFacts.{drains_grow}
 use Rattle.actor_rounds.proofs.RoundFacts.{AreBuilt, round_grows, round_roles}
 use Rattle.actor_rounds.proofs.RunFacts.{run_grows, still_role}
-use Rattle.settle_pays.proofs.Pays.Slots.{older_run}
+use Rattle.settle_progress.proofs.Epochs.Silent.{older_run}
 use Rattle.settle_write_counts.proofs.Scheduler.Begun.{is_scheduler}
 use Rattle.settle_write_counts.proofs.Rounds.Runs.{IsCalled, called_at, run_at}
 use Rattle.settle_budget.specs.Drains.Rounds.{selected_in, selects_node}
@@ -196,7 +196,7 @@ then_none h middle past first later = record {
 }
 
 -- what stood before a history went on stood then
-stood_still : (setup : Setup) (newer h : List Entry) (o : Object) → Stood setup h o → Stood setup (newer ++ h) o
+pub stood_still : (setup : Setup) (newer h : List Entry) (o : Object) → Stood setup h o → Stood setup (newer ++ h) o
 stood_still setup [] h o stood_ = stood_
 stood_still setup (e ∷ newer) h o stood_ = inl (stood_still setup newer h o stood_)
 

@@ -4,7 +4,6 @@ use Rattle.std.specs.Prelude.{◌&&◌, is_none, not, ⊤}
 use Rattle.std.proofs.lemmas.Slice.Eq.{bytes_eq-Decides}
 use Rattle.kube_parts.specs.declared.uid.Uid.{Uid}
 use Rattle.kube_objects.specs.declared.key.Key.{Key}
-use Rattle.kube_parts.specs.declared.names.Field.{Field}
 use Rattle.kube_parts.specs.declared.parts.Kind.{Kind}
 use Rattle.kube_parts.specs.declared.parts.Kind.TheVariants as kinds
 use Rattle.kube_objects.specs.declared.objects.Meta.{Meta}
@@ -26,31 +25,9 @@ use Rattle.call_types.specs.declared.request.Request.{Request}
 use Rattle.call_types.specs.declared.request.Request.TheVariants as requests
 use Rattle.call_types.specs.declared.request.SeatKind.{SeatKind}
 use Rattle.call_types.specs.declared.setup.Setup.{Setup}
-use Rattle.binder_model.specs.Answers.{
-  Outcome,
-  Removes,
-  Says,
-  Stores,
-  after,
-  bind,
-  create,
-  delete,
-  delete_of,
-  edit,
-  edit_to,
-  finish,
-  get,
-  list,
-  outcome,
-  refuse,
-  update,
-  update_status,
-  with_status,
-  write_outcome,
-  written_if_fits,
-}
+use Rattle.binder_model.specs.Answers.{Outcome, Removes, Says, Stores, after, bind, create, delete, delete_of, edit, edit_to, finish, get, list, outcome, refuse, update, update_status, with_status, write_outcome, written_if_fits}
 use Rattle.binder_model.specs.Edits.{edited_object, with_volume_name}
-use Rattle.binder_model.specs.Fields.{changed_field, create_fault, faulty, kind_fault, pod_fault, same_pod_spec, update_fault}
+use Rattle.binder_model.specs.Fields.{changed_field, create_fault, kind_fault, pod_fault, same_pod_spec, update_fault}
 use Rattle.binder_model.specs.Imports.{imported_object}
 use Rattle.binder_model.specs.ObjectKeys.{node_key}
 use Rattle.binder_model.specs.Store.{State, admitted_object, at_version, created_object, lacks_named_node, lacks_node, leaves, marked_object, updated_object, with_meta, with_status_of, without_status}
@@ -62,6 +39,7 @@ use Rattle.model_laws.proofs.Imported.{import_row}
 use Rattle.model_laws.proofs.Lists.{IsIn, none_some, one}
 use Rattle.model_laws.proofs.OnOutcome.{OnOutcome, field_or, refused_or, rule_or, says, stale_or}
 use Rattle.settle_budget.specs.Nodes.Nodes.{CreatesNode, GivesNode, NodesWereGiven, PodsAreOnGivenNodes, WasGiven}
+use Rattle.model_laws.proofs.Identity.{faulty_none as no_fault}
 
 -- the node that the object is, or that runs it, is one of these
 abbrev IsOn : (List ℕ → Type 0) → Object → Type 0
@@ -87,11 +65,6 @@ refused_else : {P : Outcome → Type 0} (b : Bool) (r : Refusal) (x : Outcome) �
 unfolding refuse
 refused_else true r x s k = says s _
 refused_else false r x s k = k refl
-
-no_fault : (b : Bool) (field : Field) (next : Option Field) → faulty b field next ≡ None → (b ≡ false) × (next ≡ None)
-unfolding faulty
-no_fault true field next e = none_some (sym e)
-no_fault false field next e = (refl, e)
 
 abbrev is_node : Kind → Bool
 is_node kinds.Node = true

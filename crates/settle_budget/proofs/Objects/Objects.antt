@@ -4,9 +4,6 @@ use Rattle.std.specs.Prelude.{◌⊎◌, ◌&&◌}
 use Rattle.std.proofs.lemmas.List.Sums.{sum_by-cons}
 use Rattle.kube_parts.specs.declared.uid.Uid.{Uid}
 use Rattle.kube_objects.specs.declared.key.Key.{Key}
-use Rattle.kube_objects.specs.declared.objects.Class.{Class as ClassData}
-use Rattle.kube_objects.specs.declared.objects.Claim.{Claim as ClaimData}
-use Rattle.kube_objects.specs.declared.objects.DataId.{DataId}
 use Rattle.kube_objects.specs.declared.objects.Volume.{Volume as VolumeData}
 use Rattle.kube_objects.specs.declared.objects.Object.{Object}
 use Rattle.kube_objects.specs.declared.objects.Object.TheVariants.{Class, Node, Volume, Claim, Pod}
@@ -23,7 +20,7 @@ use Rattle.binder_model.specs.Answers.{is_user}
 use Rattle.binder_model.specs.Licence.{Licensed}
 use Rattle.binder_model.specs.ObjectKeys.{claim_key, volume_key}
 use Rattle.binder_model.specs.OpsLicence.{MayCreate}
-use Rattle.binder_model.specs.Provisioning.{data_name, provisioned_volume}
+use Rattle.binder_model.specs.Provisioning.{data_name}
 use Rattle.binder_model.specs.Run.{Run}
 use Rattle.binder_model.specs.Store.{admitted_object, at_version, created_object, marked_object, with_meta, without_status}
 use Rattle.binder_model.specs.Told.{own}
@@ -43,6 +40,7 @@ use Rattle.safety_law.specs.Invariant.Writes.{Writes}
 use Rattle.safety_law.proofs.Invariant.Moves.{moves}
 use Rattle.settle_measure.proofs.Left.Sums.{others_behind, stands}
 use Rattle.settle_budget.specs.Objects.Objects.{ObjectsAreFew, asks_create, creations, is_create}
+use Rattle.settle_write_counts.proofs.Rounds.Made.{made_name as made_volume}
 
 -- ---- the keys that were given
 
@@ -127,12 +125,6 @@ created_uid default o n moment = ap (λ m. m.uid) (meta-with_meta (admitted_obje
 marked_uid : (o : Object) (n : ℕ) (moment : List ℕ) → (meta_of (marked_object o n moment)).uid ≡ (meta_of o).uid
 unfolding marked_object
 marked_uid o n moment = ap (λ m. m.uid) (meta-with_meta o _)
-
--- a volume that is made has the name of its data
-made_volume : (v : VolumeData) (c : ClaimData) (uid : Uid) (class : ClassData) (id : DataId) (topology : Option (List ℕ × List ℕ))
-    → v ≡ provisioned_volume c uid class id topology → key_of (Volume v) ≡ volume_key (data_name uid)
-unfolding provisioned_volume
-made_volume v c uid class id topology is = ap (λ (x : VolumeData). key_of (Volume x)) is
 
 -- of controllers only ops creates, and only volumes
 record IsMade (mine : List Entry) (x : Object) : Type 0 where

@@ -65,13 +65,15 @@ use Rattle.settle_pays.proofs.Actors.Walking.{MachinePays, PaysFrom, answer, new
 
 -- ---- which of the four writes is next
 
+-- the write is the first of the four that is not yet seen as done
 pub data Stage (v : VolumeData) (c : ClaimData) (call : Request) : Type 0 where
   First : carries v c ≡ false → is_ended v.phase ≡ false → call ≡ write_reference v c → Stage v c call
   Second : carries v c ≡ true → is_bound v.phase ≡ false → is_ended v.phase ≡ false → call ≡ write_bound v → Stage v c call
   Third : carries v c ≡ true → is_bound v.phase ≡ true → is_completed_with c v ≡ false → call ≡ write_completion v c → Stage v c call
   Fourth : carries v c ≡ true → is_bound v.phase ≡ true → is_completed_with c v ≡ true → shows_bound c v ≡ false → call ≡ write_claim_status v c → Stage v c call
 
-stage : (v : VolumeData) (c : ClaimData) (call : Request) → next_write v c ≡ Some call → Stage v c call
+-- the next write of a binding is one of these
+pub stage : (v : VolumeData) (c : ClaimData) (call : Request) → next_write v c ≡ Some call → Stage v c call
 unfolding next_write claim_write
 stage v c call e = by (carries v c) (is_ended v.phase) (is_bound v.phase) (is_protected_volume v) (is_completed_with c v) (shows_bound c v) refl refl refl refl refl e
   where

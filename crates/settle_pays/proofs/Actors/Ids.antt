@@ -1,34 +1,5 @@
 -- The data of a history are counted by their ids, so no two have one id.
-use Rattle.std.proofs.Common.{
-  ◌≡◌,
-  ◌∙◌,
-  ℕ,
-  ◌+◌,
-  ◌≤◌,
-  ◌<◌,
-  ◌^◌,
-  suc,
-  List,
-  [],
-  ◌∷◌,
-  ◌++◌,
-  Bool,
-  true,
-  false,
-  true≢false,
-  Option,
-  Some,
-  None,
-  inl,
-  inr,
-  refl,
-  sym,
-  ap,
-  subst,
-  arith,
-  length,
-  if◌then◌else◌,
-}
+use Rattle.std.proofs.Common.{◌≡◌, ◌∙◌, ℕ, ◌+◌, ◌≤◌, ◌<◌, ◌^◌, List, [], ◌∷◌, ◌++◌, Bool, true, false, true≢false, Option, Some, None, inl, inr, refl, sym, ap, subst, arith, length, if◌then◌else◌}
 use Rattle.std.specs.Prelude.{◌&&◌, ◌||◌, bytes_eq, codes, decimal, drop, nat_lt, not, ⊤}
 use Rattle.std.specs.List.{list_any}
 use Rattle.std.proofs.lemmas.Bool.{and_parts, not-true}
@@ -45,30 +16,12 @@ use Rattle.call_types.specs.declared.request.SeatKind.{SeatKind}
 use Rattle.call_types.specs.declared.setup.Pool.{Pool}
 use Rattle.call_types.specs.declared.setup.Setup.{Setup}
 use Rattle.binder_model.specs.Answers.{Outcome, is_user}
-use Rattle.binder_model.specs.Devices.{
-  Data,
-  DeviceAnswer,
-  Devices,
-  after_call,
-  data_after_erase,
-  data_named,
-  device_answer,
-  epoch_if_stale,
-  erase,
-  has_id,
-  is_planned,
-  provision,
-  provision_new,
-  same_id,
-  take_node,
-  unless_planned,
-  unless_stale,
-  with_mounts,
-}
+use Rattle.binder_model.specs.Devices.{Data, DeviceAnswer, Devices, after_call, data_after_erase, data_named, device_answer, epoch_if_stale, erase, has_id, is_planned, provision, provision_new, same_id, take_node, unless_planned, unless_stale, with_mounts}
 use Rattle.binder_model.specs.Watching.{oldest}
 use Rattle.binder_model.specs.World.{Effect, OnDevices, OnStore, SetsMoment, World, base, effect, is_time, on_devices, set_time, watch, world, world_after}
 use Rattle.model_laws.proofs.Lists.{IsIn}
 use Rattle.settle_measure.specs.Left.Measure.{was_erased}
+use Rattle.model_laws.proofs.Stored.{erased_length}
 
 -- the data under this number
 abbrev id_text : ℕ → List ℕ
@@ -119,10 +72,6 @@ provision_keeps : (most : ℕ) (pools : List Pool) (d : Devices) (name provision
 unfolding provision
 provision_keeps most pools d name provisioner bytes labels (Some x) = as_before most _ _ refl
 provision_keeps most pools d name provisioner bytes labels None = new_keeps most pools d name provisioner bytes labels _
-
-erased_length : (id : DataId) (xs : List Data) → length (data_after_erase id xs) ≡ length xs
-erased_length id [] = refl
-erased_length id (x ∷ xs) = ap (λ n. suc n) (erased_length id xs)
 
 erased_counted : (id : DataId) (xs : List Data) → AreCounted xs → AreCounted (data_after_erase id xs)
 erased_counted id [] c = tt

@@ -1,5 +1,5 @@
 -- What the binder has under way, call by call: what an answer makes of it, and which volume and claim then stand.
-use Rattle.std.proofs.Common.{◌≡◌, ◌≢◌, ◌∙◌, ℕ, List, ◌∷◌, true, Option, Some, None, refl, sym, ap, subst, arith}
+use Rattle.std.proofs.Common.{◌≡◌, ◌∙◌, ℕ, List, ◌∷◌, true, Option, Some, None, refl, sym, ap, subst}
 use Rattle.std.specs.Prelude.{option_map}
 use Rattle.kube_objects.specs.declared.key.Key.{Key}
 use Rattle.kube_objects.specs.declared.objects.Claim.{Claim as ClaimData}
@@ -7,7 +7,7 @@ use Rattle.kube_objects.specs.declared.objects.Volume.{Volume as VolumeData}
 use Rattle.kube_objects.specs.declared.objects.Object.{Object}
 use Rattle.kube_objects.specs.declared.objects.Object.TheVariants.{Volume, Claim}
 use Rattle.kube_parts.specs.declared.uid.Uid.{Uid}
-use Rattle.kube_objects.specs.Keys.{key_of, kind_index, put_row, row_at}
+use Rattle.kube_objects.specs.Keys.{key_of, put_row, row_at}
 use Rattle.kube_objects.proofs.KeyOrder.{row_at-put_row, row_at-put_row_other}
 use Rattle.call_types.specs.declared.entry.Entry.{Entry}
 use Rattle.call_types.specs.declared.reply.Reply.{Reply}
@@ -32,6 +32,7 @@ use Rattle.settle_slot.specs.Slot.Slots.{own_entry}
 use Rattle.settle_pays.specs.Pays.Pays.{EachPays, WillPay}
 use Rattle.settle_pays.proofs.Pays.Calls.{get_never, lowering_pays}
 use Rattle.settle_pays.proofs.Actors.Standing.{none_has_left}
+use Rattle.settle_measure.proofs.Left.Others.{other_kind}
 
 -- ---- machines
 
@@ -91,9 +92,6 @@ module _ (setup : Setup) (seat : ℕ) (key : Key) where
   read_pays h machine wanted on = EachPays (λ lasts. absurd (get_never setup (world setup h) seats.Binder wanted lasts)) (then_pays h machine (Get wanted) on)
 
 -- ---- what stands
-
-other_kind : (v : VolumeData) (namespace name : List ℕ) → key_of (Volume v) ≢ claim_key namespace name
-other_kind v namespace name e = let n : 2 ≡ 3 = ap (λ (k : Key). kind_index k.kind) e in absurd (omega (arith, n))
 
 -- the rows of the world
 abbrev pub rows_in : Setup → List Entry → List Object

@@ -10,7 +10,7 @@ use Rattle.actor_rounds.proofs.DrainFacts.{drains_grow}
 use Rattle.actor_rounds.proofs.RoundFacts.{round_part}
 use Rattle.settle_pays.specs.Pays.Pays.{HavePaid}
 use Rattle.settle_pays.proofs.Pays.Entries.{none_paid, then_paid}
-use Rattle.settle_pays.proofs.Pays.Slots.{older_run}
+use Rattle.settle_progress.proofs.Epochs.Silent.{older_run}
 use Rattle.settle_progress.specs.Drains.Settling.{MayDrain}
 use Rattle.settle_progress.proofs.Drains.Leaving.{rounds_leave_drainers}
 use Rattle.settle_pays.specs.Drains.All.{DrainsPay, ImportsAllow}

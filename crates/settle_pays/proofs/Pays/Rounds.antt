@@ -9,7 +9,8 @@ use Rattle.actor_rounds.specs.Rounds.{Ends, IsRound, Lets, Turns}
 use Rattle.actor_rounds.proofs.RoundFacts.{round_grows}
 use Rattle.settle_pays.specs.Pays.Pays.{HavePaid, IsPayer, RoundsOfPayersPay}
 use Rattle.settle_pays.proofs.Pays.Entries.{none_paid, then_paid}
-use Rattle.settle_pays.proofs.Pays.Slots.{older_run, slots_pay}
+use Rattle.settle_pays.proofs.Pays.Slots.{slots_pay}
+use Rattle.settle_progress.proofs.Epochs.Silent.{older_run}
 
 module _ (setup : Setup) (lets : Lets) (past : List Entry) (left : ℕ) (run : IsRunOf setup past) where
   rounds_pay : (ds : List Drainer) (h : List Entry) (b : ℕ) (after : List Drainer) (whole : Bool) → IsRound lets past left ds h b after whole

@@ -1,5 +1,5 @@
 -- An actor whose decisions pay, run with nothing under way, pays with each of its calls.
-use Rattle.std.proofs.Common.{◌≡◌, ◌∙◌, ℕ, ◌-◌, List, [], ◌∷◌, ◌++◌, ◌<◌, length, Bool, true, false, Option, Some, None, inl, inr, refl, sym, ap, subst, arith}
+use Rattle.std.proofs.Common.{◌≡◌, ◌∙◌, ℕ, ◌-◌, List, [], ◌∷◌, Bool, true, false, Option, Some, None, inl, inr, refl, sym, ap, subst}
 use Rattle.std.specs.Prelude.{is_some}
 use Rattle.kube_parts.specs.declared.parts.Kind.{Kind}
 use Rattle.call_types.specs.declared.entry.Entry.{Entry}
@@ -9,13 +9,13 @@ use Rattle.call_types.specs.declared.request.Request.TheVariants as requests
 use Rattle.call_types.specs.declared.request.SeatKind.{SeatKind}
 use Rattle.call_types.specs.declared.request.SeatKind.TheVariants as seats
 use Rattle.call_types.specs.declared.setup.Setup.{Setup}
-use Rattle.binder_model.specs.Promises.{IsRunOf, most_entries}
+use Rattle.binder_model.specs.Promises.{IsRunOf}
 use Rattle.binder_model.specs.World.{World, effect, reply_to, world}
 use Rattle.informer_cache.specs.declared.cache.NextRead.{NextRead}
 use Rattle.informer_cache.specs.declared.cache.NextRead.TheVariants as asks
 use Rattle.informer_cache.specs.All.{AllKnown, all_objects, cache_of}
 use Rattle.informer_cache.specs.Cache.{ask_of}
-use Rattle.model_laws.proofs.Growing.{older_parts_are_runs, runs_are_histories}
+use Rattle.model_laws.proofs.Growing.{runs_are_histories}
 use Rattle.model_laws.proofs.Lists.{none_some, one}
 use Rattle.attention_law.proofs.Turned.{calls_fresh}
 use Rattle.sync_queue.specs.Work.{Work}
@@ -39,14 +39,7 @@ use Rattle.settle_slot.proofs.Slot.Slots.{begun_behind, decides_gives, none_lost
 use Rattle.settle_pays.specs.Pays.Pays.{DecisionsPay, EachPays, HavePaid, Pays, SlotsPay, WillPay}
 use Rattle.settle_pays.proofs.Pays.Calls.{NeverLasts, list_never, mounts_never, take_never, watch_never}
 use Rattle.settle_pays.proofs.Pays.Entries.{none_paid, one_paid, then_paid}
-
--- a run without its newest entries, from imports that pass, is one
-pub older_run : (setup : Setup) (newer past : List Entry) → IsRunOf setup (newer ++ past) → IsRunOf setup past
-older_run setup newer past run = record { imports = run.imports; short = shorter newer past run.short; run = older_parts_are_runs setup newer past run.run }
-  where
-    shorter : (xs h : List Entry) → length (xs ++ h) < most_entries → length h < most_entries
-    shorter [] h lt = lt
-    shorter (x ∷ xs) h lt = shorter xs h (omega (arith, lt))
+use Rattle.settle_progress.proofs.Epochs.Silent.{older_run}
 
 -- the calls of what is under way pay
 pub data PaysUnder (setup : Setup) (seat : ℕ) (kind : SeatKind) (h : List Entry) : Option Under → Type 0 where

@@ -138,11 +138,11 @@ counted_more : (rows : List Object) (namespace : List ℕ) (ready : List ReadyCl
 counted_more rows namespace [] r all x of = ((x, of), tt)
 counted_more rows namespace (y ∷ ready) r all x of = (all.0, counted_more rows namespace ready r all.1 x of)
 
-names_more : (ready : List ReadyClaim) (r : ReadyClaim) (names : List (List ℕ)) → names_in ready ++ (r.claim ∷ names) ≡ names_in (ready ++ r ∷ []) ++ names
+pub names_more : (ready : List ReadyClaim) (r : ReadyClaim) (names : List (List ℕ)) → names_in ready ++ (r.claim ∷ names) ≡ names_in (ready ++ r ∷ []) ++ names
 names_more [] r names = refl
 names_more (y ∷ ready) r names = ap (λ ns. y.claim ∷ ns) (names_more ready r names)
 
-next_name : (ready : List ReadyClaim) (names : List (List ℕ)) → slice_get (names_in ready ++ names) (length ready) ≡ slice_get names 0
+pub next_name : (ready : List ReadyClaim) (names : List (List ℕ)) → slice_get (names_in ready ++ names) (length ready) ≡ slice_get names 0
 next_name [] names = refl
 next_name (r ∷ ready) names = next_name ready names
 

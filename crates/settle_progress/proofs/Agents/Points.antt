@@ -9,8 +9,7 @@ use Rattle.kube_parts.specs.declared.uid.Uid.{Uid}
 use Rattle.kube_parts.specs.declared.names.Due.{Due}
 use Rattle.kube_parts.specs.declared.names.Due.TheVariants as dues
 use Rattle.kube_objects.specs.declared.objects.Pod.{Pod as PodData}
-use Rattle.kube_objects.specs.declared.objects.Object.{Object}
-use Rattle.kube_objects.specs.declared.objects.Object.TheVariants.{Class, Node, Volume, Claim, Pod}
+use Rattle.kube_objects.specs.declared.objects.Object.TheVariants.{Pod}
 use Rattle.kube_objects.specs.Bindings.{is_deleting, is_scheduled}
 use Rattle.kube_objects.specs.Keys.{row_at}
 use Rattle.kube_objects.proofs.KeyOrder.{row_at_key}
@@ -28,7 +27,7 @@ use Rattle.binder_model.specs.Imports.{ImportsPass}
 use Rattle.binder_model.specs.Licence.{Licensed}
 use Rattle.binder_model.specs.ObjectKeys.{pod_key}
 use Rattle.binder_model.specs.Reading.{follows}
-use Rattle.binder_model.specs.Told.{IsNewest, IsPodWith, ToldPod, own}
+use Rattle.binder_model.specs.Told.{IsNewest, ToldPod, own}
 use Rattle.binder_model.specs.World.{World, world}
 use Rattle.informer_cache.specs.All.{all_objects}
 use Rattle.model_laws.proofs.Evidence.{told_map}
@@ -59,6 +58,7 @@ use Rattle.settle_due.proofs.Upkeep.Reclaims.{HasUid, has_uid}
 use Rattle.settle_progress.specs.Agents.Acts.{AgentWouldActOn, IsHolding}
 use Rattle.settle_progress.specs.Epochs.Remembered.{AreRemembered, WasLost, is_unmount_of}
 use Rattle.settle_progress.proofs.Epochs.Remembered.{mounts_are_remembered}
+use Rattle.node_agent.proofs.Licensed.{pod_map}
 
 -- the agent acts on a key where each decision on it begins a task that will make a call that lasts
 
@@ -125,13 +125,6 @@ mount_or_finish w p action = by (is_deleting p.meta) (not (is_pod_mounted w.devi
     by false false e = none_some e
 
 -- no pod was asked to be unmounted that was not told deleting
-
-pod_map : {P Q : PodData → Type 0} → ((p : PodData) → P p → Q p) → (o : Object) → IsPodWith P o → IsPodWith Q o
-pod_map f (Pod p) h = f p h
-pod_map f (Class x) h = absurd h
-pod_map f (Node x) h = absurd h
-pod_map f (Volume x) h = absurd h
-pod_map f (Claim x) h = absurd h
 
 unmounting : (uid : Uid) (mine : List Entry) (request : Request) → Licensed seats.Agent mine request → is_unmount_of uid request ≡ true → ToldPod (IsDeletingPod uid) mine
 unmounting uid mine (requests.Unmount node epoch given) l h =

@@ -62,7 +62,7 @@ claims_not dues.Prepare = refl
 claims_not dues.Mount = refl
 claims_not dues.Finish = refl
 
-no_agent : (kind : SeatKind) (node : List ℕ) → is_agent kind ≡ false → of_kind kind ≡ agent_of node → ⊥
+pub no_agent : (kind : SeatKind) (node : List ℕ) → is_agent kind ≡ false → of_kind kind ≡ agent_of node → ⊥
 no_agent kind node other same = true≢false (sym (ap (λ (r : Role). is_agent r.kind) same) ∙ other)
 
 pub served_have_doers : ServedHaveDoers

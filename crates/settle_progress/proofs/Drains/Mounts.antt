@@ -26,25 +26,7 @@ use Rattle.node_agent.specs.declared.agent.AgentOp.{AgentOp}
 use Rattle.node_agent.specs.declared.step.AgentStep.{AgentStep}
 use Rattle.node_agent.specs.declared.step.AgentStep.TheVariants as steps
 use Rattle.node_agent.specs.declared.step.ReadyClaim.{ReadyClaim}
-use Rattle.node_agent.specs.Agents.{
-  agent_after,
-  agent_call,
-  agent_call_at,
-  agent_known,
-  agent_moved,
-  after_last,
-  after_mounts,
-  after_unmount,
-  at_start,
-  is_agent_ready,
-  is_claim_read,
-  is_volume_read,
-  next_step,
-  ready_by,
-  ready_claim,
-  step_for,
-  uids_of,
-}
+use Rattle.node_agent.specs.Agents.{agent_after, agent_call, agent_call_at, agent_known, agent_moved, after_last, after_mounts, after_unmount, at_start, is_agent_ready, is_claim_read, is_volume_read, next_step, ready_by, ready_claim, step_for, uids_of}
 use Rattle.worker_core.specs.declared.task.First.{First}
 use Rattle.worker_core.specs.declared.task.First.TheVariants as firsts
 use Rattle.worker_core.specs.declared.task.Task.{Task}
@@ -54,20 +36,13 @@ use Rattle.settle_slot.specs.Slot.Gates.{is_mount}
 use Rattle.settle_slot.specs.Slot.Slots.{own_entry}
 use Rattle.settle_due.proofs.Upkeep.Volumes.{get_said, get_stays, got}
 use Rattle.settle_progress.specs.Drains.Held.{AreUidsOf, uid_in}
+use Rattle.settle_progress.proofs.Agents.Mounting.{names_more as names_on}
+use Rattle.settle_progress.proofs.Agents.Mounting.{next_name as name_after}
 
 -- ---- lists
 
 abbrev pub names_in : List ReadyClaim → List (List ℕ)
 names_in ready = map (λ r. r.claim) ready
-
--- the name after those that were read
-name_after : (ready : List ReadyClaim) (rest : List (List ℕ)) → slice_get (names_in ready ++ rest) (length ready) ≡ slice_get rest 0
-name_after [] rest = refl
-name_after (r ∷ ready) rest = name_after ready rest
-
-names_on : (ready : List ReadyClaim) (r : ReadyClaim) (rest : List (List ℕ)) → names_in ready ++ (r.claim ∷ rest) ≡ names_in (ready ++ r ∷ []) ++ rest
-names_on [] r rest = refl
-names_on (y ∷ ready) r rest = ap (λ names. y.claim ∷ names) (names_on ready r rest)
 
 names_whole : (ready : List ReadyClaim) → names_in ready ++ [] ≡ names_in ready
 names_whole [] = refl

@@ -1,5 +1,5 @@
 -- A drain whose rounds pay for themselves ends settled where its budget is greater than what the world may cost.
-use Rattle.std.proofs.Common.{◌≡◌, ◌<◌, ℕ, true, false, List, [], ◌∷◌, ◌++◌, length, length-append, refl, sym, ap, subst, arith}
+use Rattle.std.proofs.Common.{◌≡◌, ◌<◌, ℕ, true, false, List, ◌++◌, length, length-append, refl, sym, ap, subst, arith}
 use Rattle.call_types.specs.declared.entry.Entry.{Entry}
 use Rattle.call_types.specs.declared.setup.Setup.{Setup}
 use Rattle.binder_model.specs.Due.{IsSettled}
@@ -12,11 +12,7 @@ use Rattle.actor_rounds.proofs.DrainFacts.{drains_grow}
 use Rattle.actor_rounds.proofs.RoundFacts.{round_part}
 use Rattle.settle_progress.specs.Drains.Settling.{MayDrain, PayingDrainsSettle, RoundsPay}
 use Rattle.settle_progress.proofs.Drains.Leaving.{rounds_leave_drainers}
-
--- a run without its newest entries is one
-run_older : (setup : Setup) (newer past : List Entry) → Run setup (newer ++ past) → Run setup past
-run_older setup [] past run = run
-run_older setup (e ∷ newer) past run = run_older setup newer past run.0
+use Rattle.model_laws.proofs.OlderRuns.{run_back as run_older}
 
 pub run_of_older : (setup : Setup) (newer h past : List Entry) → past ≡ newer ++ h → IsRunOf setup past → IsRunOf setup h
 run_of_older setup newer h past are r =

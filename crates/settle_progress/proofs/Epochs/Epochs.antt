@@ -2,7 +2,6 @@
 use Rattle.std.proofs.Common.{◌≡◌, ◌∙◌, ◌⊎◌, ℕ, ◌-◌, suc, List, [], ◌∷◌, ◌++◌, Bool, true, false, true≢false, Option, Some, None, inl, inr, refl, sym, ap, subst, if◌then◌else◌}
 use Rattle.std.specs.Prelude.{bytes_eq, is_some, option_map, slice_get}
 use Rattle.std.proofs.lemmas.Slice.Eq.{bytes_eq-Decides}
-use Rattle.kube_parts.specs.declared.parts.Kind.{Kind}
 use Rattle.call_types.specs.declared.entry.Entry.{Entry}
 use Rattle.call_types.specs.declared.reply.Reply.{Reply}
 use Rattle.call_types.specs.declared.reply.Reply.TheVariants as replies
@@ -17,16 +16,10 @@ use Rattle.binder_model.specs.Devices.{device_answer, epoch_of, take_node}
 use Rattle.binder_model.specs.Licence.{Licensed}
 use Rattle.binder_model.specs.Told.{first_some, own}
 use Rattle.binder_model.specs.World.{IsHistory, OnDevices, World, effect, on_devices, refused_rule, reply_to, world, world_after}
-use Rattle.informer_cache.specs.declared.cache.NextRead.{NextRead}
-use Rattle.informer_cache.specs.declared.cache.NextRead.TheVariants as asks
 use Rattle.informer_cache.specs.All.{cache_of}
 use Rattle.informer_cache.specs.Cache.{ask_of}
 use Rattle.model_laws.proofs.Evidence.{own_mine}
 use Rattle.model_laws.proofs.Lists.{none_some, one}
-use Rattle.node_agent.specs.declared.agent.AgentOp.{AgentOp}
-use Rattle.node_agent.specs.declared.step.AgentStep.{AgentStep}
-use Rattle.node_agent.specs.declared.step.AgentStep.TheVariants as steps
-use Rattle.node_agent.specs.Agents.{agent_call, agent_call_at}
 use Rattle.node_agent.specs.HistoryLaw.{is_take_of}
 use Rattle.safety_law.specs.Invariant.Holders.{epoch_now}
 use Rattle.safety_law.proofs.Invariant.DeviceMoves.{device_moves}
@@ -34,7 +27,6 @@ use Rattle.attention_law.proofs.Turned.{calls_fresh}
 use Rattle.safety_law.proofs.Invariant.Holders.{Others, Own, OwnStep, own_step}
 use Rattle.worker_core.specs.declared.role.Role.{Role}
 use Rattle.worker_core.specs.declared.task.Task.{Task}
-use Rattle.worker_core.specs.declared.task.Task.TheVariants as tasks
 use Rattle.worker_core.specs.declared.task.Under.{Under}
 use Rattle.worker_core.specs.declared.turn.Given.{Given}
 use Rattle.worker_core.specs.declared.turn.Given.TheVariants as givens
@@ -44,9 +36,7 @@ use Rattle.worker_core.specs.Absorbs.{woken}
 use Rattle.worker_core.specs.Memories.{Memory, memory_of}
 use Rattle.worker_core.specs.Roles.{IsBuiltKind}
 use Rattle.worker_core.specs.Stands.{AnyIsUnderWay, StandsFor}
-use Rattle.worker_core.specs.States.{ActorState, agent_start, asked, call_under, given_call, read_request, start_of}
-use Rattle.worker_core.specs.Steps.Evidence.{task_kind}
-use Rattle.worker_core.specs.Tasks.{task_call}
+use Rattle.worker_core.specs.States.{ActorState, agent_start, asked, call_under, given_call, start_of}
 use Rattle.worker_core.proofs.Answered.{answer_licensed, gives_asked}
 use Rattle.worker_core.proofs.ByKind.{epoch_stands}
 use Rattle.worker_core.proofs.Machines.{keeps_under}
@@ -60,6 +50,8 @@ use Rattle.actor_rounds.proofs.RunFacts.{run_grows, still_role}
 use Rattle.worker_core.proofs.Answered.{turn_role}
 use Rattle.settle_slot.proofs.Slot.Slots.{older, run_older}
 use Rattle.settle_progress.specs.Epochs.Epochs.{AgentsTakeTheirOwn, EpochsStay, IsCurrent, RoundsKeepEpochs, TakesNoMore}
+use Rattle.worker_core.proofs.Starts.{task_takes_none}
+use Rattle.worker_core.proofs.Starts.{read_takes_none}
 
 -- a call that takes a node, by what it is answered
 
@@ -172,33 +164,9 @@ epochs_stay setup (e ∷ newer) past seat node history own_takes current =
 
 -- which actors take nodes
 
-step_takes_none : (node : List ℕ) (op : AgentOp) (step : AgentStep) (r : Request) → agent_call_at op step ≡ Some r → is_take_of node r ≡ false
-step_takes_none node op (steps.ReadsClaim name) r e = ap (is_take_of node) (sym (one _ r e))
-step_takes_none node op (steps.ReadsVolume name c) r e = ap (is_take_of node) (sym (one _ r e))
-step_takes_none node op steps.MountsPod r e = ap (is_take_of node) (sym (one _ r e))
-step_takes_none node op steps.Unmounts r e = ap (is_take_of node) (sym (one _ r e))
-step_takes_none node op steps.ReadsMounts r e = ap (is_take_of node) (sym (one _ r e))
-step_takes_none node op steps.Finishes r e = ap (is_take_of node) (sym (one _ r e))
-step_takes_none node op steps.Done r e = none_some e
-step_takes_none node op steps.Parked r e = none_some e
-
 abbrev pub is_agent : SeatKind → Bool
 is_agent seats.Agent = true
 is_agent kind = false
-
-task_takes_none : (node : List ℕ) (t : Task) (r : Request) → task_kind t ≡ seats.Agent → task_call t ≡ Some r → is_take_of node r ≡ false
-unfolding agent_call
-task_takes_none node (tasks.Agent op) r is e = step_takes_none node op op.step r e
-task_takes_none node (tasks.Binder m) r is e = absurd (true≢false (sym (ap is_agent is)))
-task_takes_none node (tasks.ClaimProtect op) r is e = absurd (true≢false (sym (ap is_agent is)))
-task_takes_none node (tasks.VolumeProtect op) r is e = absurd (true≢false (sym (ap is_agent is)))
-task_takes_none node (tasks.Provision op) r is e = absurd (true≢false (sym (ap is_agent is)))
-task_takes_none node (tasks.Erase op) r is e = absurd (true≢false (sym (ap is_agent is)))
-task_takes_none node (tasks.Schedule op) r is e = absurd (true≢false (sym (ap is_agent is)))
-
-read_takes_none : (node : List ℕ) (kind : Kind) (ask : NextRead) → is_take_of node (read_request kind ask) ≡ false
-read_takes_none node kind asks.List = refl
-read_takes_none node kind (asks.Watch from) = refl
 
 start_takes_own : (own_node node : List ℕ) (epoch : Option ℕ) (told : Bool) (r : Request) → agent_start own_node epoch told ≡ Some r → is_take_of node r ≡ true → (own_node ≡ node) × (epoch ≡ None)
 start_takes_own own_node node None told r e t = ((bytes_eq-Decides own_node node).0 (ap (is_take_of node) (one _ r e) ∙ t), refl)

@@ -37,6 +37,7 @@ use Rattle.settle_progress.specs.Epochs.Silent.{CurrentAreAwake, OnlyOvertakenAr
 use Rattle.settle_progress.proofs.Epochs.Awake.{asked_fresh, lost_memory, told_memory}
 use Rattle.settle_progress.proofs.Epochs.Epochs.{epoch_is}
 use Rattle.settle_progress.proofs.Epochs.Remembered.{good_of}
+use Rattle.actor_rounds.proofs.RoundFacts.{seat_at as seat_there}
 
 -- an older part of a run from imports that pass is one
 pub older_run : (setup : Setup) (newer past : List Entry) → IsRunOf setup (newer ++ past) → IsRunOf setup past
@@ -47,7 +48,7 @@ older_run setup newer past run = record { imports = run.imports; short = shorter
     shorter (x ∷ xs) h lt = shorter xs h (omega (arith, lt))
 
 -- entries of others leave the seat overtaken
-overtaken_on : (setup : Setup) (newer h : List Entry) (node : List ℕ) (seat : ℕ) → own seat (newer ++ h) ≡ own seat h → WasOvertaken setup h node seat → WasOvertaken setup (newer ++ h) node seat
+pub overtaken_on : (setup : Setup) (newer h : List Entry) (node : List ℕ) (seat : ℕ) → own seat (newer ++ h) ≡ own seat h → WasOvertaken setup h node seat → WasOvertaken setup (newer ++ h) node seat
 overtaken_on setup newer h node seat same was = record { epoch = was.epoch; told = ap (last_epoch node) same ∙ was.told; before = later newer }
   where
     later : (es : List Entry) → was.epoch < epoch_now setup (es ++ h) node
@@ -154,11 +155,6 @@ apart seat seats differ i other at is = let same = differ (suc i) 0 seat (at ∙
 -- so none of them stands among the others
 pub not_again : (seat : ℕ) (seats : List ℕ) → Differ (seat ∷ seats) → IsOneOf seats seat → ⊥
 not_again seat seats differ = not_among seat seats (λ i at. apart seat seats differ i seat at refl)
-
-seat_there : (ds : List Drainer) (place : ℕ) (d : Drainer) → slice_get ds place ≡ Some d → slice_get (seats_of ds) place ≡ Some d.seat
-seat_there [] place d at = none_some at
-seat_there (x ∷ xs) zero d at = ap Some (ap (λ (y : Drainer). y.seat) (one x d at))
-seat_there (x ∷ xs) (suc place) d at = seat_there xs place d at
 
 module _ (setup : Setup) (lets : Lets) (past : List Entry) (left : ℕ) (run : IsRunOf setup past) where
   round_silent : (ds : List Drainer) (h : List Entry) (b : ℕ) (after : List Drainer) (whole : Bool) → IsRound lets past left ds h b after whole

@@ -1,6 +1,6 @@
 -- A key that the actor has not seen is told in the pass, by a list or by events, and waits then: whatever its own calls tell.
 use Rattle.std.proofs.Common.{◌≡◌, ◌∙◌, ◌⊎◌, ℕ, ◌+◌, ◌-◌, ◌≤◌, ◌<◌, List, [], ◌∷◌, Bool, true, false, true≢false, Option, Some, None, inl, inr, refl, sym, ap, subst, arith, if◌then◌else◌}
-use Rattle.std.specs.Prelude.{◌==◌, ◌&&◌, ◌||◌, cond, filter, length, map, nat_lt, not, option_map}
+use Rattle.std.specs.Prelude.{◌==◌, ◌&&◌, ◌||◌, length, map, nat_lt, not, option_map}
 use Rattle.std.specs.List.{list_any}
 use Rattle.std.proofs.lemmas.Bool.{and_from}
 use Rattle.std.proofs.lemmas.Bool.Decides.{nat_tests}
@@ -70,6 +70,7 @@ use Rattle.settle_calls.proofs.Events.Events.{told_or_later, told_so}
 use Rattle.settle_calls.specs.Passes.Passes.{IsCallGiven}
 use Rattle.settle_progress.proofs.Wakes.Wakes.{LastsWhereWaiting, StaysKept}
 use Rattle.settle_calls.proofs.Passes.Given.{FindsGone, GivenSo, GivesRead, GivesStart, GivesTask, IsTold, Lists, Reads, from_same, given_so, read_called, start_called, task_called}
+use Rattle.model_laws.proofs.Readings.{filter_keeps as in_kind}
 
 -- the kind of the key has not been read as far as the key's last change
 abbrev pub IsUntold : Setup → ℕ → List Entry → Key → Type 0
@@ -140,15 +141,6 @@ among_events key y (x ∷ xs) (inr more) e = by (same_key key (key_of x.object))
     by : (b : Bool) → list_any (same_key key) (map (λ (z : Event). key_of z.object) xs) ≡ true → (b || list_any (same_key key) (map (λ (z : Event). key_of z.object) xs)) ≡ true
     by true h = refl
     by false h = h
-
-in_kind : (p : Object → Bool) (o : Object) (os : List Object) → IsIn o os → p o ≡ true → IsIn o (filter p os)
-in_kind p o [] i e = absurd i
-in_kind p o (x ∷ xs) (inl is) e = let h : p x ≡ true = ap p is ∙ e in rw h (inl is)
-in_kind p o (x ∷ xs) (inr more) e = by (p x) (in_kind p o xs more e)
-  where
-    by : (b : Bool) → IsIn o (filter p xs) → IsIn o (cond b (x ∷ filter p xs) (filter p xs))
-    by true i = inr i
-    by false i = i
 
 -- a pass goes on by one kind at most, past the one that it watches
 pass_further : (pass : Pass) (passes : Bool) (request : Request) (reply : Reply) → ((pass_after pass passes request reply).behind ≡ pass.behind)

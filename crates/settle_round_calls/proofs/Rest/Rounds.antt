@@ -29,7 +29,7 @@ use Rattle.settle_calls.proofs.Events.Sums.{div_less, mul_less}
 use Rattle.settle_calls.specs.Slots.Slots.{writes_since}
 use Rattle.settle_calls.proofs.Slots.HeldCalls.{reads_pass}
 use Rattle.settle_write_counts.proofs.Passed.Slots.{passed_schedulers_write_little}
-use Rattle.settle_pays.proofs.Pays.Slots.{older_run}
+use Rattle.settle_progress.proofs.Epochs.Silent.{older_run}
 use Rattle.settle_write_counts.proofs.Rounds.Runs.{silent_run}
 use Rattle.settle_write_counts.proofs.Rounds.Slots.{counted, schedulers_select_few}
 use Rattle.settle_write_counts.specs.Ops.Ops.{ops_writes}

@@ -1,17 +1,15 @@
 -- A call of the devices: a Provision adds nothing to do, and an Erase may take the data of one claim.
-use Rattle.std.proofs.Common.{◌≡◌, ◌∙◌, ◌⊎◌, ℕ, ◌+◌, ◌≤◌, ◌<◌, ◌^◌, List, [], Bool, true, false, Some, inl, inr, refl, ap, subst, arith, if◌then◌else◌}
-use Rattle.std.specs.Prelude.{bytes_eq, cond, ◌&&◌}
+use Rattle.std.proofs.Common.{◌≡◌, ◌∙◌, ◌⊎◌, ℕ, ◌+◌, ◌≤◌, ◌<◌, ◌^◌, List, [], Bool, true, false, Some, inl, inr, refl, ap, arith, if◌then◌else◌}
+use Rattle.std.specs.Prelude.{bytes_eq, ◌&&◌}
 use Rattle.std.specs.List.{list_any}
 use Rattle.kube_objects.specs.declared.objects.DataId.{DataId}
 use Rattle.kube_objects.specs.declared.objects.Object.{Object}
 use Rattle.kube_objects.specs.declared.objects.Object.TheVariants.{Class, Node, Volume, Claim, Pod}
 use Rattle.kube_objects.specs.Keys.{AreRows}
 use Rattle.kube_objects.specs.Sources.{data_id_of}
-use Rattle.call_types.specs.declared.reply.Refusal.TheVariants.{BackFault}
-use Rattle.call_types.specs.declared.reply.Reply.TheVariants.{Refused}
 use Rattle.call_types.specs.declared.request.Request.TheVariants.{Erase}
 use Rattle.call_types.specs.declared.setup.Setup.{Setup}
-use Rattle.binder_model.specs.Devices.{DeviceAnswer, Devices, after_call, data_after_erase, device_answer, erase, has_data, has_id, is_planned, unless_planned}
+use Rattle.binder_model.specs.Devices.{DeviceAnswer, Devices, data_after_erase, device_answer, has_data, has_id}
 use Rattle.binder_model.specs.World.{World}
 use Rattle.model_laws.proofs.Lists.{IsIn, one}
 use Rattle.settle_measure.specs.Left.Lowers.{with_devices}
@@ -24,23 +22,12 @@ use Rattle.settle_measure.proofs.Upkeep.Provisions.{all_provision}
 use Rattle.settle_measure.proofs.Left.Aside.{devices_total}
 use Rattle.settle_pays.proofs.Actors.Erasing.{HaveOwnNames, owner}
 use Rattle.settle_pays.proofs.Actors.Ids.{AreFew, IsAlone, alone}
+use Rattle.settle_measure.proofs.Upkeep.Erasing.{erasure_is}
 
 -- the data of the id were erased, or the call failed as planned
 record IsErasure (d : Devices) (id : DataId) (a : DeviceAnswer) : Type 0 where
   stored : (a.devices.stored ≡ d.stored) ⊎ (a.devices.stored ≡ data_after_erase id d.stored)
   mounts : a.devices.mounts ≡ d.mounts
-
-erasure_form : (setup : Setup) (d : Devices) (id : DataId) → IsErasure d id (unless_planned setup d (erase d id))
-unfolding unless_planned erase
-erasure_form setup d id = by (is_planned (d.calls + 1) setup.faults)
-  where
-    by : (p : Bool) → IsErasure d id (cond p (after_call d (Refused (BackFault (d.calls + 1)))) (erase d id))
-    by true = record { stored = inl refl; mounts = refl }
-    by false = record { stored = inr refl; mounts = refl }
-
-erasure_is : (setup : Setup) (d : Devices) (id : DataId) (a : DeviceAnswer) → device_answer setup d (Erase id) ≡ Some a → IsErasure d id a
-unfolding device_answer
-erasure_is setup d id a e = subst (IsErasure d id) (one _ a e) (erasure_form setup d id)
 
 module _ (setup : Setup) (w : World) (id : DataId) (a : DeviceAnswer) (order : AreRows w.store.rows) (names : HaveOwnNames w.store.rows) where
   -- data of one name went

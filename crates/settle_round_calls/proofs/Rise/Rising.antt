@@ -31,7 +31,7 @@ use Rattle.settle_measure.proofs.Left.Faults.{calls_stay}
 use Rattle.settle_measure.proofs.Upkeep.Provisions.{provision_stays}
 use Rattle.worker_core.specs.Roles.{IsBuiltKind}
 use Rattle.settle_pays.proofs.Pays.Calls.{calls_rise}
-use Rattle.settle_pays.proofs.Pays.Slots.{older_run}
+use Rattle.settle_progress.proofs.Epochs.Silent.{older_run}
 use Rattle.settle_pays.specs.Actors.Reclaiming.{UidsFit}
 use Rattle.settle_pays.proofs.Actors.Ids.{data_are_few}
 use Rattle.settle_pays.proofs.Actors.Reclaiming.{own_names}

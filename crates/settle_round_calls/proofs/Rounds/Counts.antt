@@ -30,7 +30,7 @@ use Rattle.actor_rounds.specs.Rounds.{Lets, Runs, told_entry}
 use Rattle.settle_calls.proofs.Events.Rows.{put_total, without_total}
 use Rattle.settle_writes.proofs.Done.Doing.{write_asked}
 use Rattle.settle_calls.specs.Slots.Rounds.{names_in}
-use Rattle.settle_pays.proofs.Pays.Slots.{older_run}
+use Rattle.settle_progress.proofs.Epochs.Silent.{older_run}
 use Rattle.settle_write_counts.specs.Rounds.Rounds.{pod_size}
 use Rattle.settle_write_counts.proofs.Rounds.Growth.{Comes, IsFor, IsOver, of_pod}
 use Rattle.settle_write_counts.proofs.Rounds.Made.{comes, is_create, volume_created}

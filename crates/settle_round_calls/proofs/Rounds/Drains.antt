@@ -10,7 +10,7 @@ use Rattle.actor_rounds.proofs.RoundFacts.{round_part, round_seats, same_length}
 use Rattle.settle_slot.specs.Slot.Gates.{HoldsMountsAlone}
 use Rattle.settle_progress.specs.Drains.Settling.{MayDrain}
 use Rattle.settle_progress.proofs.Drains.Leaving.{rounds_leave_drainers}
-use Rattle.settle_pays.proofs.Pays.Slots.{older_run}
+use Rattle.settle_progress.proofs.Epochs.Silent.{older_run}
 use Rattle.settle_pays.specs.Drains.All.{ImportsAllow}
 use Rattle.settle_budget.specs.Drains.Budget.{AreAlwaysInOrder}
 use Rattle.settle_round_calls.specs.Rest.ShortRounds.{EachRoundIsShort}

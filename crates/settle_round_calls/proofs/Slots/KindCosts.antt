@@ -27,6 +27,7 @@ use Rattle.settle_write_counts.proofs.Rounds.Growth.{ByNothing, ByOld, BySpare, 
 use Rattle.settle_write_counts.proofs.Rounds.Sums.{one_more}
 use Rattle.settle_round_calls.specs.Slots.Costs.{made_calls, own_calls}
 use Rattle.settle_round_calls.proofs.Slots.RoundCosts.{AreKept, any_kind, cost_by, cost_in, cost_or, fresh_cost, is_fresh, is_now, most, now_cost, of_volume, own_same, picked, stood_cost}
+use Rattle.settle_measure.proofs.Left.Sums.{total_sum as total_plus}
 
 -- ---- sums over keys
 
@@ -73,10 +74,6 @@ volume_kind kinds.Pod e = absurd (omega (arith, e))
 no_total : (f : Object → ℕ) (rows : List Object) → ((o : Object) → f o ≤ 0) → total f rows ≤ 0
 no_total f [] each = omega arith
 no_total f (o ∷ os) each = let a = each o in let rest = no_total f os each in omega (arith, a, rest)
-
-total_plus : (f g : Object → ℕ) (rows : List Object) → total (λ o. f o + g o) rows ≡ total f rows + total g rows
-total_plus f g [] = omega arith
-total_plus f g (o ∷ os) = let rest = total_plus f g os in omega (arith, rest)
 
 -- the sum over the kinds may be taken first, or that over the objects
 by_kinds : (kind : SeatKind) (ks : List Kind) (rows : List Object) → total (λ o. sum_over (λ k. picked kind k o) ks) rows ≡ sum_over (λ k. total (picked kind k) rows) ks

@@ -55,20 +55,9 @@ use Rattle.settle_calls.specs.Tasks.Ends.{done_by}
 use Rattle.settle_calls.specs.Tasks.Tasks.{claim_guard_left, erase_left, machine_left, provision_left, schedule_left, task_left, under_left, volume_guard_left}
 use Rattle.settle_calls.proofs.Tasks.Tasks.{under_goes}
 use Rattle.settle_round_calls.specs.UnderWay.Reads.{LeftoverCallsEnd, LeftoversAreFew, calls_left, names_of, reads_left, under_calls, unread, unread_in}
+use Rattle.settle_writes.proofs.Writes.Valid.{named_last as named_more}
 
 -- the names
-
-named_more : (n name : List ℕ) (names : List (List ℕ)) → has_name n (names ++ name ∷ []) ≡ (has_name n names || bytes_eq name n)
-named_more n name [] = by (bytes_eq name n)
-  where
-    by : (b : Bool) → (b || false) ≡ b
-    by true = refl
-    by false = refl
-named_more n name (x ∷ xs) = by (bytes_eq x n) (named_more n name xs)
-  where
-    by : (b : Bool) → has_name n (xs ++ name ∷ []) ≡ (has_name n xs || bytes_eq name n) → (b || has_name n (xs ++ name ∷ [])) ≡ ((b || has_name n xs) || bytes_eq name n)
-    by true h = refl
-    by false h = h
 
 ready_named : (name : List ℕ) (ready : List ReadyClaim) → has_name name (names_of ready) ≡ is_claim_read name ready
 ready_named name [] = refl

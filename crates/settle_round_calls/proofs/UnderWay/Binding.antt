@@ -1,6 +1,6 @@
 -- A binding has four writes: each that is done leaves fewer.
 use Rattle.std.proofs.Common.{◌≡◌, ◌∙◌, ℕ, ◌+◌, ◌≤◌, List, [], ◌∷◌, Bool, true, false, true≢false, Option, Some, None, refl, sym, ap, subst, arith, if◌then◌else◌}
-use Rattle.std.specs.Prelude.{◌&&◌, ◌||◌, bytes_eq, is_none, is_some, not}
+use Rattle.std.specs.Prelude.{◌&&◌, ◌||◌, bytes_eq, is_none, is_some}
 use Rattle.std.proofs.lemmas.Bool.{and_from}
 use Rattle.std.proofs.lemmas.Slice.Eq.{bytes_eq-Decides}
 use Rattle.kube_parts.specs.declared.uid.Uid.{Uid}
@@ -11,7 +11,7 @@ use Rattle.kube_objects.specs.declared.objects.Ref.{Ref}
 use Rattle.kube_objects.specs.declared.objects.Volume.{Volume as VolumeData}
 use Rattle.kube_objects.specs.declared.objects.Object.{Object}
 use Rattle.kube_objects.specs.declared.objects.Object.TheVariants.{Class, Node, Volume, Claim, Pod}
-use Rattle.kube_objects.specs.Bindings.{bind_completed, bound_by_controller, carries, is_bound, is_completed, is_empty, is_ended, is_for, is_protected_volume, refers_carrying, yes}
+use Rattle.kube_objects.specs.Bindings.{bind_completed, bound_by_controller, carries, is_bound, is_completed, is_empty, is_for, refers_carrying, yes}
 use Rattle.kube_objects.specs.Keys.{key_of}
 use Rattle.call_types.specs.declared.entry.Entry.{Entry}
 use Rattle.call_types.specs.declared.reply.Reply.TheVariants as replies
@@ -20,20 +20,7 @@ use Rattle.call_types.specs.declared.request.NewStatus.TheVariants as statuses
 use Rattle.call_types.specs.declared.request.SeatKind.{SeatKind}
 use Rattle.call_types.specs.declared.setup.Setup.{Setup}
 use Rattle.binder_model.specs.Answers.{with_status}
-use Rattle.binder_model.specs.BindWrites.{
-  annotated_meta_if,
-  claim_write,
-  completed_with,
-  is_completed_with,
-  next_write,
-  ref_to,
-  shows_bound,
-  taken_for,
-  write_bound,
-  write_claim_status,
-  write_completion,
-  write_reference,
-}
+use Rattle.binder_model.specs.BindWrites.{annotated_meta_if, completed_with, is_completed_with, next_write, ref_to, shows_bound, taken_for, write_bound, write_claim_status, write_completion, write_reference}
 use Rattle.binder_model.specs.ObjectKeys.{claim_key, volume_key}
 use Rattle.binder_model.specs.Same.{same_amount, same_modes}
 use Rattle.binder_model.specs.Store.{at_version, updated_object, with_meta, with_status_of}
@@ -54,33 +41,8 @@ use Rattle.settle_measure.proofs.Binding.Stages.{phased}
 use Rattle.settle_measure.proofs.Left.Words.{annotated_name, annotated_namespace, carries_alike, value_put}
 use Rattle.settle_writes.proofs.Done.Doing.{stands_it}
 use Rattle.settle_calls.specs.Tasks.Ends.{done_by}
+use Rattle.settle_pays.proofs.Actors.Binding.{First, Fourth, Second, Stage, Third, stage}
 use Rattle.settle_round_calls.proofs.UnderWay.Counts.{binds_left, machine_if}
-
--- ---- which of the four writes is next
-
-data Stage (v : VolumeData) (c : ClaimData) (call : Request) : Type 0 where
-  First : carries v c ≡ false → call ≡ write_reference v c → Stage v c call
-  Second : carries v c ≡ true → is_bound v.phase ≡ false → call ≡ write_bound v → Stage v c call
-  Third : carries v c ≡ true → is_bound v.phase ≡ true → is_completed_with c v ≡ false → call ≡ write_completion v c → Stage v c call
-  Fourth : carries v c ≡ true → is_bound v.phase ≡ true → is_completed_with c v ≡ true → shows_bound c v ≡ false → call ≡ write_claim_status v c → Stage v c call
-
-stage : (v : VolumeData) (c : ClaimData) (call : Request) → next_write v c ≡ Some call → Stage v c call
-unfolding next_write claim_write
-stage v c call e = by (carries v c) (is_ended v.phase) (is_bound v.phase) (is_protected_volume v) (is_completed_with c v) (shows_bound c v) refl refl refl refl e
-  where
-    by : (carrying ended bound guarded completed shown : Bool) → carries v c ≡ carrying → is_bound v.phase ≡ bound → is_completed_with c v ≡ completed → shows_bound c v ≡ shown
-        → (if not carrying then (if ended then None else Some (write_reference v c)) else if not bound then
-        (if ended || not guarded then None else Some (write_bound v)) else if not completed then Some
-        (write_completion v c) else if not shown then Some (write_claim_status v c) else None) ≡ Some call
-        → Stage v c call
-    by false true bound guarded completed shown ec eb ed es n = none_some n
-    by false false bound guarded completed shown ec eb ed es n = First ec (sym (one _ call n))
-    by true true false guarded completed shown ec eb ed es n = none_some n
-    by true false false false completed shown ec eb ed es n = none_some n
-    by true false false true completed shown ec eb ed es n = Second ec eb (sym (one _ call n))
-    by true ended true guarded false shown ec eb ed es n = Third ec eb ed (sym (one _ call n))
-    by true ended true guarded true false ec eb ed es n = Fourth ec eb ed es (sym (one _ call n))
-    by true ended true guarded true true ec eb ed es n = none_some n
 
 -- the claim has a UID, and the volume no namespace
 record IsNextOf (v : VolumeData) (c : ClaimData) (call : Request) : Type 0 where
@@ -315,8 +277,8 @@ module _ (setup : Setup) (seat : ℕ) (h : List Entry) (history : IsHistory setu
   binds_wrote call e = let x = next_of v c call e in by x.uid x.has x.bare x.at
     where
       by : (uid : Uid) → c.meta.uid ≡ Some uid → v.meta.namespace ≡ [] → Stage v c call → Fewer call
-      by uid has bare (First a is) = subst Fewer (sym is) (first uid has a)
-      by uid has bare (Second a b is) = subst Fewer (sym is) (second bare a b)
+      by uid has bare (First a open is) = subst Fewer (sym is) (first uid has a)
+      by uid has bare (Second a b open is) = subst Fewer (sym is) (second bare a b)
       by uid has bare (Third a b d is) = subst Fewer (sym is) (third a b d)
       by uid has bare (Fourth a b d g is) = subst Fewer (sym is) (fourth a b d g)
 
@@ -325,8 +287,8 @@ pub binds_some : (v : VolumeData) (c : ClaimData) (call : Request) → call_of (
 binds_some v c call e = by (next_of v c call e).at
   where
     by : Stage v c call → 1 ≤ binds_left v c
-    by (First a is) = let all = is_four (carries v c) (is_bound v.phase) (is_completed_with c v) (shows_bound c v) a in omega (arith, all)
-    by (Second a b is) = let all = is_three (carries v c) (is_bound v.phase) (is_completed_with c v) (shows_bound c v) a b in omega (arith, all)
+    by (First a open is) = let all = is_four (carries v c) (is_bound v.phase) (is_completed_with c v) (shows_bound c v) a in omega (arith, all)
+    by (Second a b open is) = let all = is_three (carries v c) (is_bound v.phase) (is_completed_with c v) (shows_bound c v) a b in omega (arith, all)
     by (Third a b d is) = let all = is_two (carries v c) (is_bound v.phase) (is_completed_with c v) (shows_bound c v) a b d in omega (arith, all)
     by (Fourth a b d g is) = let all = is_one (carries v c) (is_bound v.phase) (is_completed_with c v) (shows_bound c v) a b d g in omega (arith, all)
 
@@ -334,7 +296,7 @@ pub binds_done : (v : VolumeData) (c : ClaimData) (call : Request) (o : Object) 
 binds_done v c call o e = by (next_of v c call e).at
   where
     by : Stage v c call → done_by call (replies.Done o) ≡ 1
-    by (First a is) = ap (λ r. done_by r (replies.Done o)) is
-    by (Second a b is) = ap (λ r. done_by r (replies.Done o)) is
+    by (First a open is) = ap (λ r. done_by r (replies.Done o)) is
+    by (Second a b open is) = ap (λ r. done_by r (replies.Done o)) is
     by (Third a b d is) = ap (λ r. done_by r (replies.Done o)) is
     by (Fourth a b d g is) = ap (λ r. done_by r (replies.Done o)) is

@@ -1,8 +1,7 @@
 -- What a scheduler has under way writes each object once, at the version that was told.
 use Rattle.std.proofs.Common.{◌≡◌, ◌∙◌, ℕ, zero, suc, ◌+◌, ◌≤◌, ◌<◌, List, [], ◌∷◌, drop, length, Bool, true, false, true≢false, Option, Some, None, refl, sym, ap, subst, arith, if◌then◌else◌}
-use Rattle.std.specs.Prelude.{◌==◌, ◌&&◌, nat_lt, option_map, slice_get, ⊤}
+use Rattle.std.specs.Prelude.{◌&&◌, nat_lt, option_map, slice_get, ⊤}
 use Rattle.std.specs.List.{AllByRecursion}
-use Rattle.std.proofs.lemmas.Bool.{not-false}
 use Rattle.std.proofs.lemmas.Bool.Decides.{nat_tests}
 use Rattle.kube_objects.specs.declared.key.Key.{Key}
 use Rattle.kube_parts.specs.declared.parts.Kind.{Kind}
@@ -21,7 +20,6 @@ use Rattle.call_types.specs.declared.request.Request.TheVariants as requests
 use Rattle.call_types.specs.declared.request.SeatKind.{SeatKind}
 use Rattle.call_types.specs.declared.request.SeatKind.TheVariants as seats
 use Rattle.call_types.specs.declared.setup.Setup.{Setup}
-use Rattle.binder_model.specs.Answers.{is_other_version}
 use Rattle.binder_model.specs.At.{IsWrittenAt}
 use Rattle.binder_model.specs.BinderLicence.{MayTake}
 use Rattle.binder_model.specs.Licence.{RowAllows}
@@ -51,6 +49,7 @@ use Rattle.worker_core.specs.Tasks.{task_call, task_moved, under_after, with_cal
 use Rattle.settle_writes.proofs.Done.Doing.{told_one}
 use Rattle.settle_round_calls.specs.UnderWay.Ends.{volume_write}
 use Rattle.settle_round_calls.proofs.UnderWay.Counts.{low_claim, low_volume, task_volumes, task_writes, under_by, with_few, with_none}
+use Rattle.safety_law.proofs.Invariant.StandsAt.{same_version}
 
 -- ---- writes at versions no greater than one
 
@@ -196,9 +195,6 @@ module _ (base : ℕ) where
       by (Some t) o e = of t (task_call t) o e
 
 -- ---- what a write leaves
-
-same_version : (told now : ℕ) → is_other_version (Some told) now ≡ false → now ≡ told
-same_version told now v = let t : (told == now) ≡ true = not-false (told == now) v in grind (arith, nat_tests)
 
 abbrev is_volume_kind : Kind → Bool
 is_volume_kind kinds.PersistentVolume = true

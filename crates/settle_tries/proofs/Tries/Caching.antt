@@ -30,7 +30,7 @@ use Rattle.settle_tries.proofs.Tries.Standing.{MakeNone, StandsIn, makes, round_
 use Rattle.settle_tries.proofs.Tries.Parts.{HasParts, parts_of, roles_behind}
 use Rattle.settle_tries.specs.Tries.Quiet.{RoundsCache, decides_kind}
 use Rattle.settle_alike.proofs.Alike.Rows.{get_mapped}
-use Rattle.settle_pays.proofs.Pays.Slots.{older_run}
+use Rattle.settle_progress.proofs.Epochs.Silent.{older_run}
 use Rattle.settle_slot.proofs.Slot.Slots.{others_stay_awake}
 use Rattle.actor_rounds.proofs.RunFacts.{run_role}
 use Rattle.actor_rounds.proofs.RoundFacts.{round_grows, round_roles}

@@ -133,7 +133,3 @@ roles_have nodes (suc (suc zero)) node at = no_agent seats.Binder node refl at
 roles_have nodes (suc (suc (suc zero))) node at = no_agent seats.ClaimProtect node refl at
 roles_have nodes (suc (suc (suc (suc zero)))) node at = no_agent seats.VolumeProtect node refl at
 roles_have nodes (suc (suc (suc (suc (suc place))))) node at = agents_have nodes place node at
-
-pub mapped_length : {X Y : Type 0} (f : X → Y) (xs : List X) → length (map f xs) ≡ length xs
-mapped_length f [] = refl
-mapped_length f (x ∷ xs) = let rest = mapped_length f xs in omega (arith, rest)

@@ -9,7 +9,7 @@ use Rattle.kube_parts.specs.declared.uid.Uid.{Uid}
 use Rattle.kube_parts.specs.declared.names.Due.TheVariants as dues
 use Rattle.kube_objects.specs.declared.objects.Claim.{Claim as ClaimData}
 use Rattle.kube_objects.specs.declared.objects.Object.{Object}
-use Rattle.kube_objects.specs.declared.objects.Object.TheVariants.{Class, Node, Volume, Claim, Pod}
+use Rattle.kube_objects.specs.declared.objects.Object.TheVariants.{Node, Claim, Pod}
 use Rattle.kube_objects.specs.declared.objects.Node.{Node as NodeData}
 use Rattle.kube_objects.specs.declared.objects.Pod.{Pod as PodData}
 use Rattle.kube_parts.specs.declared.parts.Kind.TheVariants as kinds
@@ -23,23 +23,7 @@ use Rattle.call_types.specs.declared.request.SeatKind.TheVariants as seats
 use Rattle.call_types.specs.declared.reply.Reply.{Reply}
 use Rattle.call_types.specs.declared.reply.Reply.TheVariants.{Done}
 use Rattle.call_types.specs.declared.setup.Setup.{Setup}
-use Rattle.binder_model.specs.Choice.{
-  GoesNowhere,
-  Searches,
-  Waits,
-  are_completed,
-  assigned_node,
-  claim_in,
-  claim_named,
-  claims_of,
-  first_taking,
-  has_carrier,
-  is_other,
-  is_served_elsewhere,
-  is_under_way,
-  lacks_claim,
-  step_of,
-}
+use Rattle.binder_model.specs.Choice.{GoesNowhere, Searches, Waits, are_completed, assigned_node, claim_in, claim_named, claims_of, first_taking, has_carrier, is_other, is_served_elsewhere, is_under_way, lacks_claim, step_of}
 use Rattle.binder_model.specs.Due.{IsDue}
 use Rattle.binder_model.specs.ObjectKeys.{claim_key}
 use Rattle.binder_model.specs.At.{HasUid}
@@ -48,7 +32,7 @@ use Rattle.binder_model.specs.Reading.{follows, following_of}
 use Rattle.binder_model.specs.Told.{SomeOf, ToldObject, newest, object_of, objects_in, own}
 use Rattle.binder_model.specs.World.{IsHistory, effect, reply_to, world, world_after}
 use Rattle.model_laws.proofs.Growing.{runs_are_histories}
-use Rattle.model_laws.proofs.Lists.{IsIn, none_some, one}
+use Rattle.model_laws.proofs.Lists.{IsIn, one}
 use Rattle.model_laws.proofs.Newest.{newest_told}
 use Rattle.model_laws.proofs.Replies.{done_stands}
 use Rattle.model_laws.specs.Stood.{Stood}
@@ -92,8 +76,11 @@ use Rattle.settle_tries.proofs.Tries.Aside.{keeps, slot_so}
 use Rattle.settle_tries.proofs.Tries.Near.{other_near}
 use Rattle.settle_tries.proofs.Tries.Reaching.{AllLate, HaveLate, TellsLate, late_at, slot_late, slot_reaches}
 use Rattle.settle_tries.proofs.Tries.Slot.{first_kind, own_same, point_run, slot_ahead, slot_behind, slot_run, slot_stands, slot_told, slot_within}
-use Rattle.settle_tries.proofs.Tries.Selected.{older_history}
-use Rattle.settle_tries.proofs.Tries.Told.{Passes, done_version, run_holds, sees_node, stood_grows, stood_where, tried_back}
+use Rattle.settle_slot.proofs.Slot.Slots.{older as older_history}
+use Rattle.settle_tries.proofs.Tries.Told.{Passes, done_version, run_holds, sees_node, stood_where, tried_back}
+use Rattle.settle_budget.proofs.Drains.Static.{stood_still as stood_grows}
+use Rattle.delayed_binding.proofs.Known.{claim_of_row as row_of_claim}
+use Rattle.safety_law.proofs.Invariant.Tests.{uid_is as uid_found}
 
 -- ---- the claims of a pod
 
@@ -103,18 +90,6 @@ pub record ClaimsUid (rows : List Object) (p : PodData) (uid : Uid) : Type 0 whe
   pub claim : ClaimData
   pub there : row_at (claim_key p.meta.namespace name) rows ≡ Some (Claim claim)
   pub known : claim.meta.uid ≡ Some uid
-
-row_of_claim : (o : Option Object) (c : ClaimData) → claim_in o ≡ Some c → o ≡ Some (Claim c)
-row_of_claim (Some (Claim d)) c e = ap (λ x. Some (Claim x)) (one d c e)
-row_of_claim (Some (Class x)) c e = none_some e
-row_of_claim (Some (Node x)) c e = none_some e
-row_of_claim (Some (Volume x)) c e = none_some e
-row_of_claim (Some (Pod x)) c e = none_some e
-row_of_claim None c e = none_some e
-
-uid_found : (known : Option Uid) (uid : Uid) → is_uid known uid ≡ true → known ≡ Some uid
-uid_found None uid e = absurd (true≢false (sym e))
-uid_found (Some v) uid e = ap (λ n. Some (record { 0 = n })) ((Decides-eqb v.0 uid.0).0 e)
 
 module _ (rows : List Object) (p : PodData) (uid : Uid) where
   abbrev is_it : List ℕ → Bool

@@ -17,6 +17,7 @@ use Rattle.pod_scheduler.specs.declared.tries.Tries.{Tries}
 use Rattle.pod_scheduler.specs.Decisions.{is_tried_for, last_refused}
 use Rattle.pod_scheduler.specs.Tries.{is_try_of, is_refusal, node_selected_for, refuse_if, refused_in, see, see_all, see_claim, select, select_if, tried_of, without_tried}
 use Rattle.pod_scheduler.specs.TryLaw.{Selecting}
+use Rattle.pod_scheduler.proofs.Tried.{select_refused}
 
 -- ---- what is found
 
@@ -173,15 +174,6 @@ select_finds (Update (Claim asked) given) (Done (Claim c)) m uid t e = by c.meta
     by (Some u) None known on e = inl e
     by None n known on e = inl e
 select_finds _ _ m uid t e = inl e
-
-pub select_refused : (request : Request) (reply : Reply) (m : Tries) → (select_if request reply m).refused ≡ m.refused
-select_refused (Update (Claim asked) given) (Done (Claim c)) m = by c.meta.uid (node_selected_for c)
-  where
-    by : (u : Option Uid) (n : Option (List ℕ)) → (select u n c m).refused ≡ m.refused
-    by (Some uid) (Some node) = refl
-    by (Some uid) None = refl
-    by None n = refl
-select_refused _ _ m = refl
 
 -- of each claim something stands selected still
 abbrev pub Stands : Uid → Tries → Type 0

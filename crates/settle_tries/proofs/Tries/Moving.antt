@@ -49,7 +49,7 @@ use Rattle.settle_alike.proofs.Alike.Calls.{LastsOrAlike, calls_last_or_leave_al
 use Rattle.settle_alike.proofs.Alike.Rows.{row_plain}
 use Rattle.settle_pays.specs.Pays.Pays.{AllPay, HavePaid, Pays, worth}
 use Rattle.settle_pays.proofs.Pays.Entries.{paid_is_less}
-use Rattle.settle_pays.proofs.Pays.Slots.{older_run}
+use Rattle.settle_progress.proofs.Epochs.Silent.{older_run}
 use Rattle.settle_pays.proofs.Actors.Standing.{none_has_left}
 use Rattle.settle_write_counts.specs.Rounds.Counts.{AnnotationsAreInOrder}
 use Rattle.settle_budget.specs.Drains.Budget.{AreAlwaysInOrder}

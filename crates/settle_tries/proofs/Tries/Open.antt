@@ -1,6 +1,6 @@
 -- The claims of a pod: those that are not under way, and those that still need a volume.
 use Rattle.std.proofs.Common.{◌≡◌, ◌∙◌, ℕ, List, [], ◌∷◌, Bool, true, false, true≢false, Option, Some, None, inl, inr, refl, sym, ap, subst, filter_map, if◌then◌else◌}
-use Rattle.std.specs.Prelude.{◌&&◌, ◌||◌, cond, filter}
+use Rattle.std.specs.Prelude.{◌&&◌, ◌||◌, filter}
 use Rattle.std.specs.List.{cons_option, list_all, list_any}
 use Rattle.std.specs.Ordering.{is_gt}
 use Rattle.std.proofs.lemmas.Bool.{and_parts, or_parts}
@@ -16,6 +16,7 @@ use Rattle.binder_model.specs.Told.{SomeOf}
 use Rattle.model_laws.proofs.Lists.{IsIn}
 use Rattle.delayed_binding.proofs.Known.{Each, claim_of_row}
 use Rattle.settle_due.proofs.Scheduling.Fewer.{in_passing}
+use Rattle.delayed_binding.proofs.Known.{each_filter}
 
 -- ---- lists
 
@@ -33,14 +34,6 @@ pub any_at : {X : Type 0} (f : X → Bool) (x : X) (xs : List X) → list_any f 
 any_at f x [] none there = absurd there
 any_at f x (y ∷ ys) none (inl is) = ap f (sym is) ∙ (or_parts (f y) (list_any f ys) none).0
 any_at f x (y ∷ ys) none (inr more) = any_at f x ys (or_parts (f y) (list_any f ys) none).1 more
-
-each_filter : {X : Type 0} (P : X → Type 0) (f : X → Bool) (xs : List X) → Each P xs → Each P (filter f xs)
-each_filter P f [] each = tt
-each_filter P f (x ∷ xs) each = by (f x) (each_filter P f xs each.1)
-  where
-    by : (b : Bool) → Each P (filter f xs) → Each P (cond b (x ∷ filter f xs) (filter f xs))
-    by true rest = (each.0, rest)
-    by false rest = rest
 
 -- ---- claims by their size
 

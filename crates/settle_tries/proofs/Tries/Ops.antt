@@ -84,13 +84,13 @@ use Rattle.settle_alike.proofs.Near.Near.{VolumeNear}
 use Rattle.settle_pays.proofs.Pays.Calls.{lasting_writes, stored_effect}
 use Rattle.settle_write_counts.proofs.Rounds.Nodes.{IsMoved}
 use Rattle.settle_write_counts.specs.Rounds.Counts.{AnnotationsAreInOrder}
-use Rattle.binder_model.specs.Answers.{Removes, Says, Stores, after, is_for_store}
-use Rattle.binder_model.specs.World.{OnDevices, OnStore, SetsMoment, reply_to, world_after}
+use Rattle.binder_model.specs.Answers.{after, is_for_store}
+use Rattle.binder_model.specs.World.{reply_to, world_after}
 use Rattle.worker_core.specs.declared.role.Role.{Role}
 use Rattle.std.specs.Prelude.{⊤}
-use Rattle.binder_model.specs.World.{Effect}
 use Rattle.settle_progress.proofs.Drains.Rounds.{is_agent, not_agent}
 use Rattle.settle_tries.proofs.Tries.Leading.{HasMore, goes_on, leads_keep, leads_more}
+use Rattle.settle_budget.proofs.Drains.Entries.{moves_by}
 
 -- ---- of a claim
 
@@ -333,15 +333,6 @@ delayed_class rows key e = by (row_at key rows) refl e
     by None at l = absurd (true≢false (sym l))
 
 -- ---- a node that was taken back is gone
-
--- what is written moves the rows
-moves_by : (w : World) (x : Effect) (o : Object) → written_by x ≡ Some o → IsMoved w.store.rows (world_after w x).store.rows o
-unfolding world_after after
-moves_by w (OnStore (Says reply)) o e = none_some e
-moves_by w (OnStore (Stores change p)) o e = subst (IsMoved w.store.rows (world_after w (OnStore (Stores change p))).store.rows) (one p o e) (inl refl)
-moves_by w (OnStore (Removes p)) o e = subst (IsMoved w.store.rows (world_after w (OnStore (Removes p))).store.rows) (one p o e) (inr refl)
-moves_by w (OnDevices a) o e = none_some e
-moves_by w (SetsMoment at) o e = none_some e
 
 module _ (setup : Setup) (e : Entry) (h : List Entry) (run : IsRunOf setup (e ∷ h)) (in_order : AnnotationsAreInOrder (world setup h))
     (kind : e.kind ≡ seats.Ops) (c : ClaimData) (call : e.request ≡ clear_call c) (lasts : Lasts setup (world setup h) e.kind e.request) where

@@ -16,7 +16,7 @@ use Rattle.worker_core.proofs.Answered.{turn_role}
 use Rattle.settle_pays.specs.Pays.Pays.{HavePaid, worth}
 use Rattle.settle_writes.specs.Writes.Lasting.{Lasts}
 use Rattle.settle_pays.proofs.Pays.Entries.{paid_is_less}
-use Rattle.settle_pays.proofs.Pays.Slots.{older_run}
+use Rattle.settle_progress.proofs.Epochs.Silent.{older_run}
 use Rattle.settle_budget.specs.Drains.Budget.{AreAlwaysInOrder}
 use Rattle.settle_alike.specs.Near.Near.{AreNear}
 use Rattle.settle_tries.specs.Tries.Deciding.{IsWithin}

@@ -42,21 +42,7 @@ use Rattle.settle_progress.specs.Epochs.Epochs.{IsCurrent}
 use Rattle.settle_progress.proofs.Epochs.Epochs.{run_stays}
 use Rattle.settle_progress.proofs.Epochs.Silent.{current_are_awake}
 use Rattle.settle_progress.specs.Agents.Rounds.{HasAwake}
-use Rattle.settle_progress.specs.Drains.Rounds.{
-  DueFor,
-  for_claim,
-  for_volume,
-  ForAgent,
-  ForBinder,
-  ForBinderOfClaims,
-  ForClaimProtection,
-  ForProvisioner,
-  ForReclaimer,
-  ForScheduler,
-  ForVolumeProtection,
-  HasCurrent,
-  doer_of,
-}
+use Rattle.settle_progress.specs.Drains.Rounds.{DueFor, for_claim, for_volume, ForAgent, ForBinder, ForBinderOfClaims, ForClaimProtection, ForProvisioner, ForReclaimer, ForScheduler, ForVolumeProtection, HasCurrent, doer_of}
 use Rattle.settle_progress.proofs.Drains.Doers.{due_is_for}
 use Rattle.settle_progress.proofs.Drains.Rounds.{HasRole, is_agent, not_agent, role_at}
 use Rattle.settle_pays.specs.Pays.Pays.{HavePaid, worth}
@@ -82,6 +68,7 @@ use Rattle.std.specs.Prelude.{map}
 use Rattle.std.proofs.Common.{if◌then◌else◌}
 use Rattle.settle_tries.proofs.Tries.Points.{IsQuietAt, near_ahead}
 use Rattle.settle_tries.proofs.Tries.Assigning.{no_assign}
+use Rattle.settle_progress.proofs.Drains.Drained.{no_agent as not_agents}
 
 -- ---- the entries behind ops are worth something where they last
 
@@ -205,9 +192,6 @@ not_claim dues.Unguard is = true≢false (sym (ap is_scheduler is))
 not_claim _ is = true≢false (sym (ap is_scheduler is))
 
 -- ---- an agent behind ops is no stale one
-
-not_agents : (kind : SeatKind) (node : List ℕ) → is_agent kind ≡ false → of_kind kind ≡ agent_of node → ⊥
-not_agents kind node plain same = true≢false (sym (ap (λ (r : Role). is_agent r.kind) same) ∙ plain)
 
 module _ (setup : Setup) (ds after : List Drainer) (h past : List Entry) (b left : ℕ) (q : IsQuietRound setup ds after h past b left) (p : HasParts all_pass past left ds h b after) where
   pub all_paid : HavePaid setup h past

@@ -37,7 +37,9 @@ use Rattle.pod_scheduler.specs.TryLaw.{Selecting}
 use Rattle.safety_law.specs.Invariant.Writes.{EffectOf, Writes}
 use Rattle.safety_law.proofs.Invariant.Effects.{effect_form}
 use Rattle.settle_tries.proofs.Tries.Memory.{Stands, all_stay, select_finds, select_stands, uid_same}
-use Rattle.settle_tries.proofs.Tries.Told.{IsPut, done_version, never_newer, row_step, stood_grows, stood_low}
+use Rattle.settle_tries.proofs.Tries.Told.{IsPut, done_version, never_newer, row_step, stood_low}
+use Rattle.settle_budget.proofs.Drains.Static.{stood_still as stood_grows}
+use Rattle.settle_slot.proofs.Slot.Slots.{older as older_history}
 
 -- ---- a claim that the scheduler wrote was updated
 
@@ -85,10 +87,6 @@ was_put setup k c (e ∷ newer) h at = elim (row_step setup e (newer ++ h) k (Cl
     | inr w ↦ inr (record { ahead = e ∷ w.ahead; entry = w.entry; behind = w.behind; are = ap (λ es. e ∷ es) w.are; put = w.put })
   ]
 ]
-
-pub older_history : (setup : Setup) (newer h : List Entry) → IsHistory setup (newer ++ h) → IsHistory setup h
-older_history setup [] h x = x
-older_history setup (e ∷ newer) h x = older_history setup newer h x.0
 
 -- ---- from that entry on it stands selected
 

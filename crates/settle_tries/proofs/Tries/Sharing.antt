@@ -12,20 +12,7 @@ use Rattle.kube_objects.specs.declared.objects.Object.{Object}
 use Rattle.kube_objects.specs.declared.objects.Object.TheVariants.{Class, Node, Volume, Claim, Pod}
 use Rattle.kube_objects.specs.declared.objects.Pod.{Pod as PodData}
 use Rattle.kube_objects.specs.declared.objects.Volume.{Volume as VolumeData}
-use Rattle.kube_objects.specs.Bindings.{
-  beta_class,
-  bind_completed,
-  bound_by_controller,
-  class_of_claim,
-  has_key,
-  is_completed,
-  is_empty,
-  is_protected_claim,
-  is_scheduled,
-  lacks_class,
-  selected_node,
-  yes,
-}
+use Rattle.kube_objects.specs.Bindings.{beta_class, bind_completed, bound_by_controller, class_of_claim, has_key, is_completed, is_empty, is_protected_claim, is_scheduled, lacks_class, selected_node, yes}
 use Rattle.kube_objects.specs.Keys.{key_of, kind_of, put_row, row_at, without_row}
 use Rattle.kube_objects.proofs.KeyOrder.{row_at-put_row, row_at-put_row_other, row_at-without_row, row_at-without_row_other, row_at_key}
 use Rattle.kube_objects.proofs.SameKeys.{key_tells}
@@ -65,14 +52,15 @@ use Rattle.actor_rounds.specs.Rounds.{Ends, IsRound, Lets, Runs, Turns, told_ent
 use Rattle.actor_rounds.proofs.RoundFacts.{AreBuilt, roles_built, round_grows}
 use Rattle.settle_writes.proofs.Writes.Valid.{rows_are_valid}
 use Rattle.settle_writes.proofs.Done.Doing.{told_one, write_asked}
-use Rattle.settle_pays.proofs.Pays.Slots.{older_run}
+use Rattle.settle_progress.proofs.Epochs.Silent.{older_run}
 use Rattle.settle_write_counts.proofs.Rounds.Nodes.{IsMoved}
 use Rattle.settle_write_counts.proofs.Rounds.Runs.{IsCalled, run_moves}
 use Rattle.settle_write_counts.proofs.Rounds.Slots.{ComesTo, Leaves, Wrote, comes_to}
 use Rattle.settle_budget.specs.Drains.Measured.{SharesWell, WaitingPodNames, is_immediate}
 use Rattle.settle_tries.specs.Tries.Sharing.{KeepsSharing, RoundsShareWell, StoodOpen, WaitedSo}
 use Rattle.settle_tries.proofs.Tries.Moving.{Rewrites, rewrites}
-use Rattle.settle_tries.proofs.Tries.Standing.{creates, makes, no_edit}
+use Rattle.settle_tries.proofs.Tries.Standing.{creates, makes}
+use Rattle.settle_write_counts.proofs.Rounds.Made.{no_edit}
 use Rattle.settle_writes.specs.Writes.Valid.{IsValid}
 use Rattle.binder_model.specs.Fields.{create_fault, faulty, kind_fault}
 use Rattle.binder_model.specs.Told.{SomeOf}

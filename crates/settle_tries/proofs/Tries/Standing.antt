@@ -35,7 +35,7 @@ use Rattle.actor_rounds.specs.Drainers.{roles_of}
 use Rattle.actor_rounds.specs.Rounds.{Ends, IsRound, Lets, Runs, Turns, told_entry}
 use Rattle.actor_rounds.proofs.RoundFacts.{round_grows}
 use Rattle.settle_writes.proofs.Done.Doing.{write_asked}
-use Rattle.settle_pays.proofs.Pays.Slots.{older_run}
+use Rattle.settle_progress.proofs.Epochs.Silent.{older_run}
 use Rattle.settle_write_counts.proofs.Rounds.Nodes.{IsMoved}
 use Rattle.settle_write_counts.proofs.Rounds.Runs.{IsCalled, run_moves}
 use Rattle.settle_write_counts.proofs.Rounds.Slots.{ComesTo, Leaves, Wrote, comes_to}
@@ -43,6 +43,7 @@ use Rattle.std.specs.Prelude.{⊤}
 use Rattle.binder_model.specs.Store.{State}
 use Rattle.kube_objects.specs.Keys.{without_row}
 use Rattle.std.proofs.Common.{◌+◌}
+use Rattle.settle_write_counts.proofs.Rounds.Made.{no_edit}
 
 -- the key is a volume's
 abbrev pub is_volume_kind : Kind → Bool
@@ -63,15 +64,6 @@ abbrev pub KeysStood : SeatKind → World → World → Type 0
 KeysStood kind old new = (key : Key) (o : Object) → makes kind key.kind ≡ false → row_at key new.store.rows ≡ Some o → StandsIn old key
 
 -- ---- one call
-
-pub no_edit : (kind : SeatKind) (mine : List Entry) (key : Key) (change : Edit) → IsBuiltKind kind → Licensed kind mine (requests.Edit key change) → ⊥
-no_edit seats.User mine key change built may = built
-no_edit seats.Binder mine key change built may = may.1
-no_edit seats.Ops mine key change built may = may.1
-no_edit seats.Scheduler mine key change built may = may.1
-no_edit seats.ClaimProtect mine key change built may = may.1
-no_edit seats.VolumeProtect mine key change built may = may.1
-no_edit seats.Agent mine key change built may = may.1
 
 pub creates : (kind : SeatKind) (mine : List Entry) (x : Object) → IsBuiltKind kind → Licensed kind mine (requests.Create x) → makes kind (key_of x).kind ≡ true
 creates seats.Ops mine (Volume v) built may = refl

@@ -83,11 +83,6 @@ stood_low setup (e ∷ past) o p (inl before) at = elim (row_step setup e past (
   | inr new ↦ let low = version_stood setup past o before in let version = new.version in omega (arith, low, version)
 ]
 
--- what stood once has stood later too
-pub stood_grows : (setup : Setup) (newer past : List Entry) (o : Object) → Stood setup past o → Stood setup (newer ++ past) o
-stood_grows setup [] past o s = s
-stood_grows setup (e ∷ newer) past o s = inl (stood_grows setup newer past o s)
-
 -- ---- a write that was done is at the version of the store then
 
 abbrev is_delete_of : Request → Bool

@@ -35,7 +35,7 @@ use Rattle.settle_budget.proofs.Nodes.Nodes.{nodes_were_given}
 use Rattle.settle_due.proofs.Scheduling.Fewer.{all_in_turn, one_node_less}
 use Rattle.settle_due.proofs.Scheduling.Turning.{in_nodes, rising_nodes}
 use Rattle.settle_pays.specs.Pays.Pays.{HavePaid}
-use Rattle.settle_pays.proofs.Pays.Slots.{older_run}
+use Rattle.settle_progress.proofs.Epochs.Silent.{older_run}
 use Rattle.settle_pays.specs.Drains.All.{ImportsAllow}
 use Rattle.settle_pays.proofs.Drains.Rounds.{round_paid}
 use Rattle.settle_budget.specs.Drains.Budget.{AreAlwaysInOrder}
@@ -53,7 +53,8 @@ use Rattle.settle_tries.proofs.Tries.Waiting.{waiting_are_tried}
 use Rattle.settle_budget.proofs.Drains.Measured.{measured_drains_settle}
 use Rattle.settle_tries.proofs.Tries.Going.{searches_go_on}
 use Rattle.settle_tries.proofs.Tries.Caching.{rounds_cache}
-use Rattle.settle_tries.proofs.Tries.Counting.{at_most, few_nodes, mapped_length, one_tried, roles_have, tries_there, turn_length}
+use Rattle.settle_tries.proofs.Tries.Counting.{at_most, few_nodes, one_tried, roles_have, tries_there, turn_length}
+use Rattle.settle_write_counts.proofs.Scheduler.Begun.{counted as mapped_length}
 use Rattle.settle_tries.proofs.Tries.Moving.{in_order_before}
 use Rattle.settle_tries.proofs.Tries.Points.{near_ahead, near_behind}
 use Rattle.settle_tries.proofs.Tries.Quiet.{quiet_rounds_end}

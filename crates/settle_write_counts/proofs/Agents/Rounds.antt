@@ -12,7 +12,7 @@ use Rattle.actor_rounds.specs.Drainers.{roles_of}
 use Rattle.actor_rounds.specs.Rounds.{Ends, IsRound, Lets, Turns}
 use Rattle.actor_rounds.proofs.RoundFacts.{AreBuilt, roles_built, round_grows}
 use Rattle.settle_calls.specs.Slots.Slots.{writes_since}
-use Rattle.settle_pays.proofs.Pays.Slots.{older_run}
+use Rattle.settle_progress.proofs.Epochs.Silent.{older_run}
 use Rattle.settle_write_counts.specs.Agents.Agents.{AgentsOfARoundWriteLittle, agents_writes, if_agent}
 use Rattle.settle_write_counts.proofs.Agents.Slots.{agents_write_little, slots_add_no_pod}
 

@@ -1,34 +1,6 @@
 -- The claims of a pod that is being prepared: each is under way, or is still to be written.
-use Rattle.std.proofs.Common.{
-  ◌≡◌,
-  ◌∙◌,
-  ◌⊎◌,
-  ℕ,
-  ◌+◌,
-  ◌≤◌,
-  List,
-  [],
-  ◌∷◌,
-  ◌++◌,
-  Bool,
-  true,
-  false,
-  true≢false,
-  Option,
-  Some,
-  None,
-  inl,
-  inr,
-  refl,
-  sym,
-  ap,
-  subst,
-  arith,
-  length,
-  length-append,
-  if◌then◌else◌,
-}
-use Rattle.std.specs.Prelude.{◌&&◌, ◌||◌, cond, filter, filter_map, not}
+use Rattle.std.proofs.Common.{◌≡◌, ◌∙◌, ◌⊎◌, ℕ, ◌+◌, ◌≤◌, List, [], ◌∷◌, ◌++◌, Bool, true, false, true≢false, Option, Some, None, inl, inr, refl, sym, ap, subst, arith, length, length-append, if◌then◌else◌}
+use Rattle.std.specs.Prelude.{◌&&◌, ◌||◌, filter, filter_map, not}
 use Rattle.std.specs.List.{cons_option, list_all}
 use Rattle.std.specs.Ordering.{is_gt}
 use Rattle.kube_objects.specs.declared.key.Key.{Key}
@@ -48,6 +20,7 @@ use Rattle.delayed_binding.proofs.Known.{Each, claim_of_row, each_map}
 use Rattle.settle_pays.proofs.Scheduler.Open.{placed_of}
 use Rattle.settle_write_counts.proofs.Scheduler.Begun.{filtered, mapped, sized}
 use Rattle.settle_write_counts.proofs.Passed.Costs.{Grows}
+use Rattle.settle_due.proofs.Scheduling.Fewer.{in_passing as in_filter}
 
 -- the claim of this name, where it stands, is under way, or one of these
 abbrev pub IsCovered : List Object → List ℕ → List ClaimData → List ℕ → Type 0
@@ -96,15 +69,6 @@ all_under rows namespace (name ∷ names) each = by (claim_named rows namespace 
         of (inr none) = absurd none
 
 -- ---- when it begins
-
-in_filter : {X : Type 0} (f : X → Bool) (x : X) (xs : List X) → IsIn x xs → f x ≡ true → IsIn x (filter f xs)
-in_filter f x [] there is = absurd there
-in_filter f x (y ∷ ys) (inl same) is = subst (λ b. IsIn x (cond b (y ∷ filter f ys) (filter f ys))) (sym (ap f same ∙ is)) (inl same)
-in_filter f x (y ∷ ys) (inr more) is = by (f y) (in_filter f x ys more is)
-  where
-    by : (b : Bool) → IsIn x (filter f ys) → IsIn x (cond b (y ∷ filter f ys) (filter f ys))
-    by true rest = inr rest
-    by false rest = rest
 
 in_inserted : (d c : ClaimData) (cs : List ClaimData) → IsIn d (c ∷ cs) → IsIn d (insert_claim c cs)
 in_inserted d c [] there = there

@@ -45,7 +45,7 @@ use Rattle.settle_slot.specs.Slot.Slots.{IsDecisionPoint, KnowsBehind, begun, ow
 use Rattle.settle_slot.proofs.Slot.Held.{others_pass}
 use Rattle.settle_slot.proofs.Slot.Knowing.{sees, told_knows}
 use Rattle.settle_slot.proofs.Slot.Slots.{begun_behind, decides_gives}
-use Rattle.settle_pays.proofs.Pays.Slots.{older_run}
+use Rattle.settle_progress.proofs.Epochs.Silent.{older_run}
 use Rattle.settle_write_counts.specs.Scheduler.Pods.{pods_writes}
 use Rattle.settle_write_counts.specs.Passed.Slots.{PassedSchedulersWriteLittle}
 use Rattle.settle_write_counts.proofs.Passed.Costs.{costs_bounded, costs_on}

@@ -1,14 +1,13 @@
 -- What a scheduler has under way costs no more writes than its pod may: each write of a preparation is done, and behind the last of them
 -- each claim of the pod is under way.
 use Rattle.std.proofs.Common.{◌≡◌, ◌≢◌, ◌∙◌, ℕ, ◌+◌, ◌≤◌, List, [], ◌∷◌, ◌++◌, Bool, true, false, true≢false, Option, Some, None, refl, sym, ap, subst, arith, length, length-append, if◌then◌else◌}
-use Rattle.std.specs.Prelude.{◌==◌, ◌&&◌, ◌||◌, bytes_eq, is_none, is_some, map, nat_lt, not, slice_get}
+use Rattle.std.specs.Prelude.{◌&&◌, ◌||◌, bytes_eq, is_none, is_some, map, nat_lt, not, slice_get}
 use Rattle.std.specs.List.{list_all}
 use Rattle.std.proofs.lemmas.Bool.{and_parts}
 use Rattle.std.proofs.lemmas.Bool.Decides.{nat_tests}
 use Rattle.std.proofs.lemmas.Option.{slice_get_within}
 use Rattle.std.proofs.lemmas.Slice.Eq.{bytes_eq-Decides}
 use Rattle.kube_objects.specs.declared.key.Key.{Key}
-use Rattle.kube_parts.specs.declared.uid.Uid.{Uid}
 use Rattle.kube_parts.specs.declared.parts.Kind.TheVariants as kinds
 use Rattle.kube_objects.specs.declared.objects.Ref.{Ref}
 use Rattle.kube_objects.specs.declared.objects.Claim.{Claim as ClaimData}
@@ -17,24 +16,7 @@ use Rattle.kube_objects.specs.declared.objects.Pod.{Pod as PodData}
 use Rattle.kube_objects.specs.declared.objects.Volume.{Volume as VolumeData}
 use Rattle.kube_objects.specs.declared.objects.Object.{Object}
 use Rattle.kube_objects.specs.declared.objects.Object.TheVariants.{Claim, Class, Node, Pod, Volume}
-use Rattle.kube_objects.specs.Bindings.{
-  carries,
-  has_key,
-  has_name,
-  is_available,
-  is_completed,
-  is_deleting,
-  is_ended,
-  is_scheduled,
-  is_uid,
-  names_claim,
-  pv_protection,
-  refers_carrying,
-  refers_for,
-  selected_node,
-  uid_carries,
-  uid_fits,
-}
+use Rattle.kube_objects.specs.Bindings.{carries, has_key, has_name, is_available, is_completed, is_deleting, is_ended, is_scheduled, names_claim, pv_protection, refers_carrying, refers_for, selected_node, uid_carries, uid_fits}
 use Rattle.kube_objects.specs.Keys.{AreRows, key_of, kind_index, put_row, row_at, rows_of}
 use Rattle.kube_objects.proofs.KeyOrder.{row_at-put_row, row_at-put_row_other}
 use Rattle.call_types.specs.declared.entry.Entry.{Entry}
@@ -44,7 +26,7 @@ use Rattle.call_types.specs.declared.request.Request.{Request}
 use Rattle.call_types.specs.declared.request.SeatKind.TheVariants as seats
 use Rattle.call_types.specs.declared.setup.Setup.{Setup}
 use Rattle.binder_model.specs.Answers.{Stores, after, reply_of}
-use Rattle.binder_model.specs.BindWrites.{ref_to, write_reference}
+use Rattle.binder_model.specs.BindWrites.{write_reference}
 use Rattle.binder_model.specs.Choice.{AreShares, IsProvisioned, Share, TakesVolume, carries_claim, claims_of, has_carrier, is_under_way}
 use Rattle.binder_model.specs.Imports.{ImportsPass}
 use Rattle.binder_model.specs.Matching.{eligible, fits, is_admitted_on, is_selected, may_serve}
@@ -73,6 +55,7 @@ use Rattle.settle_pays.proofs.Scheduler.Paying.{IsBehind, IsOpen, at_call, behin
 use Rattle.settle_pays.proofs.Scheduler.Taking.{IsTaken}
 use Rattle.settle_write_counts.proofs.Passed.Costs.{Grows, beside_falls, costs_beside, costs_join, costs_on, pod_costs, put_grows}
 use Rattle.settle_write_counts.proofs.Passed.Covered.{IsCovered, all_under, covered_next, takers_of}
+use Rattle.model_laws.proofs.References.{refers_to}
 
 -- as long as nobody else calls, the version and what is left to be written never rise together, and where what is under way ends, no more is
 -- left than the pods may cost
@@ -123,15 +106,6 @@ with_a_node rows (Pod x) e = refl
 abbrev is_claim : Object → Bool
 is_claim (Claim d) = true
 is_claim o = false
-
--- the reference that names a claim carries it
-refers_to : (c : ClaimData) (uid : Uid) → c.meta.uid ≡ Some uid → refers_carrying (Some (ref_to c)) c ≡ true
-refers_to c uid known =
-    let space = (bytes_eq-Decides c.meta.namespace c.meta.namespace).1 refl in
-    let own = (bytes_eq-Decides c.meta.name c.meta.name).1 refl in
-    let itself : (uid.0 == uid.0) ≡ true = grind (arith, nat_tests) in
-    let same : uid_carries c.meta.uid c ≡ true = ap (λ u. uid_carries u c) known ∙ (ap (λ u. is_uid u uid) known ∙ itself) in
-    rw (space, own, same) refl
 
 -- a volume that may be taken for a claim that no volume carries, carries no claim that stands
 module _ (rows : List Object) (v : VolumeData) (c d : ClaimData) (n : NodeData) (fit : eligible v c (Some n) ≡ true)

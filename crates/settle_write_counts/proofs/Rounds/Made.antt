@@ -74,7 +74,7 @@ abbrev is_pod : Kind → Bool
 is_pod kinds.Pod = true
 is_pod kind = false
 
-no_edit : (kind : SeatKind) (mine : List Entry) (key : Key) (change : Edit) → IsBuiltKind kind → Licensed kind mine (requests.Edit key change) → ⊥
+pub no_edit : (kind : SeatKind) (mine : List Entry) (key : Key) (change : Edit) → IsBuiltKind kind → Licensed kind mine (requests.Edit key change) → ⊥
 no_edit seats.User mine key change built may = built
 no_edit seats.Binder mine key change built may = may.1
 no_edit seats.Ops mine key change built may = may.1
@@ -126,7 +126,7 @@ no_names (Volume x) e = refl
 no_names (Claim x) e = refl
 no_names (Pod x) e = absurd (true≢false e)
 
-made_name : (v : VolumeData) (c : ClaimData) (uid : Uid) (class : ClassData) (id : DataId) (topology : Option (List ℕ × List ℕ))
+pub made_name : (v : VolumeData) (c : ClaimData) (uid : Uid) (class : ClassData) (id : DataId) (topology : Option (List ℕ × List ℕ))
     → v ≡ provisioned_volume c uid class id topology → key_of (Volume v) ≡ volume_key (data_name uid)
 unfolding provisioned_volume
 made_name v c uid class id topology is = ap (λ (x : VolumeData). key_of (Volume x)) is

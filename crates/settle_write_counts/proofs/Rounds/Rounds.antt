@@ -21,7 +21,8 @@ use Rattle.settle_write_counts.specs.Scheduler.Pods.{pods_writes}
 use Rattle.settle_write_counts.proofs.Scheduler.Pods.{schedulers_write_little}
 use Rattle.settle_pays.specs.Pays.Pays.{IsPayer}
 use Rattle.settle_pays.proofs.Pays.Entries.{paid_is_less}
-use Rattle.settle_pays.proofs.Pays.Slots.{older_run, slots_pay}
+use Rattle.settle_pays.proofs.Pays.Slots.{slots_pay}
+use Rattle.settle_progress.proofs.Epochs.Silent.{older_run}
 use Rattle.settle_write_counts.specs.Rounds.Counts.{RoundsWriteLittle, to_write}
 use Rattle.settle_write_counts.proofs.Rounds.Slots.{counted, ops_write_little, others_select_none, others_write_little, schedulers_select_few}
 

@@ -34,7 +34,7 @@ use Rattle.actor_rounds.specs.Rounds.{Asks, IsHeld, IsIdle, IsReady, IsSpent, Le
 use Rattle.actor_rounds.proofs.RunFacts.{run_grows, still_role}
 use Rattle.worker_core.proofs.Answered.{turn_role}
 use Rattle.settle_pays.specs.Pays.Pays.{AllPay, HavePaid, Pays}
-use Rattle.settle_pays.proofs.Pays.Slots.{older_run}
+use Rattle.settle_progress.proofs.Epochs.Silent.{older_run}
 
 -- ---- entries that pay
 

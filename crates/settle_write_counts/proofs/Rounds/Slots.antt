@@ -50,7 +50,8 @@ use Rattle.settle_writes.proofs.Done.Doing.{other_writes_last, write_asked}
 use Rattle.settle_calls.specs.Slots.Slots.{writes_since}
 use Rattle.settle_pays.specs.Pays.Pays.{DecisionsPay, Pays, worth}
 use Rattle.settle_pays.proofs.Pays.Entries.{one_paid, paid_is_less}
-use Rattle.settle_pays.proofs.Pays.Slots.{older_run, pays_from}
+use Rattle.settle_pays.proofs.Pays.Slots.{pays_from}
+use Rattle.settle_progress.proofs.Epochs.Silent.{older_run}
 use Rattle.settle_write_counts.specs.Rounds.Counts.{OpsWriteLittle, OthersSelectNone, OthersWriteLittle, SchedulersSelectFew, nodes_in, nodes_on, to_write}
 use Rattle.settle_write_counts.proofs.Rounds.Failing.{erase_failed, fails_go, none_begins, phase_written, under_fails}
 use Rattle.settle_write_counts.proofs.Rounds.Keeping.{other_nodes}

@@ -25,7 +25,7 @@ use Rattle.settle_calls.specs.Tasks.Tasks.{under_left}
 use Rattle.settle_calls.specs.Slots.Slots.{PassesReads, slot_cost, writes_since}
 use Rattle.settle_calls.proofs.Slots.Rounds.{cheaper, total_less, total_sized}
 use Rattle.settle_calls.proofs.Slots.Slots.{slots_are_short}
-use Rattle.settle_pays.proofs.Pays.Slots.{older_run}
+use Rattle.settle_progress.proofs.Epochs.Silent.{older_run}
 use Rattle.settle_write_counts.proofs.Rounds.Rounds.{rounds_write_little}
 use Rattle.settle_write_counts.proofs.Rounds.Runs.{silent_run}
 use Rattle.settle_write_counts.proofs.Rounds.Slots.{counted}

@@ -1,5 +1,5 @@
 -- A scheduler that is run with nothing under way decides each pod once, as long as the log reaches back to the beginning of its slot.
-use Rattle.std.proofs.Common.{◌≡◌, ◌∙◌, ◌⊎◌, ℕ, ◌+◌, ◌-◌, ◌≤◌, ◌<◌, List, [], ◌∷◌, ◌++◌, length, Bool, true, false, true≢false, Option, Some, None, inl, inr, refl, sym, ap, subst, arith}
+use Rattle.std.proofs.Common.{◌≡◌, ◌∙◌, ◌⊎◌, ℕ, ◌+◌, ◌-◌, ◌≤◌, ◌<◌, List, [], ◌∷◌, length, Bool, true, false, true≢false, Option, Some, None, inl, inr, refl, sym, ap, subst, arith}
 use Rattle.std.specs.Prelude.{◌==◌, map, option_map}
 use Rattle.kube_parts.specs.declared.parts.Kind.{Kind}
 use Rattle.kube_objects.specs.declared.objects.Object.{Object}
@@ -16,13 +16,13 @@ use Rattle.call_types.specs.declared.setup.Setup.{Setup}
 use Rattle.call_types.specs.Kinds.{reads_kind}
 use Rattle.binder_model.specs.Licence.{Licensed, RowAllows}
 use Rattle.binder_model.specs.Reading.{follows}
-use Rattle.binder_model.specs.Promises.{IsRunOf, most_entries}
+use Rattle.binder_model.specs.Promises.{IsRunOf}
 use Rattle.binder_model.specs.Told.{own}
 use Rattle.binder_model.specs.Watching.{most_events, told_events}
 use Rattle.binder_model.specs.World.{IsHistory, World, base as base_of, effect, world}
 use Rattle.informer_cache.specs.All.{AllKnown}
 use Rattle.informer_cache.specs.Cache.{keys_in}
-use Rattle.model_laws.proofs.Growing.{older_parts_are_runs, runs_are_histories}
+use Rattle.model_laws.proofs.Growing.{runs_are_histories}
 use Rattle.model_laws.proofs.Histories.{rows_stand_in_order}
 use Rattle.model_laws.proofs.Lists.{IsIn, none_some, one}
 use Rattle.model_laws.proofs.Watched.{logs}
@@ -69,16 +69,9 @@ use Rattle.settle_writes.proofs.Done.Doing.{assigned_filled, write_asked}
 use Rattle.settle_write_counts.specs.Scheduler.Pods.{SchedulersWriteLittle, pod_writes, pods_writes}
 use Rattle.settle_write_counts.proofs.Scheduler.Begun.{call_goes, key_writes, task_writes, under_writes}
 use Rattle.settle_write_counts.proofs.Scheduler.Queued.{IsBound, ahead, distinct_few, done_written, follows_all, log_none, no_more, scheduled_none, told_free, turned_few}
+use Rattle.settle_progress.proofs.Epochs.Silent.{older_run}
 
 -- ---- histories
-
--- a run without its newest entries, from imports that pass, is one
-older_run : (setup : Setup) (newer past : List Entry) → IsRunOf setup (newer ++ past) → IsRunOf setup past
-older_run setup newer past run = record { imports = run.imports; short = shorter newer past run.short; run = older_parts_are_runs setup newer past run.run }
-  where
-    shorter : (xs h : List Entry) → length (xs ++ h) < most_entries → length h < most_entries
-    shorter [] h lt = lt
-    shorter (x ∷ xs) h lt = shorter xs h (omega (arith, lt))
 
 -- ---- one call
 
