@@ -28,66 +28,8 @@
 //! makes no call, and may have anything under way. Not said: the number for rounds that begin with something under way;
 //! nor for larger worlds, where calls are counted by their writes alone.
 
-ghost use Rattle.settle_budget.specs.Drains.Budget.{DrainsCostLittle, FewRoundsSettle};
-ghost use Rattle.settle_budget.specs.Drains.Drains.{DrainsAreShort, DrainsMakeFewCalls, DrainsWriteLittle, RoundsAreBounded, ShortDrainsSettle};
 ghost use Rattle.settle_budget.specs.Drains.Measured.{MeasuredDrainsSettle, RoundsAreMeasured};
-ghost use Rattle.settle_budget.specs.Drains.Rounds.{PaidEntriesLower, RoundsAreCounted, RoundsServeNodes};
-ghost use Rattle.settle_budget.specs.Drains.Selections.{FewSelectionsSettle, NewDrainsSettle, StaticDrainsSettle};
-
-/// A round of the actors of a drain does few writes and makes few calls.
-pub fn rounds_are_bounded()
-    ensures { RoundsAreBounded }
-{}
-
-/// A drain does few writes beside its rounds.
-pub fn drains_write_little()
-    ensures { DrainsWriteLittle }
-{}
-
-/// A drain makes few calls beside its writes and its rounds.
-pub fn drains_make_few_calls()
-    ensures { DrainsMakeFewCalls }
-{}
-
-/// So it makes few beside its rounds.
-pub fn drains_are_short()
-    ensures { DrainsAreShort }
-{}
-
-/// A drain whose budget is greater than what its rounds may cost ends settled.
-pub fn short_drains_settle()
-    ensures { ShortDrainsSettle }
-{}
-
-/// A drain costs little beside its rounds.
-pub fn drains_cost_little()
-    ensures { DrainsCostLittle }
-{}
-
-/// A drain of few rounds ends settled with the stated budget.
-pub fn few_rounds_settle()
-    ensures { FewRoundsSettle }
-{}
-
-/// Entries that pay lower what may still be written.
-pub fn paid_entries_lower()
-    ensures { PaidEntriesLower }
-{}
-
-/// Each node that was given has its agent still after a round.
-pub fn rounds_serve_nodes()
-    ensures { RoundsServeNodes }
-{}
-
-/// A drain makes few rounds, but for those that select a node.
-pub fn rounds_are_counted()
-    ensures { RoundsAreCounted }
-{}
-
-/// A drain that selects few nodes ends settled with the stated budget.
-pub fn few_selections_settle()
-    ensures { FewSelectionsSettle }
-{}
+ghost use Rattle.settle_budget.specs.Drains.Selections.{NewDrainsSettle, StaticDrainsSettle};
 
 /// So does each where no class binds late and provisions.
 pub fn static_drains_settle()

@@ -1,4 +1,3 @@
 pub mod Actors
 pub mod Drains
-pub mod New
 pub mod Rounds

@@ -10,7 +10,7 @@
 //! but in a silent agent; that a round has an entry that lasts, which is for `settle_progress` to say; nor what becomes of
 //! the tries that are left, for which the node of a claim counts.
 
-ghost use Rattle.settle_pays.specs.Drains.All.{ActorsPay, DrainsPay, NewDrainsPay, RoundsOfActorsPay};
+ghost use Rattle.settle_pays.specs.Drains.All.{ActorsPay, DrainsPay, RoundsOfActorsPay};
 
 /// Each actor that is built pays.
 pub fn actors_pay()
@@ -25,9 +25,4 @@ pub fn rounds_pay()
 /// Each entry of a drain pays.
 pub fn drains_pay()
     ensures { DrainsPay }
-{}
-
-/// Each entry of a drain of new actors pays.
-pub fn new_drains_pay()
-    ensures { NewDrainsPay }
 {}

@@ -11,7 +11,5 @@
 //! begins with a task under way.
 #![tactic(auto)]
 
-pub mod actors_laws;
 pub mod drains_laws;
 pub mod pays_laws;
-pub mod scheduler_laws;

@@ -8,13 +8,7 @@
 //! which requests reach the world. Not said: that the other actors are such; nor that a round has an entry that lasts,
 //! which is for `settle_progress` to say.
 
-ghost use Rattle.settle_pays.specs.Pays.Guards.{ClaimGuardsPay, VolumeGuardsPay};
-ghost use Rattle.settle_pays.specs.Pays.Pays.{AlikeIsLeft, PaidIsLess, RoundsOfPayersPay, SlotsPay};
-
-/// A call that leaves the world alike does not raise what is left to do.
-pub fn alike_is_left()
-    ensures { AlikeIsLeft }
-{}
+ghost use Rattle.settle_pays.specs.Pays.Pays.{PaidIsLess, SlotsPay};
 
 /// Entries that pay lower what is left to do.
 pub fn paid_is_less()
@@ -24,19 +18,4 @@ pub fn paid_is_less()
 /// An actor whose decisions pay, run with nothing under way, pays with each of its calls.
 pub fn slots_pay()
     ensures { SlotsPay }
-{}
-
-/// Each entry of a round of such actors pays.
-pub fn rounds_of_payers_pay()
-    ensures { RoundsOfPayersPay }
-{}
-
-/// Claim protection pays.
-pub fn claim_guards_pay()
-    ensures { ClaimGuardsPay }
-{}
-
-/// Volume protection pays.
-pub fn volume_guards_pay()
-    ensures { VolumeGuardsPay }
 {}

@@ -8,25 +8,9 @@
 //! lasts (`agent_rounds_last`), over any choice of which requests reach the world that lets those calls pass. Not said:
 //! that a drain has an agent for each node.
 
-ghost use Rattle.settle_progress.specs.Agents.Acts.{AgentsAct, FinishesAct, MountsAct};
-ghost use Rattle.settle_progress.specs.Agents.Rounds.{AgentRoundsLast};
-
-/// The agent of its node acts on a pod that is to be mounted.
-pub fn mounts_act()
-    ensures { MountsAct }
-{}
-
-/// The agent of its node acts on a pod that is to be finished.
-pub fn finishes_act()
-    ensures { FinishesAct }
-{}
+ghost use Rattle.settle_progress.specs.Agents.Acts.{AgentsAct};
 
 /// The agent of its node acts on a pod for which something is due.
 pub fn agents_act()
     ensures { AgentsAct }
-{}
-
-/// A whole round with an agent that acts has an entry that lasts.
-pub fn agent_rounds_last()
-    ensures { AgentRoundsLast }
 {}

@@ -18,19 +18,7 @@
 ghost use Rattle.settle_progress.specs.Drains.Drained.{DrainedRoundsLast, PassedRoundsLast, ServedHaveDoers};
 ghost use Rattle.settle_progress.specs.Drains.Fresh.{FreshDrainersServe};
 ghost use Rattle.settle_progress.specs.Drains.Held.{HeldRoundsLast};
-ghost use Rattle.settle_progress.specs.Drains.Rounds.{DueRoundsLast, UnsettledRoundsLast};
-ghost use Rattle.settle_progress.specs.Drains.Settling.{PayingDrainsSettle, RoundsLeaveDrainers};
-
-/// A whole round that begins with something due, for an actor of the role that is no stale agent, has an entry that
-/// lasts.
-pub fn due_rounds_last()
-    ensures { DueRoundsLast }
-{}
-
-/// So has one that begins with anything due.
-pub fn unsettled_rounds_last()
-    ensures { UnsettledRoundsLast }
-{}
+ghost use Rattle.settle_progress.specs.Drains.Settling.{RoundsLeaveDrainers};
 
 /// So has one in which a gate holds back Mounts alone, where the Mount passes that is due, if one is.
 pub fn held_rounds_last()
@@ -60,9 +48,4 @@ pub fn fresh_drainers_serve()
 /// A whole round leaves its drainers so that the next may begin with them.
 pub fn rounds_leave_drainers()
     ensures { RoundsLeaveDrainers }
-{}
-
-/// A drain whose rounds pay ends settled.
-pub fn paying_drains_settle()
-    ensures { PayingDrainsSettle }
 {}

@@ -10,24 +10,12 @@
 //! but the node's is no stale one (`current_are_awake`).
 //! Not said: that no two agents of a round serve one node.
 
-ghost use Rattle.settle_progress.specs.Epochs.Awake.{AgentsStayAwake};
-ghost use Rattle.settle_progress.specs.Epochs.Epochs.{AgentsTakeTheirOwn, EpochsStay, RoundsKeepEpochs};
-ghost use Rattle.settle_progress.specs.Epochs.Remembered.{MountsAreRemembered};
-ghost use Rattle.settle_progress.specs.Epochs.Silent.{CurrentAreAwake, OthersSilenceNone, RoundsSilenceTheOvertaken};
-
-/// An agent remembers the mounts of its node.
-pub fn mounts_are_remembered()
-    ensures { MountsAreRemembered }
-{}
+ghost use Rattle.settle_progress.specs.Epochs.Epochs.{EpochsStay, RoundsKeepEpochs};
+ghost use Rattle.settle_progress.specs.Epochs.Silent.{CurrentAreAwake, RoundsSilenceTheOvertaken};
 
 /// Entries that take the node only by the seat's own told calls leave it its epoch.
 pub fn epochs_stay()
     ensures { EpochsStay }
-{}
-
-/// An actor that takes a node is the agent of that node, and was told no epoch of it.
-pub fn agents_take_their_own()
-    ensures { AgentsTakeTheirOwn }
 {}
 
 /// A round leaves the agent of a node its epoch.
@@ -35,19 +23,9 @@ pub fn rounds_keep_epochs()
     ensures { RoundsKeepEpochs }
 {}
 
-/// An agent that is no stale one stays so in a round.
-pub fn agents_stay_awake()
-    ensures { AgentsStayAwake }
-{}
-
 /// A round leaves it so that an agent is silent only where another took its node.
 pub fn rounds_silence_the_overtaken()
     ensures { RoundsSilenceTheOvertaken }
-{}
-
-/// So do entries of others.
-pub fn others_silence_none()
-    ensures { OthersSilenceNone }
 {}
 
 /// An agent that took no epoch but its node's is then no stale one.

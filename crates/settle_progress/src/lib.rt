@@ -14,5 +14,3 @@
 pub mod agents_laws;
 pub mod drains_laws;
 pub mod epochs_laws;
-pub mod rounds_laws;
-pub mod wakes_laws;

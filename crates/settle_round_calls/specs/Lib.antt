@@ -1,5 +1,4 @@
 pub mod Slots
-pub mod Sure
 pub mod UnderWay
 pub mod Rest
 pub mod Rise

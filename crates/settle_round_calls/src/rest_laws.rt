@@ -10,12 +10,7 @@
 //! Not said: that rounds make no more calls than that, and anything of rounds that begin with something under way, which
 //! is for `settle_round_calls`.
 
-ghost use Rattle.settle_round_calls.specs.Rest.ShortRounds.{RoundsCostLess, SmallWorldsHaveShortRounds};
-
-/// A round makes few calls beside its writes.
-pub fn rounds_cost_less()
-    ensures { RoundsCostLess }
-{}
+ghost use Rattle.settle_round_calls.specs.Rest.ShortRounds.{SmallWorldsHaveShortRounds};
 
 /// Small worlds have short rounds.
 pub fn small_worlds_have_short_rounds()

@@ -1,3 +1,2 @@
 pub mod Pods
-pub mod Rounds
 pub mod Slots

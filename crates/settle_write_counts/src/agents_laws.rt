@@ -6,7 +6,7 @@
 //! (`agents_of_a_round_write_little`). All is said over any choice of which requests reach the world, of slots that end
 //! idle or with their budget spent, and whatever is under way. Not said: that a write is done.
 
-ghost use Rattle.settle_write_counts.specs.Agents.Agents.{AgentsOfARoundWriteLittle, AgentsWriteLittle, SlotsAddNoPod};
+ghost use Rattle.settle_write_counts.specs.Agents.Agents.{AgentsWriteLittle, SlotsAddNoPod};
 
 /// Each write of an agent is that a pod leaves.
 pub fn agents_write_little()
@@ -16,9 +16,4 @@ pub fn agents_write_little()
 /// No slot adds a pod.
 pub fn slots_add_no_pod()
     ensures { SlotsAddNoPod }
-{}
-
-/// The agents of a round write no more than there are pods.
-pub fn agents_of_a_round_write_little()
-    ensures { AgentsOfARoundWriteLittle }
 {}

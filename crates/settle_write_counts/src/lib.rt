@@ -14,4 +14,3 @@ pub mod agents_laws;
 pub mod ops_laws;
 pub mod passed_laws;
 pub mod rounds_laws;
-pub mod scheduler_laws;

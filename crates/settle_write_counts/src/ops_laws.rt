@@ -10,7 +10,7 @@
 //! but that they pass. Not said: that a write is done, nor that one lasts; nor anything of the writes of others, which
 //! may raise the number.
 
-ghost use Rattle.settle_write_counts.specs.Ops.Ops.{OpsSlotsWriteLittle, OpsWritesAreBounded, OpsWritesFall};
+ghost use Rattle.settle_write_counts.specs.Ops.Ops.{OpsWritesAreBounded, OpsWritesFall};
 
 /// Each write of ops in its slot lowers what it may still write there.
 pub fn ops_writes_fall()
@@ -20,9 +20,4 @@ pub fn ops_writes_fall()
 /// What ops may still write is no more than there are claims, volumes, selected nodes and planned faults.
 pub fn ops_writes_are_bounded()
     ensures { OpsWritesAreBounded }
-{}
-
-/// Ops writes little in a slot.
-pub fn ops_slots_write_little()
-    ensures { OpsSlotsWriteLittle }
 {}

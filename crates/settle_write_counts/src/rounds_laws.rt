@@ -24,57 +24,17 @@
 //! is stale makes no call, and may have anything under way. Not said: that actors pay, which is for `settle_pays` to say;
 //! nor how many rounds there are.
 
-ghost use Rattle.settle_write_counts.specs.Rounds.Rounds.{CallsAreBounded, CallsAreFew, CallsArePaid, RoundsAddLittle, RoundsAddNoPod, SizesBoundWrites, WritesAreFew};
-ghost use Rattle.settle_write_counts.specs.Rounds.Counts.{NodesAreFew, OpsWriteLittle, OthersSelectNone, OthersWriteLittle, RoundsWriteLittle, SchedulersSelectFew};
-
-/// A round adds no more objects than there are claims.
-pub fn rounds_add_little()
-    ensures { RoundsAddLittle }
-{}
-
-/// It adds no pod.
-pub fn rounds_add_no_pod()
-    ensures { RoundsAddNoPod }
-{}
-
-/// What they may be at most is bounded by the sizes.
-pub fn sizes_bound_writes()
-    ensures { SizesBoundWrites }
-{}
+ghost use Rattle.settle_write_counts.specs.Rounds.Rounds.{CallsAreBounded, WritesAreFew};
+ghost use Rattle.settle_write_counts.specs.Rounds.Counts.{NodesAreFew, RoundsWriteLittle, SchedulersSelectFew};
 
 /// The writes of a round are few.
 pub fn writes_are_few()
     ensures { WritesAreFew }
 {}
 
-/// A round makes few calls beside its writes.
-pub fn calls_are_few()
-    ensures { CallsAreFew }
-{}
-
 /// So it makes few calls.
 pub fn calls_are_bounded()
     ensures { CallsAreBounded }
-{}
-
-/// What may still be written pays for the calls of a round, but for those that each round costs anew.
-pub fn calls_are_paid()
-    ensures { CallsArePaid }
-{}
-
-/// Each write of an actor that is neither the scheduler nor the provisioner leaves less to do.
-pub fn others_write_little()
-    ensures { OthersWriteLittle }
-{}
-
-/// Such an actor selects no node.
-pub fn others_select_none()
-    ensures { OthersSelectNone }
-{}
-
-/// Each write of the provisioner and reclaimer leaves less to do, or takes a node back.
-pub fn ops_write_little()
-    ensures { OpsWriteLittle }
 {}
 
 /// A scheduler selects no more nodes than it writes.

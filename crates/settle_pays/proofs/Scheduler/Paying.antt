@@ -64,7 +64,9 @@ use Rattle.settle_slot.specs.Slot.Slots.{own_entry}
 use Rattle.settle_due.specs.Scheduling.Writes.{placing}
 use Rattle.settle_due.proofs.Scheduling.Choosing.{assigned_of, claims_known, node_writes, search_of, written}
 use Rattle.settle_due.proofs.Scheduling.Placing.{AreFrom, all_from, at_from, later_from, others_stay, placed, still_stand}
-use Rattle.settle_pays.specs.Scheduler.Pays.{EachPays, Pays, SchedulersPay}
+use Rattle.settle_pays.specs.Pays.Pays.{EachPays, WillPay}
+use Rattle.settle_pays.specs.Scheduler.Pays.{SchedulersPay}
+use Rattle.settle_pays.proofs.Pays.Calls.{lowering_pays}
 use Rattle.settle_pays.proofs.Scheduler.Open.{each_placed, others_seek, placed_apart, placed_of, provisions_are}
 use Rattle.settle_pays.proofs.Scheduler.Taking.{IsTaken, is_taken, still_uncarried}
 
@@ -156,16 +158,16 @@ module _ (setup : Setup) (seat : ℕ) (key : Key) (writes : List Request) where
     -- claims that get the node one after the other
     places_pay : (c : ClaimData) (cs : List ClaimData) (place : ℕ) (h : List Entry) → AreFrom writes place (map (placing name) (c ∷ cs))
         → Each (Stands (world setup h).store.rows) (c ∷ cs) → Each IsOpen (c ∷ cs) → AreApart (c ∷ cs)
-        → Pays setup seat seats.Scheduler h (at_call place (placing name c))
+        → WillPay setup seat seats.Scheduler h (at_call place (placing name c))
     places_pay c [] place h are stand open_ apart =
-        EachPays (node_stays setup (world setup h) seats.Scheduler c name (stands_claim h c stand.0 open_.0))
+        EachPays (lowering_pays setup (world setup h) seats.Scheduler (placing name c) refl (node_stays setup (world setup h) seats.Scheduler c name (stands_claim h c stand.0 open_.0)))
         (λ next e. let n = next_of place (placing name c) _ next e in none_some (sym (at_from writes (place + 1) [] (later_from writes place (placing name c) [] are)) ∙ n.there))
     places_pay c (d ∷ ds) place h are stand open_ apart =
-        EachPays (node_stays setup (world setup h) seats.Scheduler c name (stands_claim h c stand.0 open_.0))
+        EachPays (lowering_pays setup (world setup h) seats.Scheduler (placing name c) refl (node_stays setup (world setup h) seats.Scheduler c name (stands_claim h c stand.0 open_.0)))
         (λ next e. let n = next_of place (placing name c) _ next e in
         let later = later_from writes place (placing name c) (map (placing name) (d ∷ ds)) are in
         let call = one next.call (placing name d) (sym n.there ∙ at_from writes (place + 1) (map (placing name) (d ∷ ds)) later) in
-        subst (λ u. Pays setup seat seats.Scheduler (next_entry h (placing name c)) u) (sym (n.is ∙ ap (at_call (place + 1)) call))
+        subst (λ u. WillPay setup seat seats.Scheduler (next_entry h (placing name c)) u) (sym (n.is ∙ ap (at_call (place + 1)) call))
         (places_pay d ds (place + 1) (next_entry h (placing name c)) later
         (still_stand (world setup h).store.rows (world setup (next_entry h (placing name c))).store.rows c (d ∷ ds) kept apart.0 stand.1) open_.1 apart.1))
       where
@@ -193,18 +195,18 @@ module _ (setup : Setup) (seat : ℕ) (key : Key) (writes : List Request) where
       -- then the nodes are written
       ends : (place : ℕ) (h : List Entry) → ((c : ClaimData) → row_at (key_of (Claim c)) (world setup h).store.rows ≡ row_at (key_of (Claim c)) rows)
           → AreFrom writes place (map (placing name) nodes) → (call : Request) → slice_get writes place ≡ Some call
-          → Pays setup seat seats.Scheduler h (at_call place call)
+          → WillPay setup seat seats.Scheduler h (at_call place call)
       ends place h claims are call at = by nodes nodes_stand nodes_open nodes_apart are
         where
           stand_here : (cs : List ClaimData) → Each (Stands rows) cs → Each (Stands (world setup h).store.rows) cs
           stand_here [] each = tt
           stand_here (c ∷ cs) each = (claims c ∙ each.0, stand_here cs each.1)
 
-          by : (cs : List ClaimData) → Each (Stands rows) cs → Each IsOpen cs → AreApart cs → AreFrom writes place (map (placing name) cs) → Pays setup seat seats.Scheduler h (at_call place call)
+          by : (cs : List ClaimData) → Each (Stands rows) cs → Each IsOpen cs → AreApart cs → AreFrom writes place (map (placing name) cs) → WillPay setup seat seats.Scheduler h (at_call place call)
           by [] stand open_ apart from = none_some (sym (at_from writes place [] from) ∙ at)
           by (c ∷ cs) stand open_ apart from =
               let same = one call (placing name c) (sym at ∙ at_from writes place (map (placing name) (c ∷ cs)) from) in
-              subst (λ r. Pays setup seat seats.Scheduler h (at_call place r)) (sym same) (places_pay c cs place h from (stand_here (c ∷ cs) stand) open_ apart)
+              subst (λ r. WillPay setup seat seats.Scheduler h (at_call place r)) (sym same) (places_pay c cs place h from (stand_here (c ∷ cs) stand) open_ apart)
 
       -- one volume is taken
       module _ (c : ClaimData) (v : VolumeData) (place_of : ℕ) (taken_before : List ℕ)
@@ -259,7 +261,7 @@ module _ (setup : Setup) (seat : ℕ) (key : Key) (writes : List Request) where
       takes_pay : (cs : List ClaimData) (shares : List Share) (taken : List ℕ) (are : AreShares rows n taken cs shares) (place : ℕ) (h : List Entry)
           → IsBehind h taken cs → Each (Stands rows) cs → Each IsOpen cs → AreApart cs
           → AreFrom writes place (refs_in rows n cs shares taken are ++ map (placing name) nodes) → (call : Request)
-          → slice_get writes place ≡ Some call → Pays setup seat seats.Scheduler h (at_call place call)
+          → slice_get writes place ≡ Some call → WillPay setup seat seats.Scheduler h (at_call place call)
       takes_pay [] [] taken are place h b stand open_ apart from call at = ends place h b.claims from call at
       takes_pay [] (TakesVolume p ∷ shares) taken are place h b stand open_ apart from call at = absurd are
       takes_pay [] (IsProvisioned ∷ shares) taken are place h b stand open_ apart from call at = absurd are
@@ -275,10 +277,10 @@ module _ (setup : Setup) (seat : ℕ) (key : Key) (writes : List Request) where
           let rest = refs_in rows n cs shares (p ∷ taken) are.1 ++ map (placing name) nodes in
           let same = one call (write_reference v c) (sym at ∙ at_from writes place (write_reference v c ∷ rest) from) in
           let after_it = behind c v p taken spot fit h there claim_there open_.0 b.uncarried.0 cs apart.0 b in
-          subst (λ r. Pays setup seat seats.Scheduler h (at_call place r)) (sym same)
-          (EachPays (lowers c v p taken spot fit h there claim_there open_.0 b.uncarried.0)
+          subst (λ r. WillPay setup seat seats.Scheduler h (at_call place r)) (sym same)
+          (EachPays (lowering_pays setup (world setup h) seats.Scheduler (write_reference v c) refl (lowers c v p taken spot fit h there claim_there open_.0 b.uncarried.0))
           (λ next e. let m = next_of place (write_reference v c) _ next e in
-          subst (λ u. Pays setup seat seats.Scheduler (next_entry h (write_reference v c)) u) (sym m.is)
+          subst (λ u. WillPay setup seat seats.Scheduler (next_entry h (write_reference v c)) u) (sym m.is)
           (takes_pay cs shares (p ∷ taken) are.1 (place + 1) (next_entry h (write_reference v c)) after_it stand.1 open_.1 apart.1
           (later_from writes place (write_reference v c) rest from) next.call m.there)))
 
@@ -320,19 +322,19 @@ module _ (setup : Setup) (past : List Entry) (seat : ℕ) (p : PodData) (pass : 
   abbrev at_pod : ScheduleOp → Under
   at_pod x = record { key = key_of (Pod p); task = tasks.Schedule x; call = call }
 
-  assigns : (name : List ℕ) → IsChoice rows p last (Assign name) → Some op ≡ begun_with (writes_for rows p (Assign name)) → Pays setup seat seats.Scheduler past (at_pod op)
+  assigns : (name : List ℕ) → IsChoice rows p last (Assign name) → Some op ≡ begun_with (writes_for rows p (Assign name)) → WillPay setup seat seats.Scheduler past (at_pod op)
   assigns name f begins =
       let a = assigned_of (stage_of rows p) rows (claims_of rows p) last name f in
       let uid = has_uid p.meta.uid (rows_known setup past pass (key_of (Pod p)) (Pod p) there) in
       let named : is_empty name ≡ false = ap is_empty a.named ∙ node_named a.node (rows_are_valid setup past pass (node_key a.node.meta.name) (Node a.node) a.first.there) in
       let bind = BindPod (key_of (Pod p)) uid.uid name in
       let lowers = assign_pays setup (world setup past) seats.Scheduler p uid.uid name order there unscheduled named in
-      from_begun setup seat (key_of (Pod p)) (Pays setup seat seats.Scheduler past) op call (bind ∷ []) (begins ∙ ap (λ u. begun_with (binding p u name)) uid.is) asks
-      (λ at. subst (λ r. Pays setup seat seats.Scheduler past (at_call setup seat (key_of (Pod p)) (bind ∷ []) 0 r)) (one bind call at)
-      (EachPays lowers (λ next e. let m = next_of setup seat (key_of (Pod p)) (bind ∷ []) 0 bind _ next e in none_some m.there)))
+      from_begun setup seat (key_of (Pod p)) (WillPay setup seat seats.Scheduler past) op call (bind ∷ []) (begins ∙ ap (λ u. begun_with (binding p u name)) uid.is) asks
+      (λ at. subst (λ r. WillPay setup seat seats.Scheduler past (at_call setup seat (key_of (Pod p)) (bind ∷ []) 0 r)) (one bind call at)
+      (EachPays (lowering_pays setup (world setup past) seats.Scheduler bind refl lowers) (λ next e. let m = next_of setup seat (key_of (Pod p)) (bind ∷ []) 0 bind _ next e in none_some m.there)))
 
   prepares : (name : List ℕ) (binds : List (Key × Key)) (provisions : List Key) → IsChoice rows p last (Prepare name binds provisions)
-      → Some op ≡ begun_with (writes_for rows p (Prepare name binds provisions)) → Pays setup seat seats.Scheduler past (at_pod op)
+      → Some op ≡ begun_with (writes_for rows p (Prepare name binds provisions)) → WillPay setup seat seats.Scheduler past (at_pod op)
   prepares name binds provisions f begins =
       let search = search_of rows p last name binds provisions f in
       let n = search.prepared.node in
@@ -352,7 +354,7 @@ module _ (setup : Setup) (past : List Entry) (seat : ℕ) (p : PodData) (pass : 
       ap (λ ks. present (map (node_write rows name) ks)) provided ∙ node_writes rows name nodes (each_placed (Stands rows) others shares stand) in
       let writes_are : writes_for rows p (Prepare name binds provisions) ≡ writes =
       written rows order p known last name binds provisions ∙ (present_both (map (bind_write rows) binds) (map (node_write rows name) provisions) ∙ (λ i. taken_are i ++ placed_are i)) in
-      from_begun setup seat (key_of (Pod p)) (Pays setup seat seats.Scheduler past) op call writes (begins ∙ ap begun_with writes_are) asks
+      from_begun setup seat (key_of (Pod p)) (WillPay setup seat seats.Scheduler past) op call writes (begins ∙ ap begun_with writes_are) asks
       (λ at. takes_pay setup seat (key_of (Pod p)) writes pass name rows order n nodes (each_placed (Stands rows) others shares stand)
       (each_placed IsOpen others shares open_) (placed_apart others shares apart) others shares (set_aside rows) are 0 past
       (record {
@@ -362,7 +364,7 @@ module _ (setup : Setup) (past : List Entry) (seat : ℕ) (p : PodData) (pass : 
             all_free rows others sought;
       }) stand open_ apart (all_from writes) call at)
 
-  begins_by : (choice : Choice) → IsChoice rows p last choice → Some op ≡ begun_with (writes_for rows p choice) → Pays setup seat seats.Scheduler past (at_pod op)
+  begins_by : (choice : Choice) → IsChoice rows p last choice → Some op ≡ begun_with (writes_for rows p choice) → WillPay setup seat seats.Scheduler past (at_pod op)
   begins_by (Assign name) f begins = assigns name f begins
   begins_by (Prepare name binds provisions) f begins = prepares name binds provisions f begins
   begins_by Wait f begins = none_some (sym begins)
@@ -372,6 +374,6 @@ pub schedulers_pay : SchedulersPay
 schedulers_pay setup past seat p refused op call pass there begins asks = by (is_scheduled p) refl begins
   where
     by : (b : Bool) → is_scheduled p ≡ b → BeginsIf b (world setup past).store.rows refused p (Some op)
-        → Pays setup seat seats.Scheduler past (record { key = key_of (Pod p); task = tasks.Schedule op; call = call })
+        → WillPay setup seat seats.Scheduler past (record { key = key_of (Pod p); task = tasks.Schedule op; call = call })
     by true e b = none_some (sym b)
     by false e b = begins_by setup past seat p pass there e (last_refused (world setup past).store.rows p refused) op call asks b.choice b.chosen b.begins

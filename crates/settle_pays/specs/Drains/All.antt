@@ -7,7 +7,7 @@ use Rattle.binder_model.specs.Promises.{IsRunOf}
 use Rattle.worker_core.specs.declared.role.Role.{Role}
 use Rattle.worker_core.specs.Roles.{IsBuiltKind}
 use Rattle.actor_rounds.specs.declared.drainers.Drainer.{Drainer}
-use Rattle.actor_rounds.specs.Drainers.{AreAtRest, AreNew, AreRoles, HaveNoEntries, roles_of, seats_of}
+use Rattle.actor_rounds.specs.Drainers.{AreAtRest, AreRoles, roles_of}
 use Rattle.actor_rounds.specs.Rounds.{Drains, IsRound, Lets}
 use Rattle.settle_pays.specs.Pays.Pays.{DecisionsPay, HasFallen, HavePaid}
 use Rattle.settle_pays.specs.Actors.Reclaiming.{UidsFit}
@@ -40,10 +40,3 @@ DrainsPay =
     (setup : Setup) (lets : Lets) (ds after : List Drainer) (h past : List Entry) (b left : ℕ) → ImportsAllow setup → MayDrain setup h ds
     → AreAtRest ds → IsRunOf setup past → Drains lets setup after past left ds h b
     → PaysOff setup h past
-
--- so does a drain of new actors, of which no seat has an entry
-abbrev pub NewDrainsPay : Type 0
-NewDrainsPay =
-    (setup : Setup) (lets : Lets) (first : ℕ) (nodes : List (List ℕ)) (ds after : List Drainer) (h past : List Entry) (b left : ℕ)
-    → ImportsAllow setup → IsRunOf setup h → AreNew first nodes ds → HaveNoEntries (seats_of ds) h → IsRunOf setup past
-    → Drains lets setup after past left ds h b → PaysOff setup h past

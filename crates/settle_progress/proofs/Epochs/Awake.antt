@@ -1,6 +1,6 @@
 -- An agent whose epoch is its node's is not told StaleEpoch; and a round leaves it so.
-use Rattle.std.proofs.Common.{◌≡◌, ◌∙◌, ℕ, ◌-◌, List, [], ◌∷◌, Bool, true, false, true≢false, ◌⊎◌, Option, Some, None, inl, inr, refl, sym, ap, subst, if◌then◌else◌, zero, suc, arith}
-use Rattle.std.specs.Prelude.{◌+◌, ◌&&◌, bytes_eq, is_some, nat_lt, not, option_map, ⊤, slice_get}
+use Rattle.std.proofs.Common.{◌≡◌, ◌∙◌, ℕ, ◌-◌, List, [], ◌∷◌, Bool, true, false, true≢false, Option, Some, None, refl, sym, ap, subst, if◌then◌else◌}
+use Rattle.std.specs.Prelude.{◌+◌, ◌&&◌, bytes_eq, is_some, nat_lt, not, option_map, ⊤}
 use Rattle.std.proofs.lemmas.Bool.{or_from}
 use Rattle.kube_objects.specs.declared.key.Key.{Key}
 use Rattle.kube_parts.specs.declared.names.Field.TheVariants as fields
@@ -48,7 +48,7 @@ use Rattle.worker_core.specs.declared.turn.Given.{Given}
 use Rattle.worker_core.specs.declared.turn.Given.TheVariants as givens
 use Rattle.worker_core.specs.declared.turn.Next.TheVariants.{Call, Idle}
 use Rattle.worker_core.specs.declared.turn.Outcome.TheVariants.{Lost, Told}
-use Rattle.worker_core.specs.Absorbs.{absorbed, given_told, learned, lost_given, lost_under, task_told, woken}
+use Rattle.worker_core.specs.Absorbs.{absorbed, given_told, learned, lost_given, lost_under, task_told}
 use Rattle.binder_machines.specs.declared.machine.Machine.{Machine}
 use Rattle.binder_machines.specs.Machines as binder
 use Rattle.worker_core.specs.Memories.{Memory, agent_remembers, is_stale_told, memory_after, memory_of}
@@ -61,18 +61,14 @@ use Rattle.worker_core.proofs.ByKind.{epoch_stands}
 use Rattle.worker_core.proofs.Machines.{keeps_under}
 use Rattle.worker_core.proofs.Owning.{stood}
 use Rattle.worker_core.proofs.Turning.{turn_stands}
-use Rattle.actor_rounds.specs.declared.drainers.Drainer.{Drainer}
-use Rattle.actor_rounds.specs.Drainers.{agent_of, roles_of}
-use Rattle.actor_rounds.specs.Longer.{GrowsWithin}
-use Rattle.actor_rounds.specs.Rounds.{Asks, Ends, IsHeld, IsIdle, IsRound, IsSpent, Lets, Runs, Turns, told_entry}
-use Rattle.actor_rounds.proofs.RoundFacts.{AreBuilt, roles_built, round_grows}
-use Rattle.actor_rounds.proofs.RunFacts.{run_grows, still_role, turn_memory}
+use Rattle.actor_rounds.specs.Drainers.{agent_of}
+use Rattle.actor_rounds.specs.Rounds.{Asks, IsHeld, IsIdle, IsSpent, Lets, Runs, told_entry}
+use Rattle.actor_rounds.proofs.RunFacts.{still_role, turn_memory}
 use Rattle.worker_core.proofs.Answered.{turn_role}
-use Rattle.settle_slot.proofs.Slot.Slots.{older, run_older}
-use Rattle.settle_progress.specs.Epochs.Awake.{AgentsStayAwake, IsAwake}
-use Rattle.settle_progress.specs.Epochs.Epochs.{IsCurrent, TakesNoMore}
+use Rattle.settle_slot.proofs.Slot.Slots.{run_older}
+use Rattle.settle_progress.specs.Epochs.Epochs.{IsCurrent}
 use Rattle.settle_progress.proofs.Epochs.Calls.{fresh, mount_is, mounts_is, unmount_is}
-use Rattle.settle_progress.proofs.Epochs.Epochs.{MayNotTake, entry_stays, is_agent, may_not_later, round_stays, run_stays, takes_none_later}
+use Rattle.settle_progress.proofs.Epochs.Epochs.{entry_stays, is_agent}
 
 -- what is answered otherwise
 
@@ -339,78 +335,3 @@ module _ (setup : Setup) (lets : Lets) (seat : ℕ) (node : List ℕ) (after : A
       run_awake next h (b - 1) more (still_role s given next (Call request) request Lost turn absorbs ∙ role) current
       (ap (λ (x : ActorState). x.memory.stale) absorbs
       ∙ (ap (λ (m : Memory). m.stale) (lost_memory given next.caches request) ∙ (ap (λ (m : Memory). m.stale) (turn_memory s given (Call request) turn) ∙ awake)))
-
--- a round leaves an agent awake
-
-module _ (setup : Setup) (lets : Lets) (past : List Entry) (left : ℕ) (node : List ℕ) (history : IsHistory setup past) where
-  awake_on : (ds : List Drainer) (h : List Entry) (b : ℕ) (after : List Drainer) (whole : Bool) → IsRound lets past left ds h b after whole
-      → AreBuilt (roles_of ds) → (place : ℕ) (d then_ : Drainer) → slice_get ds place ≡ Some d → slice_get after place ≡ Some then_
-      → d.actor.role ≡ agent_of node → ((i : ℕ) (other : Drainer) → slice_get ds i ≡ Some other → other.actor.role ≡ agent_of node → (i ≡ place) ⊎
-      TakesNoMore node other.seat other.actor h) → IsAwake setup h node d → IsAwake setup past node then_
-  awake_on _ h b _ _ (Ends entries rest) built place d then_ there then_there role alone awake = none_some there
-  awake_on _ h b _ _ (Turns {ds = ds} {after = after} {whole = whole} first ran middle rest idle seat run more) built zero d then_ there then_there
-      role alone awake = record { fresh = fresh; current = current }
-    where
-      slot : GrowsWithin (first.seat ∷ []) (b - rest) h middle
-      slot = run_grows lets first.seat ran.actor middle rest idle (woken first.actor) h b run
-
-      same : first ≡ d
-      same = one first d there
-
-      ran_same : ran ≡ then_
-      ran_same = one ran then_ then_there
-
-      before : IsHistory setup middle
-      before = let g = round_grows lets past left ds middle rest after whole more in older setup g.longer.added middle (subst (IsHistory setup) g.longer.are history)
-
-      first_role : first.actor.role ≡ agent_of node
-      first_role = ap (λ (x : Drainer). x.actor.role) same ∙ role
-
-      first_current : IsCurrent setup h node first.seat
-      first_current = subst (λ (x : Drainer). IsCurrent setup h node x.seat) (sym same) awake.current
-
-      fresh : then_.actor.memory.stale ≡ false
-      fresh =
-          ap (λ (x : Drainer). x.actor.memory.stale) (sym ran_same)
-          ∙ run_awake setup lets first.seat node ran.actor middle rest idle before (woken first.actor) h b run first_role first_current (ap (λ (x : Drainer). x.actor.memory.stale) same ∙ awake.fresh)
-
-      middle_current : IsCurrent setup middle node first.seat
-      middle_current = run_stays setup lets first.seat first.seat node ran.actor middle rest idle before (woken first.actor) h b run built.0 (λ is. inl refl) first_current
-
-      current : IsCurrent setup past node then_.seat
-      current =
-          subst (IsCurrent setup past node) (sym seat ∙ ap (λ (x : Drainer). x.seat) ran_same)
-          (round_stays setup lets past left first.seat node history ds middle rest after whole more built.1 (λ i other at is. not_first i other (alone (suc i) other at is)) middle_current)
-        where
-          suc_zero : (i : ℕ) → suc i ≡ 0 → ⊥
-          suc_zero i e = omega (arith, e)
-
-          not_first : (i : ℕ) (other : Drainer) → (suc i ≡ 0) ⊎ TakesNoMore node other.seat other.actor h → MayNotTake node first.seat other.seat other.actor middle
-          not_first i other (inl e) = absurd (suc_zero i e)
-          not_first i other (inr none) = may_not_later node first.seat other.seat other.actor slot.longer.added h middle slot.longer.are (inr none)
-  awake_on _ h b _ _ (Turns {ds = ds} {after = after} {whole = whole} first ran middle rest idle seat run more) built (suc place) d then_ there then_there role alone awake =
-      awake_on ds middle rest after whole more built.1 place d then_ there then_there role (λ i other at is. shift i other (alone (suc i) other at is)) (record { fresh = awake.fresh; current = on })
-    where
-      before : IsHistory setup middle
-      before = let g = round_grows lets past left ds middle rest after whole more in older setup g.longer.added middle (subst (IsHistory setup) g.longer.are history)
-
-      slot : GrowsWithin (first.seat ∷ []) (b - rest) h middle
-      slot = run_grows lets first.seat ran.actor middle rest idle (woken first.actor) h b run
-
-      shift : (i : ℕ) (other : Drainer) → (suc i ≡ suc place) ⊎ TakesNoMore node other.seat other.actor h → (i ≡ place) ⊎ TakesNoMore node other.seat other.actor middle
-      shift i other (inl e) = inl (omega (arith, e))
-      shift i other (inr none) = inr (subst (TakesNoMore node other.seat other.actor) (sym slot.longer.are) (takes_none_later node other.seat other.actor slot.longer.added h none))
-
-      other_role : (0 ≡ suc place) ⊎ TakesNoMore node first.seat first.actor h → (first.seat ≡ d.seat) ⊎ TakesNoMore node first.seat first.actor h
-      other_role (inl e) = absurd (suc_zero e)
-        where
-          suc_zero : 0 ≡ suc place → ⊥
-          suc_zero z = omega (arith, z)
-      other_role (inr none) = inr none
-
-      on : IsCurrent setup middle node d.seat
-      on = run_stays setup lets first.seat d.seat node ran.actor middle rest idle before (woken first.actor) h b run built.0 (λ is. other_role (alone 0 first refl is)) awake.current
-
-pub agents_stay_awake : AgentsStayAwake
-agents_stay_awake setup lets ds after h past b left whole place d then_ node history roles round there then_there role alone awake =
-    awake_on setup lets past left node history ds h b after whole round (roles_built (roles_of ds) roles) place d then_ there then_there role alone awake

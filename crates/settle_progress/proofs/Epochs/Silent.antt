@@ -33,7 +33,7 @@ use Rattle.actor_rounds.proofs.RoundFacts.{round_grows}
 use Rattle.actor_rounds.proofs.RunFacts.{run_grows, run_role, still_role, turn_memory}
 use Rattle.worker_core.proofs.Answered.{turn_role}
 use Rattle.settle_progress.specs.Epochs.Epochs.{IsCurrent}
-use Rattle.settle_progress.specs.Epochs.Silent.{CurrentAreAwake, OnlyOvertakenAreSilent, OthersSilenceNone, RoundsSilenceTheOvertaken, WasOvertaken}
+use Rattle.settle_progress.specs.Epochs.Silent.{CurrentAreAwake, OnlyOvertakenAreSilent, RoundsSilenceTheOvertaken, WasOvertaken}
 use Rattle.settle_progress.proofs.Epochs.Awake.{asked_fresh, lost_memory, told_memory}
 use Rattle.settle_progress.proofs.Epochs.Epochs.{epoch_is}
 use Rattle.settle_progress.proofs.Epochs.Remembered.{good_of}
@@ -200,9 +200,6 @@ module _ (setup : Setup) (lets : Lets) (past : List Entry) (left : ℕ) (run : I
 
 pub rounds_silence_the_overtaken : RoundsSilenceTheOvertaken
 rounds_silence_the_overtaken setup lets ds after h past b left whole run seats round before = round_silent setup lets past left run ds h b after whole round seats.differ before
-
-pub others_silence_none : OthersSilenceNone
-others_silence_none setup ds newer h same only place d node there role silent = overtaken_on setup newer h node d.seat (same place d there) (only place d node there role silent)
 
 pub current_are_awake : CurrentAreAwake
 current_are_awake setup ds h place d node only there role current = record { fresh = by d.actor.memory.stale refl; current = current }

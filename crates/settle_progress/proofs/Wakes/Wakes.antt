@@ -1,6 +1,6 @@
 -- A slot decides a key that is in work when it begins, once that work is over.
 use Rattle.std.proofs.Common.{◌≡◌, ◌∙◌, ℕ, ◌-◌, List, [], ◌∷◌, ◌++◌, Bool, true, false, true≢false, Option, Some, None, inl, inr, refl, sym, ap, subst, if◌then◌else◌}
-use Rattle.std.specs.Prelude.{cond, is_some, map, ⊤}
+use Rattle.std.specs.Prelude.{cond, is_some, map}
 use Rattle.kube_objects.specs.declared.key.Key.{Key}
 use Rattle.kube_objects.specs.declared.objects.Object.{Object}
 use Rattle.kube_objects.specs.Keys.{row_at}
@@ -38,9 +38,9 @@ use Rattle.settle_alike.specs.Alike.Alike.{AreAlike}
 use Rattle.settle_alike.proofs.Alike.Calls.{LastsOrAlike, calls_last_or_leave_alike, then_alike}
 use Rattle.settle_slot.specs.Slot.Slots.{KnowsBehind}
 use Rattle.settle_slot.proofs.Slot.Knowing.{lost_knows, told_knows, turned_knows}
-use Rattle.settle_slot.proofs.Slot.Slots.{last, lasting_here, lasting_later, nothing_behind, run_older}
+use Rattle.settle_slot.proofs.Slot.Slots.{lasting_here, lasting_later, run_older}
 use Rattle.settle_calls.proofs.Passes.Given.{in_place}
-use Rattle.settle_progress.specs.Wakes.Wakes.{BusySlotsLast, CachedKeysCome, ComesAgain}
+use Rattle.settle_progress.specs.Wakes.Wakes.{ComesAgain}
 use Rattle.settle_progress.proofs.Wakes.Adding.{finished_comes, kinds_come, put_off_comes}
 
 pub come_by : (s : ActorState) (mine : List Entry) (key : Key) (o : Object) → AllStandFor s.caches mine → follows s.role.kind key.kind ≡ true
@@ -50,9 +50,6 @@ come_by s mine key o c f there =
     let own_kind : key.kind ≡ kind_known (cache_of key.kind s.caches) = sym (c.kinds key.kind) in
     let row : row_at key (objects_of (cache_of key.kind s.caches)) ≡ Some o = (c.each key.kind).rows key own_kind ∙ (sym (c.rows key) ∙ there) in
     kinds_come s.caches (kinds_of s.role.kind) key.kind key s.work (in_place (kinds_of s.role.kind) p.place key.kind p.at) (row_any key o _ row)
-
-pub cached_keys_come : CachedKeysCome
-cached_keys_come s mine key o stands f there = come_by s mine key o stands.told.caches f there
 
 -- a marked key is that of what is under way
 
@@ -210,13 +207,3 @@ module _ (setup : Setup) (lets : Lets) (seat : ℕ) (role : Role) (start : List 
           subst (λ w. waits key w ≡ true) (sym (ap (λ (x : ActorState). x.work) state))
           (subst (λ k. waits key (ended_work true k given.work) ≡ true) (sym own) (put_off_comes key given.work (ap (λ (w : Work). mark_of key w.taken) work ∙ marked))) in
           waiting_last next h (b - 1) more next_role alike (lost_knows setup seat given next request h (turned_knows setup seat s given (Call request) h turn knows) absorbs) kept there
-
-pub busy_slots_last : BusySlotsLast
-busy_slots_last setup lets seat start key old after h past b left built history alike run fresh acts comes = by comes
-  where
-    by : ComesAgain key (woken old).work → HasLasting setup h past
-    by (inl there) = last setup lets seat old.role start key acts built after past left history fresh (woken old) h b run refl alike (nothing_behind setup seat old h) there
-    by (inr again) =
-        marked_last setup lets seat old.role start key built after past left history fresh (λ x. ⊤) (λ s given request reply x newer is ready turn are k. tt)
-        (λ s x n more is same knows k waiting. last setup lets seat old.role start key acts built after past left history fresh s x n more is same
-        knows waiting) (woken old) h b run refl alike (nothing_behind setup seat old h) tt again

@@ -1,6 +1,6 @@
 -- An agent is silent only where its node was taken by another: so one that took no epoch but the node's is no stale one.
 -- A choice of this project.
-use Rattle.std.specs.Prelude.{ℕ, ◌≡◌, ◌<◌, Bool, true, List, ◌++◌, Some, slice_get}
+use Rattle.std.specs.Prelude.{ℕ, ◌≡◌, ◌<◌, Bool, true, List, Some, slice_get}
 use Rattle.call_types.specs.declared.entry.Entry.{Entry}
 use Rattle.call_types.specs.declared.setup.Setup.{Setup}
 use Rattle.binder_model.specs.AgentLicence.{last_epoch}
@@ -29,12 +29,6 @@ abbrev pub RoundsSilenceTheOvertaken : Type 0
 RoundsSilenceTheOvertaken =
     (setup : Setup) (lets : Lets) (ds after : List Drainer) (h past : List Entry) (b left : ℕ) (whole : Bool) → IsRunOf setup past
     → AreSeats (seats_of ds) → IsRound lets past left ds h b after whole → OnlyOvertakenAreSilent setup ds h → OnlyOvertakenAreSilent setup after past
-
--- so do entries of others
-abbrev pub OthersSilenceNone : Type 0
-OthersSilenceNone =
-    (setup : Setup) (ds : List Drainer) (newer h : List Entry)
-    → ((place : ℕ) (d : Drainer) → slice_get ds place ≡ Some d → own d.seat (newer ++ h) ≡ own d.seat h) → OnlyOvertakenAreSilent setup ds h → OnlyOvertakenAreSilent setup ds (newer ++ h)
 
 -- and an agent that took no epoch but the one that its node has is then no stale one
 abbrev pub CurrentAreAwake : Type 0

@@ -8,12 +8,10 @@ use Rattle.call_types.specs.declared.entry.Entry.{Entry}
 use Rattle.call_types.specs.declared.setup.Setup.{Setup}
 use Rattle.binder_model.specs.Reading.{follows}
 use Rattle.binder_model.specs.World.{IsHistory, world}
-use Rattle.informer_cache.specs.All.{all_objects}
 use Rattle.sync_queue.specs.Work.{Work, mark_of}
 use Rattle.worker_core.specs.Absorbs.{woken}
 use Rattle.worker_core.specs.Roles.{IsBuiltKind}
 use Rattle.worker_core.specs.States.{ActorState, waits}
-use Rattle.actor_rounds.specs.Drainers.{StandsWhole}
 use Rattle.actor_rounds.specs.Rounds.{Lets, Runs}
 use Rattle.settle_writes.specs.Writes.Lasting.{HasLasting}
 use Rattle.settle_alike.specs.Alike.Alike.{AreAlike}
@@ -22,19 +20,6 @@ use Rattle.settle_slot.specs.Slot.Slots.{ActsOn}
 -- the key waits, or it is in work and was added again since
 abbrev pub ComesAgain : Key → Work → Type 0
 ComesAgain key w = (waits key w ≡ true) ⊎ (mark_of key w.taken ≡ Some true)
-
--- a key that an actor has cached does so once the actor is woken, whatever is under way
-abbrev pub CachedKeysCome : Type 0
-CachedKeysCome = (s : ActorState) (mine : List Entry) (key : Key) (o : Object) → StandsWhole s mine → follows s.role.kind key.kind ≡ true
-    → row_at key (all_objects s.caches) ≡ Some o → ComesAgain key (woken s).work
-
--- a slot that ends idle, with such a key on which the actor acts, has an entry that lasts
-abbrev pub BusySlotsLast : Type 0
-BusySlotsLast =
-    (setup : Setup) (lets : Lets) (seat : ℕ) (start : List Entry) (key : Key) (old after : ActorState) (h past : List Entry) (b left : ℕ) → IsBuiltKind old.role.kind → IsHistory setup past
-    → AreAlike (world setup start) (world setup h) → Runs lets seat after past left true (woken old) h b → after.memory.stale ≡ false
-    → ActsOn setup lets seat old.role start key → ComesAgain key (woken old).work
-    → HasLasting setup h past
 
 -- wherever an object of a kind that the actor follows stands, its key is decided in a slot that ends idle: it is cached, or a list or
 -- a watch tells it, whatever is under way. So where the actor acts on the key the slot has an entry that lasts

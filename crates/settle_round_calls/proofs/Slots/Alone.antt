@@ -12,7 +12,6 @@ use Rattle.binder_model.specs.Promises.{IsRunOf}
 use Rattle.binder_model.specs.World.{world}
 use Rattle.model_laws.proofs.Histories.{rows_stand_in_order}
 use Rattle.settle_measure.specs.Left.Measure.{claims_in}
-use Rattle.worker_core.specs.Absorbs.{woken}
 use Rattle.worker_core.specs.Roles.{IsBuiltKind, kinds_of}
 use Rattle.worker_core.specs.States.{ActorState}
 use Rattle.actor_rounds.specs.Rounds.{Lets, Runs}
@@ -21,7 +20,7 @@ use Rattle.settle_calls.specs.Events.Ahead.{sum_over}
 use Rattle.settle_calls.specs.Slots.Slots.{PassesReads, writes_since}
 use Rattle.settle_write_counts.proofs.Rounds.Growth.{made_few, made_keys}
 use Rattle.settle_round_calls.specs.Slots.Costs.{made_calls}
-use Rattle.settle_round_calls.specs.Slots.Slots.{SlotsCostLess, again_calls, objects_calls}
+use Rattle.settle_round_calls.specs.Slots.Slots.{again_calls, objects_calls}
 use Rattle.settle_round_calls.proofs.Slots.Calls.{sweep_cost, sweep_is}
 use Rattle.settle_round_calls.proofs.Slots.KindCosts.{kinds_cost}
 use Rattle.settle_round_calls.proofs.Slots.RoundCosts.{kept_first, most}
@@ -73,6 +72,3 @@ costs_by_rows setup lets seat old after h past b left idle built run passes rest
     let swept = mul-le (sweep_cost (world setup h).store.rows old.role.kind) (writes_since setup h past / 513)
     (again_calls old.role.kind (world setup h).store.rows) (writes_since setup h past / 513) (again_more old.role.kind (world setup h).store.rows) (omega arith) in
     omega (arith, bound, few, swept)
-
-pub slots_cost_by_rows : SlotsCostLess
-slots_cost_by_rows setup lets seat old after h past b left idle built run passes rests runs = costs_by_rows setup lets seat (woken old) after h past b left idle built run passes rests runs

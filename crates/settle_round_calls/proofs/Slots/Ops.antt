@@ -10,7 +10,6 @@ use Rattle.call_types.specs.declared.setup.Setup.{Setup}
 use Rattle.binder_model.specs.Promises.{IsRunOf}
 use Rattle.binder_model.specs.World.{world}
 use Rattle.settle_measure.specs.Left.Measure.{claims_in, total, volumes_in}
-use Rattle.worker_core.specs.Absorbs.{woken}
 use Rattle.worker_core.specs.Roles.{IsBuiltKind}
 use Rattle.worker_core.specs.States.{ActorState}
 use Rattle.actor_rounds.specs.Rounds.{Lets, Runs}
@@ -18,7 +17,7 @@ use Rattle.settle_slot.specs.Slot.Slots.{begun}
 use Rattle.settle_calls.specs.Slots.Slots.{PassesReads, writes_since}
 use Rattle.settle_write_counts.proofs.Rounds.Runs.{silent_run}
 use Rattle.settle_round_calls.specs.Slots.Costs.{own_calls}
-use Rattle.settle_round_calls.specs.Slots.Slots.{OpsSlotsCostLess, again_calls, ended_in, objects_calls, ops_sweep_calls}
+use Rattle.settle_round_calls.specs.Slots.Slots.{again_calls, ended_in, objects_calls, ops_sweep_calls}
 use Rattle.settle_round_calls.proofs.Slots.Alone.{again_is, costs_by_rows}
 
 -- they are no more than the volumes
@@ -74,6 +73,3 @@ ops_costs_from setup lets seat old after h past b left idle kind run passes rest
         let again : again_calls old.role.kind (world setup h).store.rows * (writes_since setup h past / 513) ≡ ops_sweep_calls (world setup h).store.rows * (writes_since setup h past / 513) =
         ap (λ n. n * (writes_since setup h past / 513)) (ap (λ k. again_calls k (world setup h).store.rows) kind ∙ ops_sweeps (world setup h).store.rows) in
         omega (arith, bound, objects, again)
-
-pub ops_slots_cost_less : OpsSlotsCostLess
-ops_slots_cost_less setup lets seat old after h past b left idle kind run passes rests runs = ops_costs_from setup lets seat (woken old) after h past b left idle kind run passes rests runs

@@ -22,7 +22,6 @@ use Rattle.settle_calls.specs.Tasks.Costs.{calls_for, calls_if, key_cost}
 use Rattle.settle_calls.proofs.Events.Rows.{weigh_if}
 use Rattle.settle_calls.specs.Slots.Rounds.{names_in}
 use Rattle.settle_write_counts.proofs.Rounds.Growth.{AreGiven, Comes, IsFor, IsGiven, IsMade, IsOld, IsOver, given_first, made_keys, made_kind, moved_given}
-use Rattle.settle_write_counts.proofs.Rounds.Failing.{is_ops}
 use Rattle.settle_write_counts.proofs.Rounds.Nodes.{IsMoved}
 use Rattle.settle_round_calls.specs.Slots.Costs.{claim_calls, made_calls, own_calls, pod_calls, volume_calls}
 
@@ -423,27 +422,3 @@ kept_on kind first old new order moves kept = record {
     given_by : CallMoves kind old new → AreGiven first new
     given_by (IsSame same) = subst (AreGiven first) (sym same) kept.given
     given_by (Moved o comes come moved) = moved_given first old kept.given order new o comes moved
-
--- for any other than ops it is enough that they are given
-agents_kept : (first rows : List Object) → AreGiven first rows → CostsNoMore seats.Agent first rows
-agents_kept first rows given key = by (row_at key rows) refl
-  where
-    at : (o : Object) → kind_of o ≡ key.kind → IsGiven first key o → own_calls seats.Agent o ≤ now_cost seats.Agent first key
-    at o keyed (IsOld was there few uid) =
-        let less = agents_same o was (ap kind_index (keyed ∙ sym (ap (λ (k : Key). k.kind) (row_at_key key was first there)))) few in
-        let is : now_cost seats.Agent first key ≡ own_calls seats.Agent was = ap (weigh_if (own_calls seats.Agent)) there in
-        omega (arith, less, is)
-    at o keyed (IsMade i none) = let z = agents_volume o (ap kind_index keyed ∙ made_kind key first i) in omega (arith, z)
-
-    by : (x : Option Object) → row_at key rows ≡ x → weigh_if (own_calls seats.Agent) x ≤ now_cost seats.Agent first key
-    by None e = omega arith
-    by (Some o) e = at o (ap (λ (k : Key). k.kind) (row_at_key key o rows e)) (given key o e)
-
-pub given_kept : (kind : SeatKind) (first rows : List Object) → is_ops kind ≡ false → AreGiven first rows → AreKept kind first rows
-given_kept seats.Ops first rows other given = absurd (true≢false other)
-given_kept seats.Agent first rows other given = record { given = given; no_more = λ now. agents_kept first rows given }
-given_kept seats.User first rows other given = record { given = given; no_more = λ now. absurd (true≢false (sym now)) }
-given_kept seats.Binder first rows other given = record { given = given; no_more = λ now. absurd (true≢false (sym now)) }
-given_kept seats.Scheduler first rows other given = record { given = given; no_more = λ now. absurd (true≢false (sym now)) }
-given_kept seats.ClaimProtect first rows other given = record { given = given; no_more = λ now. absurd (true≢false (sym now)) }
-given_kept seats.VolumeProtect first rows other given = record { given = given; no_more = λ now. absurd (true≢false (sym now)) }

@@ -19,7 +19,7 @@ use Rattle.settle_measure.specs.Left.Measure.{total}
 use Rattle.worker_core.specs.declared.role.Role.{Role}
 use Rattle.worker_core.specs.declared.turn.Next.TheVariants.{Call}
 use Rattle.worker_core.specs.declared.turn.Outcome.TheVariants.{Lost, Told}
-use Rattle.worker_core.specs.Absorbs.{lost_to, told_to, woken}
+use Rattle.worker_core.specs.Absorbs.{lost_to, told_to}
 use Rattle.worker_core.specs.Roles.{IsBuiltKind, kinds_of}
 use Rattle.worker_core.specs.States.{ActorState}
 use Rattle.worker_core.specs.Turns.{passing, unlisted}
@@ -424,9 +424,3 @@ costs_from setup lets seat old after h past b left idle first built run passes r
       light = λ y i lt. absurd (let top = at_most 0 (world setup h).store.version (world setup h).log y (logs setup h 0) i in omega (arith, top, lt));
       heavy = omega (arith, up);
     }
-
-pub slots_cost_less : (setup : Setup) (lets : Lets) (seat : ℕ) (old after : ActorState) (h past : List Entry) (b left : ℕ) (idle : Bool)
-    (first : List Object) → IsBuiltKind old.role.kind → IsRunOf setup past → PassesReads lets → old.under ≡ None → AreRows first
-    → AreKept old.role.kind first (world setup h).store.rows → Runs lets seat after past left idle (woken old) h b → b ≤ left + slot_most first old.role.kind (writes_since setup h past)
-slots_cost_less setup lets seat old after h past b left idle first built run passes rests order so runs =
-    costs_from setup lets seat (woken old) after h past b left idle first built run passes rests order so runs

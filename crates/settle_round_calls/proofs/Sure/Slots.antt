@@ -17,7 +17,6 @@ use Rattle.model_laws.proofs.Watched.{logs}
 use Rattle.worker_core.specs.declared.role.Role.{Role}
 use Rattle.worker_core.specs.declared.turn.Next.TheVariants.{Call}
 use Rattle.worker_core.specs.declared.turn.Outcome.TheVariants.{Told}
-use Rattle.worker_core.specs.Absorbs.{woken}
 use Rattle.worker_core.specs.Roles.{kinds_of}
 use Rattle.worker_core.specs.States.{ActorState}
 use Rattle.worker_core.specs.Turns.{IsTurn, passing, unlisted}
@@ -49,7 +48,6 @@ use Rattle.settle_calls.proofs.Passes.Reaching.{IsBefore, IsPast, ReachedBehind,
 use Rattle.settle_calls.proofs.Slots.HeldCalls.{own_read}
 use Rattle.settle_round_calls.proofs.Slots.RoundCosts.{key_calls}
 use Rattle.settle_round_calls.proofs.Slots.Stages.{all_read, nothing_told}
-use Rattle.settle_round_calls.specs.Sure.Sure.{SureSlotsCostWrites}
 use Rattle.settle_round_calls.proofs.Sure.Calls.{calls_pay}
 use Rattle.settle_round_calls.proofs.Sure.Passes.{none_since}
 use Rattle.settle_round_calls.proofs.Sure.Lasting.{sure_built}
@@ -243,6 +241,3 @@ sure_from setup lets seat old after h past b left idle sure run holds rests runs
         let none : under_left old.under ≡ 0 = ap under_left (rests e) in
         let few = key_few old.role.kind in
         omega (arith, bound, start, waits, events, none, few)
-
-pub sure_slots_cost_writes : SureSlotsCostWrites
-sure_slots_cost_writes setup lets seat old after h past b left idle sure run holds rests runs = sure_from setup lets seat (woken old) after h past b left idle sure run holds rests runs

@@ -1,17 +1,13 @@
 -- How many calls a round makes at most: the stated number.
 -- A choice of this project.
-use Rattle.std.specs.Prelude.{ℕ, ◌≤◌, ◌+◌, ◌*◌, ◌-◌, ◌/◌, Bool, List, length, ⊤}
+use Rattle.std.specs.Prelude.{ℕ, ◌≤◌, ◌+◌, ◌*◌, ◌-◌, ◌/◌, List, length, ⊤}
 use Rattle.call_types.specs.declared.entry.Entry.{Entry}
 use Rattle.call_types.specs.declared.setup.Setup.{Setup}
-use Rattle.binder_model.specs.Promises.{IsRunOf}
 use Rattle.binder_model.specs.World.{World, world}
 use Rattle.settle_measure.specs.Left.Measure.{claims_in, faults_left, pods_in, volumes_in}
 use Rattle.actor_rounds.specs.declared.drainers.Drainer.{Drainer}
-use Rattle.actor_rounds.specs.Drainers.{AreAtRest, AreRoles, roles_of}
-use Rattle.actor_rounds.specs.Rounds.{Drains, Goes, IsRound, IsSpent, Lets, NothingDue}
-use Rattle.settle_slot.specs.Slot.Gates.{HoldsMountsAlone}
+use Rattle.actor_rounds.specs.Rounds.{Drains, Goes, IsSpent, Lets, NothingDue}
 use Rattle.settle_calls.specs.Slots.Rounds.{size_of_world}
-use Rattle.settle_calls.specs.Slots.Slots.{writes_since}
 use Rattle.settle_write_counts.specs.Scheduler.Pods.{pods_writes}
 use Rattle.settle_write_counts.specs.Rounds.Counts.{nodes_in}
 use Rattle.settle_write_counts.specs.Rounds.Rounds.{pods_size}
@@ -41,15 +37,6 @@ less_calls actors claims volumes pods writes = 8 * writes + (2 * claims + 3 * vo
 -- after each 513 writes of ops there may be a sweep, and after each 513 of an agent, which writes once for each pod
 abbrev pub swept_calls : Setup → World → ℕ
 swept_calls setup w = sweep_calls (claims_in w.store.rows) (volumes_in w.store.rows) * (ops_most setup w / 513) + agent_sweep_calls (pods_size w) * (pods_in w.store.rows / 513)
-
--- of a round of the actors of a drain that begins with nothing under way and in which Mounts alone may be held back, in a world of any size. A Mount that
--- is held back counts as a call
-abbrev pub RoundsCostLess : Type 0
-RoundsCostLess =
-    (setup : Setup) (lets : Lets) (ds after : List Drainer) (h past : List Entry) (b left : ℕ) (whole : Bool) → AreRoles (roles_of ds) → AreAtRest ds
-    → IsRunOf setup past → HoldsMountsAlone lets → IsRound lets past left ds h b after whole
-    → b ≤ left + (less_calls (length ds) (claims_in (world setup h).store.rows) (volumes_in (world setup h).store.rows) (pods_size (world setup h))
-    (writes_since setup h past) + swept_calls setup (world setup h))
 
 -- ---- by the sizes
 

@@ -8,9 +8,8 @@ use Rattle.settle_measure.specs.Left.Measure.{claims_in, left_of, pods_in, total
 use Rattle.settle_measure.proofs.Left.Bounds.{left_is_bounded}
 use Rattle.settle_calls.specs.Slots.Rounds.{names_in}
 use Rattle.settle_write_counts.specs.Scheduler.Pods.{pod_writes, pods_writes}
-use Rattle.settle_write_counts.proofs.Rounds.Ordered.{nodes_are_few}
 use Rattle.settle_write_counts.proofs.Rounds.Rounds.{rounds_write_little}
-use Rattle.settle_write_counts.specs.Rounds.Rounds.{SizesBoundWrites, WritesAreFew}
+use Rattle.settle_write_counts.specs.Rounds.Rounds.{WritesAreFew}
 
 -- what is left to do, and what the scheduler may write twice, is no more than 18 for each object and each claim that is named
 sized : (rows : List Object) → 18 * claims_in rows + 10 * volumes_in rows + 4 * pods_in rows + 2 * total pod_writes rows ≤ 18 * total (λ o. 1 + names_in o) rows
@@ -38,18 +37,3 @@ writes_are_few setup lets ds after h past b left whole roles payers run round fe
     let paid = rounds_write_little setup lets ds after h past b left whole roles run round payers few in
     let most = writes_most (world setup h) in
     omega (arith, paid, most)
-
--- each claim is an object
-claims_few : (rows : List Object) → claims_in rows ≤ total (λ o. 1 + names_in o) rows
-claims_few [] = omega arith
-claims_few (Class x ∷ os) = let rest = claims_few os in omega (arith, rest)
-claims_few (Node x ∷ os) = let rest = claims_few os in omega (arith, rest)
-claims_few (Volume x ∷ os) = let rest = claims_few os in omega (arith, rest)
-claims_few (Claim x ∷ os) = let rest = claims_few os in omega (arith, rest)
-claims_few (Pod x ∷ os) = let rest = claims_few os in omega (arith, rest)
-
-pub sizes_bound_writes : SizesBoundWrites
-sizes_bound_writes setup w order in_order =
-    let nodes = nodes_are_few w order in_order in
-    let claims = claims_few w.store.rows in
-    omega (arith, nodes, claims)

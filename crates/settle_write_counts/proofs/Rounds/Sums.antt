@@ -15,7 +15,7 @@ use Rattle.settle_measure.specs.Left.Measure.{total}
 use Rattle.worker_core.specs.Absorbs.{woken}
 use Rattle.worker_core.specs.Roles.{IsBuiltKind}
 use Rattle.actor_rounds.specs.declared.drainers.Drainer.{Drainer}
-use Rattle.actor_rounds.specs.Drainers.{AreAtRest, AreRoles, roles_of}
+use Rattle.actor_rounds.specs.Drainers.{AreAtRest, roles_of}
 use Rattle.actor_rounds.specs.Rounds.{Ends, IsRound, Lets, Runs, Turns}
 use Rattle.actor_rounds.proofs.RoundFacts.{AreBuilt, roles_built, round_grows}
 use Rattle.actor_rounds.proofs.RunFacts.{run_grows}
@@ -26,11 +26,10 @@ use Rattle.settle_calls.specs.Slots.Slots.{PassesReads, slot_cost, writes_since}
 use Rattle.settle_calls.proofs.Slots.Rounds.{cheaper, total_less, total_sized}
 use Rattle.settle_calls.proofs.Slots.Slots.{slots_are_short}
 use Rattle.settle_progress.proofs.Epochs.Silent.{older_run}
-use Rattle.settle_write_counts.proofs.Rounds.Rounds.{rounds_write_little}
 use Rattle.settle_write_counts.proofs.Rounds.Runs.{silent_run}
 use Rattle.settle_write_counts.proofs.Rounds.Slots.{counted}
-use Rattle.settle_write_counts.specs.Rounds.Rounds.{ArePaying, CallsAreBounded, CallsAreFew, CallsArePaid, RoundsAddLittle, RoundsAddNoPod, most_size, most_writes}
-use Rattle.settle_write_counts.proofs.Rounds.Growth.{AreGiven, given_few, given_first, pods_few}
+use Rattle.settle_write_counts.specs.Rounds.Rounds.{ArePaying, CallsAreBounded, CallsAreFew, most_size, most_writes}
+use Rattle.settle_write_counts.proofs.Rounds.Growth.{AreGiven, given_few, given_first}
 use Rattle.settle_write_counts.proofs.Rounds.Made.{slot_given}
 use Rattle.settle_write_counts.proofs.Rounds.Sizes.{writes_are_few}
 
@@ -123,22 +122,6 @@ module _ (setup : Setup) (lets : Lets) (past : List Entry) (left : ℕ) (run : I
         let actors = one_more (length ds) (3 * most_size (world setup start) + 62) in
         omega (arith, later, first, split, sweeps, whole_, actors)
 
--- a round of these, from the world with which it begins on
-all_given : (setup : Setup) (lets : Lets) (ds after : List Drainer) (h past : List Entry) (b left : ℕ) (whole : Bool) → AreRoles (roles_of ds)
-    → AreAtRest ds → IsRunOf setup past → IsRound lets past left ds h b after whole → AreGiven (world setup h).store.rows (world setup past).store.rows
-all_given setup lets ds after h past b left whole roles rests run round =
-    round_given setup lets past left run (world setup h).store.rows ds h b after whole round (roles_built (roles_of ds) roles) rests (given_first (world setup h).store.rows)
-
-pub rounds_add_little : RoundsAddLittle
-rounds_add_little setup lets ds after h past b left whole roles rests run round =
-    given_few (world setup h).store.rows (world setup past).store.rows (rows_stand_in_order setup h) (rows_stand_in_order setup past)
-    (all_given setup lets ds after h past b left whole roles rests run round)
-
-pub rounds_add_no_pod : RoundsAddNoPod
-rounds_add_no_pod setup lets ds after h past b left whole roles rests run round =
-    pods_few (world setup h).store.rows (world setup past).store.rows (rows_stand_in_order setup h) (rows_stand_in_order setup past)
-    (all_given setup lets ds after h past b left whole roles rests run round)
-
 pub calls_are_few : CallsAreFew
 calls_are_few setup lets ds after h past b left whole roles rests run passes round =
     let all = sum setup lets past left run passes h (writes_since setup h past) ds h b after whole round (roles_built (roles_of ds) roles) rests
@@ -159,9 +142,3 @@ calls_are_bounded setup lets ds after h past b left whole roles payers run passe
     let writes = writes_are_few setup lets ds after h past b left whole roles payers run round few in
     let sweeps = swept_more (most_size (world setup h)) (writes_since setup h past) (most_writes setup (world setup h)) writes in
     omega (arith, calls, writes, sweeps)
-
-pub calls_are_paid : CallsArePaid
-calls_are_paid setup lets ds after h past b left whole roles payers run passes round few =
-    let calls = calls_are_few setup lets ds after h past b left whole roles (resting setup ds payers) run passes round in
-    let writes = rounds_write_little setup lets ds after h past b left whole roles run round payers few in
-    omega (arith, calls, writes)

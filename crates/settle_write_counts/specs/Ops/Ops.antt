@@ -1,6 +1,6 @@
 -- How many writes the provisioner and reclaimer does in a slot, by the objects with which the slot begins.
 -- A choice of this project.
-use Rattle.std.specs.Prelude.{ℕ, ◌≡◌, ◌≤◌, ◌+◌, ◌*◌, Bool, false, not, ◌||◌, List, Option, Some, None}
+use Rattle.std.specs.Prelude.{ℕ, ◌≡◌, ◌≤◌, ◌+◌, Bool, false, not, ◌||◌, List, Option, Some, None}
 use Rattle.kube_objects.specs.declared.objects.Object.{Object}
 use Rattle.kube_objects.specs.declared.objects.Object.TheVariants.{Volume, Claim}
 use Rattle.kube_parts.specs.declared.uid.Uid.{Uid}
@@ -18,7 +18,7 @@ use Rattle.worker_core.specs.Absorbs.{woken}
 use Rattle.worker_core.specs.States.{ActorState}
 use Rattle.actor_rounds.specs.Rounds.{Lets, Runs}
 use Rattle.settle_calls.specs.Slots.Slots.{writes_since}
-use Rattle.settle_write_counts.specs.Rounds.Counts.{AnnotationsAreInOrder, nodes_in}
+use Rattle.settle_write_counts.specs.Rounds.Counts.{nodes_in}
 
 -- a volume stands there that has not ended
 abbrev pub is_open : Option Object → Bool
@@ -50,12 +50,3 @@ OpsWritesFall =
 -- it is no more than these, in any world
 abbrev pub OpsWritesAreBounded : Type 0
 OpsWritesAreBounded = (setup : Setup) (w : World) → ops_writes setup w ≤ claims_in w.store.rows + volumes_in w.store.rows + nodes_in w + faults_left setup w.devices
-
--- so where the annotations of claims are in order it writes twice for each claim at most, and once for each volume and for each planned fault
--- that is ahead
-abbrev pub OpsSlotsWriteLittle : Type 0
-OpsSlotsWriteLittle =
-    (setup : Setup) (lets : Lets) (seat : ℕ) (old after : ActorState) (h past : List Entry) (b left : ℕ) (idle : Bool) → old.role.kind ≡ seats.Ops
-    → IsRunOf setup past → (old.memory.stale ≡ false → old.under ≡ None)
-    → AnnotationsAreInOrder (world setup h) → Runs lets seat after past left idle (woken old) h b
-    → writes_since setup h past ≤ 2 * claims_in (world setup h).store.rows + volumes_in (world setup h).store.rows + faults_left setup (world setup h).devices

@@ -3,7 +3,6 @@
 use Rattle.std.specs.Prelude.{ℕ, ◌≡◌, ◌≤◌, ◌+◌, ◌*◌, ◌/◌, Bool, List, Some, length, slice_get}
 use Rattle.kube_objects.specs.declared.objects.Object.{Object}
 use Rattle.kube_objects.specs.declared.objects.Object.TheVariants.{Pod}
-use Rattle.kube_objects.specs.Keys.{AreRows}
 use Rattle.call_types.specs.declared.entry.Entry.{Entry}
 use Rattle.call_types.specs.declared.setup.Setup.{Setup}
 use Rattle.binder_model.specs.Promises.{IsRunOf}
@@ -15,7 +14,7 @@ use Rattle.actor_rounds.specs.Rounds.{IsRound, Lets}
 use Rattle.settle_calls.specs.Slots.Rounds.{size_of_world}
 use Rattle.settle_calls.specs.Slots.Slots.{PassesReads, writes_since}
 use Rattle.settle_write_counts.specs.Scheduler.Pods.{pods_writes}
-use Rattle.settle_write_counts.specs.Rounds.Counts.{AnnotationsAreInOrder, nodes_in, to_write}
+use Rattle.settle_write_counts.specs.Rounds.Counts.{nodes_in}
 use Rattle.settle_pays.specs.Pays.Pays.{IsPayer}
 
 -- each pays, and has nothing under way
@@ -23,13 +22,6 @@ abbrev pub ArePaying : Setup → List Drainer → Type 0
 ArePaying setup ds = (place : ℕ) (d : Drainer) → slice_get ds place ≡ Some d → IsPayer setup d
 
 -- ---- objects
-
--- a round adds no more objects than there are claims: each new one is the volume of a claim that stood when it began
-abbrev pub RoundsAddLittle : Type 0
-RoundsAddLittle =
-    (setup : Setup) (lets : Lets) (ds after : List Drainer) (h past : List Entry) (b left : ℕ) (whole : Bool) → AreRoles (roles_of ds) → AreAtRest ds
-    → IsRunOf setup past → IsRound lets past left ds h b after whole
-    → size_of_world (world setup past) ≤ size_of_world (world setup h) + claims_in (world setup h).store.rows
 
 -- the objects and the names of claims, with the volumes that may be made
 abbrev pub most_size : World → ℕ
@@ -44,22 +36,11 @@ pod_size o = 0
 abbrev pub pods_size : World → ℕ
 pods_size w = total pod_size w.store.rows
 
--- it adds no pod
-abbrev pub RoundsAddNoPod : Type 0
-RoundsAddNoPod =
-    (setup : Setup) (lets : Lets) (ds after : List Drainer) (h past : List Entry) (b left : ℕ) (whole : Bool) → AreRoles (roles_of ds) → AreAtRest ds
-    → IsRunOf setup past → IsRound lets past left ds h b after whole
-    → pods_size (world setup past) ≤ pods_size (world setup h)
-
 -- ---- writes
 
 -- 18 for each object and each claim that a pod names, one for each planned fault that is ahead, and the nodes
 abbrev pub most_writes : Setup → World → ℕ
 most_writes setup w = 18 * size_of_world w + faults_left setup w.devices + nodes_in w
-
--- which is no more than 19 for each of the former, and the faults, where the annotations of claims are in order
-abbrev pub SizesBoundWrites : Type 0
-SizesBoundWrites = (setup : Setup) (w : World) → AreRows w.store.rows → AnnotationsAreInOrder w → most_writes setup w ≤ 19 * size_of_world w + faults_left setup w.devices
 
 -- the writes of a round of actors that pay are no more
 abbrev pub WritesAreFew : Type 0
@@ -89,13 +70,3 @@ CallsAreBounded =
     (setup : Setup) (lets : Lets) (ds after : List Drainer) (h past : List Entry) (b left : ℕ) (whole : Bool) → AreRoles (roles_of ds)
     → ArePaying setup ds → IsRunOf setup past → PassesReads lets → IsRound lets past left ds h b after whole
     → pods_writes (world setup h) ≤ 512 → b ≤ left + (23 * most_writes setup (world setup h) + idle_calls (length ds) (most_size (world setup h)) (most_writes setup (world setup h)))
-
--- and what was to be written pays once: with 23 calls for each thing by which a round lowers it, a round costs anew only 46 for each of what
--- the scheduler may write, and what its actors call for beside their writes
-abbrev pub CallsArePaid : Type 0
-CallsArePaid =
-    (setup : Setup) (lets : Lets) (ds after : List Drainer) (h past : List Entry) (b left : ℕ) (whole : Bool) → AreRoles (roles_of ds)
-    → ArePaying setup ds → IsRunOf setup past → PassesReads lets → IsRound lets past left ds h b after whole
-    → pods_writes (world setup h) ≤ 512
-    → b + 23 * to_write setup (world setup past) ≤ left +
-    (23 * to_write setup (world setup h) + (46 * pods_writes (world setup h) + idle_calls (length ds) (most_size (world setup h)) (writes_since setup h past)))
