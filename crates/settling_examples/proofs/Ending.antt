@@ -28,7 +28,29 @@ use Rattle.settle_progress.proofs.Drains.Rounds.{is_agent}
 use Rattle.script_runs.specs.Parts.{drain_roles}
 use Rattle.volume_index.specs.VolumePlaces.{count_before, has_size, those_in}
 use Rattle.settle_budget.specs.Drains.Measured.{SharesWell, WaitingPodNames, is_immediate}
-use Rattle.settling_examples.specs.Ending.{AgentExamples, AllowanceExamples, BudgetExamples, CallExamples, ClassExamples, LineExamples, NamingExamples, NumberExamples, SharingExamples, SizeExamples, class_of, copies, faults_upto, one_node, pod_on, script_naming, setup_with, shared_rows, takes, three_volumes, world_with}
+use Rattle.settling_examples.specs.Ending.{
+  AgentExamples,
+  AllowanceExamples,
+  BudgetExamples,
+  CallExamples,
+  ClassExamples,
+  LineExamples,
+  NamingExamples,
+  NumberExamples,
+  SharingExamples,
+  SizeExamples,
+  class_of,
+  copies,
+  faults_upto,
+  one_node,
+  pod_on,
+  script_naming,
+  setup_with,
+  shared_rows,
+  takes,
+  three_volumes,
+  world_with,
+}
 use Rattle.delayed_binding.proofs.Known.{claim_of_row}
 
 abbrev is_agent_role : Role → Bool

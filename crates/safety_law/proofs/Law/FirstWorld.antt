@@ -69,12 +69,12 @@ imported_claim imports c = record c { meta = record (imported_meta c.meta) { fin
 
 -- what stands was imported
 
-record IsVolumeImport (imports : List Object) (v : VolumeData) : Type 0 where
+pub record IsVolumeImport (imports : List Object) (v : VolumeData) : Type 0 where
   origin : VolumeData
   among : IsIn (Volume origin) imports
   is : v ≡ imported_volume origin
 
-record IsClaimImport (imports : List Object) (c : ClaimData) : Type 0 where
+pub record IsClaimImport (imports : List Object) (c : ClaimData) : Type 0 where
   origin : ClaimData
   among : IsIn (Claim origin) imports
   is : c ≡ imported_claim imports origin

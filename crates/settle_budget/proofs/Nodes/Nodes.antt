@@ -25,7 +25,29 @@ use Rattle.call_types.specs.declared.request.Request.{Request}
 use Rattle.call_types.specs.declared.request.Request.TheVariants as requests
 use Rattle.call_types.specs.declared.request.SeatKind.{SeatKind}
 use Rattle.call_types.specs.declared.setup.Setup.{Setup}
-use Rattle.binder_model.specs.Answers.{Outcome, Removes, Says, Stores, after, bind, create, delete, delete_of, edit, edit_to, finish, get, list, outcome, refuse, update, update_status, with_status, write_outcome, written_if_fits}
+use Rattle.binder_model.specs.Answers.{
+  Outcome,
+  Removes,
+  Says,
+  Stores,
+  after,
+  bind,
+  create,
+  delete,
+  delete_of,
+  edit,
+  edit_to,
+  finish,
+  get,
+  list,
+  outcome,
+  refuse,
+  update,
+  update_status,
+  with_status,
+  write_outcome,
+  written_if_fits,
+}
 use Rattle.binder_model.specs.Edits.{edited_object, with_volume_name}
 use Rattle.binder_model.specs.Fields.{changed_field, create_fault, kind_fault, pod_fault, same_pod_spec, update_fault}
 use Rattle.binder_model.specs.Imports.{imported_object}

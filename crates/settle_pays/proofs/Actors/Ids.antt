@@ -16,7 +16,26 @@ use Rattle.call_types.specs.declared.request.SeatKind.{SeatKind}
 use Rattle.call_types.specs.declared.setup.Pool.{Pool}
 use Rattle.call_types.specs.declared.setup.Setup.{Setup}
 use Rattle.binder_model.specs.Answers.{Outcome, is_user}
-use Rattle.binder_model.specs.Devices.{Data, DeviceAnswer, Devices, after_call, data_after_erase, data_named, device_answer, epoch_if_stale, erase, has_id, is_planned, provision, provision_new, same_id, take_node, unless_planned, unless_stale, with_mounts}
+use Rattle.binder_model.specs.Devices.{
+  Data,
+  DeviceAnswer,
+  Devices,
+  after_call,
+  data_after_erase,
+  data_named,
+  device_answer,
+  epoch_if_stale,
+  erase,
+  has_id,
+  is_planned,
+  provision,
+  provision_new,
+  same_id,
+  take_node,
+  unless_planned,
+  unless_stale,
+  with_mounts,
+}
 use Rattle.binder_model.specs.Watching.{oldest}
 use Rattle.binder_model.specs.World.{Effect, OnDevices, OnStore, SetsMoment, World, base, effect, is_time, on_devices, set_time, watch, world, world_after}
 use Rattle.model_laws.proofs.Lists.{IsIn}

@@ -26,7 +26,25 @@ use Rattle.node_agent.specs.declared.agent.AgentOp.{AgentOp}
 use Rattle.node_agent.specs.declared.step.AgentStep.{AgentStep}
 use Rattle.node_agent.specs.declared.step.AgentStep.TheVariants as steps
 use Rattle.node_agent.specs.declared.step.ReadyClaim.{ReadyClaim}
-use Rattle.node_agent.specs.Agents.{agent_after, agent_call, agent_call_at, agent_known, agent_moved, after_last, after_mounts, after_unmount, at_start, is_agent_ready, is_claim_read, is_volume_read, next_step, ready_by, ready_claim, step_for, uids_of}
+use Rattle.node_agent.specs.Agents.{
+  agent_after,
+  agent_call,
+  agent_call_at,
+  agent_known,
+  agent_moved,
+  after_last,
+  after_mounts,
+  after_unmount,
+  at_start,
+  is_agent_ready,
+  is_claim_read,
+  is_volume_read,
+  next_step,
+  ready_by,
+  ready_claim,
+  step_for,
+  uids_of,
+}
 use Rattle.worker_core.specs.declared.task.First.{First}
 use Rattle.worker_core.specs.declared.task.First.TheVariants as firsts
 use Rattle.worker_core.specs.declared.task.Task.{Task}

@@ -20,7 +20,8 @@ use Rattle.call_types.specs.declared.request.NewStatus.TheVariants as statuses
 use Rattle.call_types.specs.declared.request.SeatKind.{SeatKind}
 use Rattle.call_types.specs.declared.setup.Setup.{Setup}
 use Rattle.binder_model.specs.Answers.{with_status}
-use Rattle.binder_model.specs.BindWrites.{annotated_meta_if, completed_with, is_completed_with, next_write, ref_to, shows_bound, taken_for, write_bound, write_claim_status, write_completion, write_reference}
+use Rattle.binder_model.specs.BindWrites.{annotated_meta_if, completed_with, is_completed_with, next_write, ref_to, shows_bound, taken_for,
+    write_bound, write_claim_status, write_completion, write_reference}
 use Rattle.binder_model.specs.ObjectKeys.{claim_key, volume_key}
 use Rattle.binder_model.specs.Same.{same_amount, same_modes}
 use Rattle.binder_model.specs.Store.{at_version, updated_object, with_meta, with_status_of}

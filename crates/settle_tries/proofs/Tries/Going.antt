@@ -23,7 +23,23 @@ use Rattle.call_types.specs.declared.request.SeatKind.TheVariants as seats
 use Rattle.call_types.specs.declared.reply.Reply.{Reply}
 use Rattle.call_types.specs.declared.reply.Reply.TheVariants.{Done}
 use Rattle.call_types.specs.declared.setup.Setup.{Setup}
-use Rattle.binder_model.specs.Choice.{GoesNowhere, Searches, Waits, are_completed, assigned_node, claim_in, claim_named, claims_of, first_taking, has_carrier, is_other, is_served_elsewhere, is_under_way, lacks_claim, step_of}
+use Rattle.binder_model.specs.Choice.{
+  GoesNowhere,
+  Searches,
+  Waits,
+  are_completed,
+  assigned_node,
+  claim_in,
+  claim_named,
+  claims_of,
+  first_taking,
+  has_carrier,
+  is_other,
+  is_served_elsewhere,
+  is_under_way,
+  lacks_claim,
+  step_of,
+}
 use Rattle.binder_model.specs.Due.{IsDue}
 use Rattle.binder_model.specs.ObjectKeys.{claim_key}
 use Rattle.binder_model.specs.At.{HasUid}

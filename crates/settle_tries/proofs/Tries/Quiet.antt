@@ -42,7 +42,21 @@ use Rattle.settle_progress.specs.Epochs.Epochs.{IsCurrent}
 use Rattle.settle_progress.proofs.Epochs.Epochs.{run_stays}
 use Rattle.settle_progress.proofs.Epochs.Silent.{current_are_awake}
 use Rattle.settle_progress.specs.Agents.Rounds.{HasAwake}
-use Rattle.settle_progress.specs.Drains.Rounds.{DueFor, for_claim, for_volume, ForAgent, ForBinder, ForBinderOfClaims, ForClaimProtection, ForProvisioner, ForReclaimer, ForScheduler, ForVolumeProtection, HasCurrent, doer_of}
+use Rattle.settle_progress.specs.Drains.Rounds.{
+  DueFor,
+  for_claim,
+  for_volume,
+  ForAgent,
+  ForBinder,
+  ForBinderOfClaims,
+  ForClaimProtection,
+  ForProvisioner,
+  ForReclaimer,
+  ForScheduler,
+  ForVolumeProtection,
+  HasCurrent,
+  doer_of,
+}
 use Rattle.settle_progress.proofs.Drains.Doers.{due_is_for}
 use Rattle.settle_progress.proofs.Drains.Rounds.{HasRole, is_agent, not_agent, role_at}
 use Rattle.settle_pays.specs.Pays.Pays.{HavePaid, worth}

@@ -12,7 +12,20 @@ use Rattle.kube_objects.specs.declared.objects.Object.{Object}
 use Rattle.kube_objects.specs.declared.objects.Object.TheVariants.{Class, Node, Volume, Claim, Pod}
 use Rattle.kube_objects.specs.declared.objects.Pod.{Pod as PodData}
 use Rattle.kube_objects.specs.declared.objects.Volume.{Volume as VolumeData}
-use Rattle.kube_objects.specs.Bindings.{beta_class, bind_completed, bound_by_controller, class_of_claim, has_key, is_completed, is_empty, is_protected_claim, is_scheduled, lacks_class, selected_node, yes}
+use Rattle.kube_objects.specs.Bindings.{
+  beta_class,
+  bind_completed,
+  bound_by_controller,
+  class_of_claim,
+  has_key,
+  is_completed,
+  is_empty,
+  is_protected_claim,
+  is_scheduled,
+  lacks_class,
+  selected_node,
+  yes,
+}
 use Rattle.kube_objects.specs.Keys.{key_of, kind_of, put_row, row_at, without_row}
 use Rattle.kube_objects.proofs.KeyOrder.{row_at-put_row, row_at-put_row_other, row_at-without_row, row_at-without_row_other, row_at_key}
 use Rattle.kube_objects.proofs.SameKeys.{key_tells}

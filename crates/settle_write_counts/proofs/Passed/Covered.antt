@@ -1,5 +1,33 @@
 -- The claims of a pod that is being prepared: each is under way, or is still to be written.
-use Rattle.std.proofs.Common.{◌≡◌, ◌∙◌, ◌⊎◌, ℕ, ◌+◌, ◌≤◌, List, [], ◌∷◌, ◌++◌, Bool, true, false, true≢false, Option, Some, None, inl, inr, refl, sym, ap, subst, arith, length, length-append, if◌then◌else◌}
+use Rattle.std.proofs.Common.{
+  ◌≡◌,
+  ◌∙◌,
+  ◌⊎◌,
+  ℕ,
+  ◌+◌,
+  ◌≤◌,
+  List,
+  [],
+  ◌∷◌,
+  ◌++◌,
+  Bool,
+  true,
+  false,
+  true≢false,
+  Option,
+  Some,
+  None,
+  inl,
+  inr,
+  refl,
+  sym,
+  ap,
+  subst,
+  arith,
+  length,
+  length-append,
+  if◌then◌else◌,
+}
 use Rattle.std.specs.Prelude.{◌&&◌, ◌||◌, filter, filter_map, not}
 use Rattle.std.specs.List.{cons_option, list_all}
 use Rattle.std.specs.Ordering.{is_gt}

@@ -16,7 +16,23 @@ use Rattle.kube_objects.specs.declared.objects.Pod.{Pod as PodData}
 use Rattle.kube_objects.specs.declared.objects.Volume.{Volume as VolumeData}
 use Rattle.kube_objects.specs.declared.objects.Object.{Object}
 use Rattle.kube_objects.specs.declared.objects.Object.TheVariants.{Claim, Class, Node, Pod, Volume}
-use Rattle.kube_objects.specs.Bindings.{carries, has_key, has_name, is_available, is_completed, is_deleting, is_ended, is_scheduled, names_claim, pv_protection, refers_carrying, refers_for, selected_node, uid_carries, uid_fits}
+use Rattle.kube_objects.specs.Bindings.{
+  carries,
+  has_key,
+  has_name,
+  is_available,
+  is_completed,
+  is_deleting,
+  is_ended,
+  is_scheduled,
+  names_claim,
+  pv_protection,
+  refers_carrying,
+  refers_for,
+  selected_node,
+  uid_carries,
+  uid_fits,
+}
 use Rattle.kube_objects.specs.Keys.{AreRows, key_of, kind_index, put_row, row_at, rows_of}
 use Rattle.kube_objects.proofs.KeyOrder.{row_at-put_row, row_at-put_row_other}
 use Rattle.call_types.specs.declared.entry.Entry.{Entry}
