@@ -20,8 +20,19 @@ use Rattle.call_types.specs.declared.request.NewStatus.TheVariants as statuses
 use Rattle.call_types.specs.declared.request.SeatKind.{SeatKind}
 use Rattle.call_types.specs.declared.setup.Setup.{Setup}
 use Rattle.binder_model.specs.Answers.{with_status}
-use Rattle.binder_model.specs.BindWrites.{annotated_meta_if, completed_with, is_completed_with, next_write, ref_to, shows_bound, taken_for,
-    write_bound, write_claim_status, write_completion, write_reference}
+use Rattle.binder_model.specs.BindWrites.{
+  annotated_meta_if,
+  completed_with,
+  is_completed_with,
+  next_write,
+  ref_to,
+  shows_bound,
+  taken_for,
+  write_bound,
+  write_claim_status,
+  write_completion,
+  write_reference,
+}
 use Rattle.binder_model.specs.ObjectKeys.{claim_key, volume_key}
 use Rattle.binder_model.specs.Same.{same_amount, same_modes}
 use Rattle.binder_model.specs.Store.{at_version, updated_object, with_meta, with_status_of}
@@ -278,8 +289,8 @@ module _ (setup : Setup) (seat : ℕ) (h : List Entry) (history : IsHistory setu
   binds_wrote call e = let x = next_of v c call e in by x.uid x.has x.bare x.at
     where
       by : (uid : Uid) → c.meta.uid ≡ Some uid → v.meta.namespace ≡ [] → Stage v c call → Fewer call
-      by uid has bare (First a open is) = subst Fewer (sym is) (first uid has a)
-      by uid has bare (Second a b open is) = subst Fewer (sym is) (second bare a b)
+      by uid has bare (First a e is) = subst Fewer (sym is) (first uid has a)
+      by uid has bare (Second a b e is) = subst Fewer (sym is) (second bare a b)
       by uid has bare (Third a b d is) = subst Fewer (sym is) (third a b d)
       by uid has bare (Fourth a b d g is) = subst Fewer (sym is) (fourth a b d g)
 
@@ -288,8 +299,8 @@ pub binds_some : (v : VolumeData) (c : ClaimData) (call : Request) → call_of (
 binds_some v c call e = by (next_of v c call e).at
   where
     by : Stage v c call → 1 ≤ binds_left v c
-    by (First a open is) = let all = is_four (carries v c) (is_bound v.phase) (is_completed_with c v) (shows_bound c v) a in omega (arith, all)
-    by (Second a b open is) = let all = is_three (carries v c) (is_bound v.phase) (is_completed_with c v) (shows_bound c v) a b in omega (arith, all)
+    by (First a e is) = let all = is_four (carries v c) (is_bound v.phase) (is_completed_with c v) (shows_bound c v) a in omega (arith, all)
+    by (Second a b e is) = let all = is_three (carries v c) (is_bound v.phase) (is_completed_with c v) (shows_bound c v) a b in omega (arith, all)
     by (Third a b d is) = let all = is_two (carries v c) (is_bound v.phase) (is_completed_with c v) (shows_bound c v) a b d in omega (arith, all)
     by (Fourth a b d g is) = let all = is_one (carries v c) (is_bound v.phase) (is_completed_with c v) (shows_bound c v) a b d g in omega (arith, all)
 
@@ -297,7 +308,7 @@ pub binds_done : (v : VolumeData) (c : ClaimData) (call : Request) (o : Object) 
 binds_done v c call o e = by (next_of v c call e).at
   where
     by : Stage v c call → done_by call (replies.Done o) ≡ 1
-    by (First a open is) = ap (λ r. done_by r (replies.Done o)) is
-    by (Second a b open is) = ap (λ r. done_by r (replies.Done o)) is
+    by (First a e is) = ap (λ r. done_by r (replies.Done o)) is
+    by (Second a b e is) = ap (λ r. done_by r (replies.Done o)) is
     by (Third a b d is) = ap (λ r. done_by r (replies.Done o)) is
     by (Fourth a b d g is) = ap (λ r. done_by r (replies.Done o)) is
