@@ -1,4 +1,4 @@
-mod Setups
+pub mod Setups
 mod Seats
 pub mod Replays
 pub mod Threads

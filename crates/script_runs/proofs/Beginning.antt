@@ -9,8 +9,7 @@ use Rattle.binder_model.specs.Due.{IsFirstDue, IsSettled}
 use Rattle.world_core.specs.declared.drained.Drained.{Drained}
 use Rattle.world_core.specs.declared.drained.Drained.TheVariants.{Settled, Spent}
 use Rattle.actor_rounds.specs.declared.drainers.Drainer.{Drainer}
-use Rattle.actor_rounds.specs.Drainers.{AreNew, AreStanding, HaveNoEntries, seats_for, seats_of}
-use Rattle.actor_rounds.proofs.NewFacts.{new_roles_for, new_seats_for}
+use Rattle.actor_rounds.specs.Drainers.{AreNew, AreStanding, HaveNoEntries, seats_of}
 use Rattle.actor_rounds.specs.Rounds.{EndsWith, all_pass, made_of}
 use Rattle.script_text.specs.declared.script.Line.{Line}
 use Rattle.script_text.specs.declared.script.Script.{Script}
@@ -19,7 +18,7 @@ use Rattle.script_runs.specs.declared.stage.Stage.{Stage}
 use Rattle.script_lines.specs.declared.actors.Actor.{Actor}
 use Rattle.script_lines.specs.declared.actors.WorkerKind.TheVariants as workers
 use Rattle.script_runs.specs.Budget.{first_budget}
-use Rattle.script_runs.specs.Parts.{drain_seat, drain_seats, first_actor_seat, role_of}
+use Rattle.script_runs.specs.Parts.{drain_seat, first_actor_seat, role_of}
 use Rattle.script_runs.specs.Replays.{EndsAs, IsDrain, IsMove, IsReplay, MoreMoves, NoMoves, Progress, first_progress}
 use Rattle.actor_turns.specs.Steps.Living.{Lives}
 use Rattle.worker_core.specs.declared.role.Role.{Role}
@@ -46,7 +45,7 @@ use Rattle.script_runs.specs.Steps.Standing.{
 }
 use Rattle.actor_turns.proofs.Lived.{new_lives}
 use Rattle.actor_turns.proofs.Turning.{new_plays}
-use Rattle.actor_rounds.proofs.Resting.{new_rest}
+use Rattle.script_runs.proofs.Draining.{new_ones_are_drainers}
 
 -- ---- the beginning
 
@@ -60,8 +59,8 @@ first_most None = omega arith
 
 -- ---- the new drainers
 
-new_seats : (script : Script) (first : ℕ) (ds : List Drainer) → AreNew first script.node_names ds → first ≡ drain_seat script → seats_of ds ≡ drain_seats script
-new_seats script first ds new is = new_seats_for first script.node_names ds new ∙ ap (λ n. seats_for n script.node_names) is
+pub new_ones : (script : Script) (first : ℕ) (ds : List Drainer) → AreNew first script.node_names ds → first ≡ drain_seat script → AreNew (drain_seat script) script.node_names ds
+new_ones script first ds new is = subst (λ n. AreNew n script.node_names ds) is new
 
 -- ---- the players
 
@@ -157,7 +156,7 @@ pub begins : (script : Script) (option : Option ℕ) (s : Stage) (first : ℕ) �
     → HasAdded script.lines (actors_for script.node_names) first_actor_seat first [] s.players.items
     → AreNew first script.node_names s.drainers → first ≡ drain_seat script
     → ((past : List Entry) → HaveNoEntries (seats_of s.drainers) past → AreStanding s.drainers past) → s.drained ≡ 0
-    → s.budget ≡ first_budget option → s.settled ≡ None → StageStands script option (first_progress option) s
+    → s.budget ≡ first_budget option → s.settled ≡ None → StageStands script option (first_progress option s.drainers) s
 begins script option s first past setup added are seat stand drained budget unsettled =
     let lines = script.lines in
     let actors = actors_for script.node_names in
@@ -172,10 +171,9 @@ begins script option s first past setup added are seat stand drained budget unse
           (new_lives (role_of actor) x (each_new lines actors first_actor_seat items new place actor x there at));
       made = λ place x at. (some_actor lines actors first_actor_seat items new place x at).1.made;
       held = λ place x at. (some_actor lines actors first_actor_seat items new place x at).1.held;
-      drainers = subst (AreStanding s.drainers) (sym past) (stand [] (none_yet (seats_of s.drainers)));
-      seats = new_seats script first s.drainers are seat;
-      roles = new_roles_for first script.node_names s.drainers are;
-      rests = λ given is unspent. new_rest first script.node_names s.drainers are;
+      drainers = refl;
+      are = new_ones_are_drainers script (drain_seat script) option (first_progress option s.drainers) (new_ones script first s.drainers are seat);
+      standing = stand [] (none_yet (seats_of s.drainers));
       drained = drained;
       budget = budget;
       few = omega (arith, drained);
@@ -190,14 +188,17 @@ new_made lines actors first next players added place x at =
 
 -- ---- the lines
 
-pub so_far_first : (script : Script) (option : Option ℕ) (s : Stage) → StageStands script option (first_progress option) s → SoFar script option 0 s
-so_far_first script option s stands = record { progress = first_progress option; stands = stands; moves = λ end rest. rest }
+pub so_far_first : (script : Script) (option : Option ℕ) (s : Stage) → AreNew (drain_seat script) script.node_names s.drainers
+    → StageStands script option (first_progress option s.drainers) s → SoFar script option 0 s
+so_far_first script option s new stands = record { first = s.drainers; new = new; progress = first_progress option s.drainers; stands = stands; moves = λ end rest. rest }
 
 pub so_far_on : (script : Script) (option : Option ℕ) (place : ℕ) (line : Line) (old new : Stage) → slice_get script.lines place ≡ Some line
     → SoFar script option place old → HasMoved script option (IsMove script option line) old new → SoFar script option (place + 1) new
 so_far_on script option place line old new at so moved =
     let leads = moved so.progress so.stands in
     record {
+      first = so.first;
+      new = so.new;
       progress = leads.after;
       stands = leads.stands;
       moves = λ end rest. so.moves end (MoreMoves line (drop (place + 1) script.lines) leads.after (drop_at script.lines place line at) leads.move rest);
@@ -237,6 +238,8 @@ pub replays : (script : Script) (option : Option ℕ) (place : ℕ) (before afte
 replays script option place before after past ending all so ended is =
     let e = ended so.progress so.stands in
     record {
+      drainers = so.first;
+      new = so.new;
       lines_done = so.progress;
       end = e.after;
       moves = so.moves so.progress (NoMoves (drop_all place script.lines all) refl);

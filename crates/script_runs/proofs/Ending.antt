@@ -65,6 +65,8 @@ diligent_replay script option place before after past ending readable all so end
     let e = ended so.progress so.stands in
     record {
       calls = record {
+        drainers = so.first;
+        new = so.new;
         lines_done = so.progress;
         end = e.after;
         moves = so.moves so.progress (NoMoves (drop_all place script.lines all) refl);

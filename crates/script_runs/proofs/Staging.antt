@@ -44,7 +44,7 @@ use Rattle.binder_model.specs.Told.{own}
 use Rattle.model_laws.proofs.Evidence.{own_other}
 use Rattle.model_laws.proofs.Lists.{none_some, one}
 use Rattle.actor_rounds.specs.declared.drainers.Drainer.{Drainer}
-use Rattle.actor_rounds.specs.Drainers.{AreAtRest, AreStanding, StandsWhole, roles_of, seats_for, seats_from, seats_of}
+use Rattle.actor_rounds.specs.Drainers.{AreStanding, StandsWhole, seats_for, seats_from, seats_of}
 use Rattle.actor_rounds.specs.Longer.{IsOneOf}
 use Rattle.actor_rounds.specs.Rounds.{Drains, all_pass}
 use Rattle.script_text.specs.declared.script.Script.{Script}
@@ -57,7 +57,7 @@ use Rattle.actor_turns.specs.Calls.{AreCalls, AreNeededLives, AreOfLife, seat_at
 use Rattle.script_runs.specs.Budget.{raised}
 use Rattle.script_runs.specs.Limits.{NamesAreInOrder as NamesInOrder}
 use Rattle.actor_turns.specs.Parts.{lives_of}
-use Rattle.script_runs.specs.Parts.{all_actors, all_lives, drain_roles, drain_seat, drain_seats, seat_kind_of, part_of, role_of}
+use Rattle.script_runs.specs.Parts.{all_actors, all_lives, drain_seat, drain_seats, seat_kind_of, part_of, role_of}
 use Rattle.script_lines.specs.declared.actors.Actor.{Actor}
 use Rattle.script_lines.specs.declared.actors.Actor.TheVariants.{Worker, Agent}
 use Rattle.worker_core.specs.declared.role.Role.{Role}
@@ -70,7 +70,7 @@ use Rattle.script_runs.specs.Steps.Standing.{HasMoved, IsBudget, Leads, StageSta
 use Rattle.script_runs.proofs.Casting.{in_order, names_differ, names_in}
 use Rattle.actor_turns.proofs.Lived.{all_needed, lives_on}
 use Rattle.actor_turns.proofs.Lives.{seat_within}
-use Rattle.actor_rounds.proofs.Resting.{drains_rest}
+use Rattle.script_runs.proofs.Draining.{drains_keep_drainers, same_drainers}
 use Rattle.script_runs.proofs.Staying.{IsGrown, calls_grow, stays_noted}
 use Rattle.script_runs.proofs.Orders.{get_set_other, get_set_same, life_between, one_owner, other_name, part_at_place, parts_set}
 use Rattle.actor_rounds.proofs.RoundFacts.{same_or_not}
@@ -169,11 +169,9 @@ module _ (script : Script) (option : Option ℕ) (user : ℕ) (request : Request
           (λ seat life. others seat (above place x there seat life)) (λ seat life. refl) (stands.lives place actor x is there named);
       made = λ place x at. stands.made place x (ap (λ (xs : _). slice_get xs.items place) (sym players) ∙ at);
       held = λ place x at. stands.held place x (ap (λ (xs : _). slice_get xs.items place) (sym players) ∙ at);
-      drainers = subst (λ ds. AreStanding ds new.world.past) (sym drainers)
-          (drainers_on old.drainers old.world.past new.world.past (λ seat own. others seat (drains_above seat (subst (λ ss. IsOneOf ss seat) stands.seats own))) stands.drainers);
-      seats = subst (λ ds. seats_of ds ≡ drain_seats script) (sym drainers) stands.seats;
-      roles = subst (λ ds. roles_of ds ≡ drain_roles script) (sym drainers) stands.roles;
-      rests = λ given is unspent. subst AreAtRest (sym drainers) (stands.rests given is (omega (arith, drained, unspent)));
+      drainers = drainers ∙ stands.drainers;
+      are = same_drainers script (drain_seat script) option p (record p { past = entry ∷ p.past }) refl refl stands.are;
+      standing = drainers_on p.drainers p.past (entry ∷ p.past) (λ seat own. other_seat p.past seat (drains_above seat (subst (λ ss. IsOneOf ss seat) stands.are.seats own))) stands.standing;
       drained = drained ∙ stands.drained;
       budget = budget ∙ stands.budget;
       few = let a = stands.few in omega (arith, a, drained, budget);
@@ -182,8 +180,11 @@ module _ (script : Script) (option : Option ℕ) (user : ℕ) (request : Request
     };
   }
     where
+      other_seat : (h : List Entry) (seat : ℕ) → 5 ≤ seat → own seat (entry ∷ h) ≡ own seat h
+      other_seat h seat high = own_other entry h seat (λ e. absurd (omega (arith, e, high, low)))
+
       others : (seat : ℕ) → 5 ≤ seat → own seat new.world.past ≡ own seat old.world.past
-      others seat high = ap (own seat) past ∙ own_other entry old.world.past seat (λ e. absurd (omega (arith, e, high, low)))
+      others seat high = ap (own seat) past ∙ other_seat old.world.past seat high
 
       above : (place : ℕ) (x : Player) → slice_get old.players.items place ≡ Some x → (seat : ℕ) → IsLife x.part seat → 5 ≤ seat
       above place x there seat life = (life_between 5 (all_parts script) (seat_of_drains script) place x.part seat (in_order script)
@@ -266,11 +267,11 @@ module _ (script : Script) (option : Option ℕ) (old new : Stage) (place : ℕ)
     lives = λ j actor y there at named. each_lives j actor y there named (player_at j y at);
     made = λ j y at. each_made j y (player_at j y at);
     held = λ j y at. each_held j y (player_at j y at);
-    drainers = subst (λ ds. AreStanding ds new.world.past) (sym played.drainers)
-        (drainers_on old.drainers old.world.past new.world.past (λ seat own. others seat (not_drains seat (subst (λ ss. IsOneOf ss seat) stands.seats own))) stands.drainers);
-    seats = subst (λ ds. seats_of ds ≡ drain_seats script) (sym played.drainers) stands.seats;
-    roles = subst (λ ds. roles_of ds ≡ drain_roles script) (sym played.drainers) stands.roles;
-    rests = λ given is unspent. let d = played.drained in subst AreAtRest (sym played.drainers) (stands.rests given is (omega (arith, d, unspent)));
+    drainers = played.drainers ∙ stands.drainers;
+    are = same_drainers script (drain_seat script) option p (record p { past = new.world.past; made = and_made x.part.name count p.made; idle = idle }) refl refl stands.are;
+    standing =
+        drainers_on p.drainers old.world.past new.world.past (λ seat own. others seat (not_drains seat (subst (λ ss. IsOneOf ss seat) stands.are.seats own)))
+        (subst (AreStanding p.drainers) (sym stands.past) stands.standing);
     drained = played.drained ∙ stands.drained;
     budget = played.budget ∙ stands.budget;
     few = let a = stands.few in let d = played.drained in let b = played.budget in omega (arith, a, d, b);
@@ -433,8 +434,6 @@ pub record HasDrained (script : Script) (option : Option ℕ) (old new : Stage) 
   pub others : (seat : ℕ) → (IsOneOf (seats_of old.drainers) seat → ⊥) → own seat new.world.past ≡ own seat old.world.past
   pub few : made ≤ new.budget - old.drained
   pub standing : AreStanding new.drainers new.world.past
-  pub seats : seats_of new.drainers ≡ seats_of old.drainers
-  pub roles : roles_of new.drainers ≡ roles_of old.drainers
   pub setup : new.world.setup ≡ old.world.setup
   pub players : new.players ≡ old.players
   pub drained : new.drained ≡ old.drained + made
@@ -442,50 +441,28 @@ pub record HasDrained (script : Script) (option : Option ℕ) (old new : Stage) 
   pub most : IsBudget option new.budget
   pub settled : IsNoted new.world.setup new.world.past new.settled
 
--- a budget that was given is the budget
-given_budget : (option : Option ℕ) (given budget : ℕ) → option ≡ Some given → IsBudget option budget → budget ≡ given
-given_budget (Some x) given budget is most = most ∙ one x given is
-given_budget None given budget is most = none_some is
-
 pub drain_moved : (script : Script) (option : Option ℕ) (old new : Stage) (made : ℕ) → drain_seat script ≡ seat_of_drains script
     → HasDrained script option old new made → HasMoved script option (IsDrain all_pass script option) old new
 drain_moved script option old new made last d p stands = record {
-  after = record p { past = new.world.past; drained = p.drained + made; budget = new.budget };
-  move = record {
-    past = new.world.past;
-    made = made;
-    budget = new.budget;
-    drainers = old.drainers;
-    ran = new.drainers;
-    raises = d.budget ∙ ap (λ s. raised option s old.world.past old.budget) stands.setup
-        ∙ ap (λ h. raised option script.setup h old.budget) stands.past ∙ ap (raised option script.setup p.past) stands.budget;
-    seats = stands.seats;
-    roles = stands.roles;
-    stand = subst (AreStanding old.drainers) stands.past stands.drainers;
-    rests = λ given is unspent. let e = stands.drained in stands.rests given is (omega (arith, e, unspent));
-    few = let f = d.few in let r = d.room in let e = stands.drained in omega (arith, f, r, e);
-    rounds = rounds;
-    is = refl;
-  };
+  after = after;
+  move = move;
   stands = record {
     past = refl;
     setup = d.setup ∙ stands.setup;
     parts = ap (λ (xs : _). parts_in xs.items) d.players ∙ stands.parts;
     plays = λ place x at named.
         let there = ap (λ (xs : _). slice_get xs.items place) (sym d.players) ∙ at in
-        plays_on x old.world.past new.world.past (told_at p.idle) (told_at p.idle) named
-        (λ s life. d.others s (λ own. below place x there s life (subst (λ ss. IsOneOf ss s) stands.seats own))) (λ s life. refl) (stands.plays place x there named);
+        plays_on x old.world.past new.world.past (told_at p.idle) (told_at p.idle) named (λ s life. others place x there s life) (λ s life. refl) (stands.plays place x there named);
     lives = λ place actor x is at named.
         let there = ap (λ (xs : _). slice_get xs.items place) (sym d.players) ∙ at in
         lives_on (role_of actor) x old.world.past new.world.past p.idle p.idle
         (life_at x old.world.past (told_at p.idle) named (stands.plays place x there named))
-        (λ s life. d.others s (λ own. below place x there s life (subst (λ ss. IsOneOf ss s) stands.seats own))) (λ s life. refl) (stands.lives place actor x is there named);
+        (λ s life. others place x there s life) (λ s life. refl) (stands.lives place actor x is there named);
     made = λ place x at. stands.made place x (ap (λ (xs : _). slice_get xs.items place) (sym d.players) ∙ at);
     held = λ place x at. stands.held place x (ap (λ (xs : _). slice_get xs.items place) (sym d.players) ∙ at);
-    drainers = d.standing;
-    seats = d.seats ∙ stands.seats;
-    roles = d.roles ∙ stands.roles;
-    rests = rests;
+    drainers = refl;
+    are = drains_keep_drainers all_pass script (drain_seat script) option p after move stands.are;
+    standing = d.standing;
     drained = d.drained ∙ ap (λ n. n + made) stands.drained;
     budget = refl;
     few = let f = d.few in let r = d.room in let e = d.drained in omega (arith, f, r, e);
@@ -494,21 +471,32 @@ drain_moved script option old new made last d p stands = record {
   };
 }
   where
-    rounds : Drains all_pass script.setup new.drainers new.world.past (new.budget - (p.drained + made)) old.drainers p.past (new.budget - p.drained)
+    after : Progress
+    after = record p { past = new.world.past; drainers = new.drainers; drained = p.drained + made; budget = new.budget }
+
+    rounds : Drains all_pass script.setup new.drainers new.world.past (new.budget - (p.drained + made)) p.drainers p.past (new.budget - p.drained)
     rounds =
         let rest : new.budget - old.drained - made ≡ new.budget - (p.drained + made) = let e = stands.drained in omega (arith, e) in
         let at_first : new.budget - old.drained ≡ new.budget - p.drained = ap (λ n. new.budget - n) stands.drained in
-        subst (λ h. Drains all_pass script.setup new.drainers new.world.past (new.budget - (p.drained + made)) old.drainers h (new.budget - p.drained)) stands.past
+        subst (λ ds. Drains all_pass script.setup new.drainers new.world.past (new.budget - (p.drained + made)) ds p.past (new.budget - p.drained)) stands.drainers
+        (subst (λ h. Drains all_pass script.setup new.drainers new.world.past (new.budget - (p.drained + made)) old.drainers h (new.budget - p.drained)) stands.past
         (subst (λ n. Drains all_pass script.setup new.drainers new.world.past (new.budget - (p.drained + made)) old.drainers old.world.past n) at_first
         (subst (λ n. Drains all_pass script.setup new.drainers new.world.past n old.drainers old.world.past (new.budget - old.drained)) rest
-        (subst (λ s. Drains all_pass s new.drainers new.world.past (new.budget - old.drained - made) old.drainers old.world.past (new.budget - old.drained)) stands.setup d.rounds)))
+        (subst (λ s. Drains all_pass s new.drainers new.world.past (new.budget - old.drained - made) old.drainers old.world.past (new.budget - old.drained)) stands.setup d.rounds))))
 
-    rests : (given : ℕ) → option ≡ Some given → new.drained < given → AreAtRest new.drainers
-    rests given is unspent =
-        let all = given_budget option given new.budget is d.most in
-        let made_is = d.drained in
-        drains_rest all_pass old.world.setup new.drainers new.world.past (new.budget - old.drained - made) old.drainers old.world.past
-        (new.budget - old.drained) d.rounds (omega (arith, all, made_is, unspent)) (stands.rests given is (omega (arith, made_is, unspent)))
+    move : IsDrain all_pass script option p after
+    move = record {
+      past = new.world.past;
+      made = made;
+      budget = new.budget;
+      ran = new.drainers;
+      raises = d.budget ∙ ap (λ s. raised option s old.world.past old.budget) stands.setup
+          ∙ ap (λ h. raised option script.setup h old.budget) stands.past ∙ ap (raised option script.setup p.past) stands.budget;
+      stand = stands.standing;
+      few = let f = d.few in let r = d.room in let e = stands.drained in omega (arith, f, r, e);
+      rounds = rounds;
+      is = refl;
+    }
 
     below : (place : ℕ) (x : Player) → slice_get old.players.items place ≡ Some x → (s : ℕ) → IsLife x.part s → IsOneOf (drain_seats script) s → ⊥
     below place x there s life own =
@@ -516,3 +504,7 @@ drain_moved script option old new made last d p stands = record {
         (ap (λ ps. slice_get ps place) (sym stands.parts) ∙ part_at_place old.players.items place x there) life).1 in
         let d = drains_last script s own in
         absurd (omega (arith, b, d, last))
+
+    -- the drain has left the seats of a player as they were
+    others : (place : ℕ) (x : Player) → slice_get old.players.items place ≡ Some x → (s : ℕ) → IsLife x.part s → own s new.world.past ≡ own s old.world.past
+    others place x there s life = d.others s (λ own. below place x there s life (subst (λ ss. IsOneOf ss s) (ap seats_of stands.drainers ∙ stands.are.seats) own))

@@ -15,7 +15,7 @@ use Rattle.world_core.specs.declared.drained.Drained.{Drained}
 use Rattle.world_core.specs.declared.drained.Drained.TheVariants.{Settled, Spent}
 use Rattle.binder_model.specs.Due.{IsFirstDue, IsSettled}
 use Rattle.actor_rounds.specs.declared.drainers.Drainer.{Drainer}
-use Rattle.actor_rounds.specs.Drainers.{AreAtRest, AreStanding, roles_of, seats_for, seats_of}
+use Rattle.actor_rounds.specs.Drainers.{AreNew, AreStanding}
 use Rattle.actor_rounds.specs.Rounds.{Drains, Lets, all_pass}
 use Rattle.script_text.specs.declared.script.Line.{Line}
 use Rattle.script_text.specs.declared.script.Line.TheVariants.{Call, Lose, Restart, Turn, Drain}
@@ -23,7 +23,7 @@ use Rattle.script_text.specs.declared.script.Script.{Script}
 use Rattle.actor_turns.specs.declared.part.Part.{Part}
 use Rattle.script_runs.specs.Budget.{first_budget, raised}
 use Rattle.actor_turns.specs.Calls.{AreCalls, AreNeededLives, AreOfLife, MayEnd, and_idle, seat_at}
-use Rattle.script_runs.specs.Parts.{drain_roles, drain_seat, part_of, role_of}
+use Rattle.script_runs.specs.Parts.{drain_seat, part_of, role_of}
 
 -- how far a replay has come
 pub record Progress : Type 0 where
@@ -32,12 +32,15 @@ pub record Progress : Type 0 where
   pub made : List ℕ → ℕ
   -- the calls that the life of a seat had made when a turn last gave it fewer than its line says; none at first
   pub idle : ℕ → List Calling
+  -- the actors of the drains, as the last drain left them
+  pub drainers : List Drainer
   -- the calls of all drains so far, and how many they may make
   pub drained : ℕ
   pub budget : ℕ
 
-abbrev pub first_progress : Option ℕ → Progress
-first_progress option = record { past = []; made = λ name. 0; idle = λ seat. []; drained = 0; budget = first_budget option }
+-- before the first line, with these actors of the drains
+abbrev pub first_progress : Option ℕ → List Drainer → Progress
+first_progress option drainers = record { past = []; made = λ name. 0; idle = λ seat. []; drainers = drainers; drained = 0; budget = first_budget option }
 
 -- ---- a user's line
 
@@ -79,28 +82,19 @@ IsTurnLine lets held role part calls before after = MakesAll lets held role part
 
 -- ---- a drain
 
--- the budget is raised; then come rounds of the drain's actors while something is due and calls are left, and nothing else. Their
--- seats, from the first one on, and their roles are those of new ones (`AreNew`), and never change; at first each stands for the
--- entries of its seat, and as long as a budget that was given is not spent, they are at rest. What it has made are calls: one that is
--- held back leaves no entry. `DrainAtComesTo` says what follows
-pub record IsDrainAt (lets : Lets) (script : Script) (first : ℕ) (option : Option ℕ) (before after : Progress) : Type 0 where
+-- the budget is raised; then come rounds of the drains' actors while something is due and calls are left, and nothing else. They go on
+-- from where the last drain left them, each with its queue and what it has under way, and each stands for the entries of its seat. What the
+-- drain has made are calls: one that is held back leaves no entry. `DrainComesTo` and `AreDrainers` say what follows
+pub record IsDrain (lets : Lets) (script : Script) (option : Option ℕ) (before after : Progress) : Type 0 where
   pub past : List Entry
   pub made : ℕ
   pub budget : ℕ
-  pub drainers : List Drainer
   pub ran : List Drainer
   pub raises : budget ≡ raised option script.setup before.past before.budget
-  pub seats : seats_of drainers ≡ seats_for first script.node_names
-  pub roles : roles_of drainers ≡ drain_roles script
-  pub stand : AreStanding drainers before.past
-  pub rests : (given : ℕ) → option ≡ Some given → before.drained < given → AreAtRest drainers
+  pub stand : AreStanding before.drainers before.past
   pub few : before.drained + made ≤ budget
-  pub rounds : Drains lets script.setup ran past (budget - (before.drained + made)) drainers before.past (budget - before.drained)
-  pub is : after ≡ record before { past = past; drained = before.drained + made; budget = budget }
-
--- a drain of a replay: its seats come after those of the lives of all actors
-abbrev pub IsDrain : Lets → Script → Option ℕ → Progress → Progress → Type 0
-IsDrain lets script option before after = IsDrainAt lets script (drain_seat script) option before after
+  pub rounds : Drains lets script.setup ran past (budget - (before.drained + made)) before.drainers before.past (budget - before.drained)
+  pub is : after ≡ record before { past = past; drainers = ran; drained = before.drained + made; budget = budget }
 
 -- ---- the lines
 
@@ -124,11 +118,14 @@ abbrev pub EndsAs : Setup → Progress → Drained → Type 0
 EndsAs setup end (Settled made) = (made ≡ end.drained) × IsSettled setup (world setup end.past)
 EndsAs setup end (Spent made key due) = (made ≡ end.drained) × (made ≡ end.budget) × IsFirstDue setup (world setup end.past) (Some (key, due))
 
--- the lines are done in order, and then one more drain
+-- the actors of the drains are new at first, and their seats come after those of the lives of all actors; then the lines are done in order,
+-- and then one more drain
 pub record IsReplay (script : Script) (option : Option ℕ) (past : List Entry) (ending : Drained) : Type 0 where
+  pub drainers : List Drainer
+  pub new : AreNew (drain_seat script) script.node_names drainers
   pub lines_done : Progress
   pub end : Progress
-  pub moves : AreMoves script option lines_done script.lines (first_progress option)
+  pub moves : AreMoves script option lines_done script.lines (first_progress option drainers)
   pub last : IsDrain all_pass script option lines_done end
   pub history : past ≡ end.past
   pub ends : EndsAs script.setup end ending

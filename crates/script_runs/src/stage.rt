@@ -8,12 +8,12 @@ ghost use Rattle.size_law.specs.Calls.Calls.{AreByActors};
 ghost use Rattle.worker_core.specs.Roles.{IsBuiltKind};
 ghost use Rattle.worker_core.specs.Stands.{IsNew, StandsFor};
 ghost use Rattle.binder_model.specs.Told.{own};
-ghost use Rattle.actor_rounds.specs.Drainers.{AreStanding, roles_of, seats_of};
+ghost use Rattle.actor_rounds.specs.Drainers.{AreNew, AreStanding, roles_of, seats_of};
 ghost use Rattle.actor_rounds.specs.Longer.{IsOneOf};
 ghost use Rattle.actor_rounds.specs.Rounds.{Drains, EndsWith, all_pass, made_of};
 ghost use Rattle.script_runs.specs.Budget.{first_budget};
 ghost use Rattle.script_runs.specs.Limits.{IsKnown, IsReadable};
-ghost use Rattle.script_runs.specs.Parts.{is_named, seat_kind_of, part_of, role_of};
+ghost use Rattle.script_runs.specs.Parts.{drain_seat, is_named, seat_kind_of, part_of, role_of};
 ghost use Rattle.script_runs.specs.Replays.{IsDrain, IsMove, IsTurnLine, IsUserCall, Progress, first_progress};
 ghost use Rattle.actor_turns.specs.Steps.Playing.{IsNewPlayer};
 ghost use Rattle.script_runs.specs.Steps.Settled.{IsNoted};
@@ -457,7 +457,8 @@ pub fn first_budget(option: Option<u64>) -> u64
 /// A world of the script's setup, and new actors.
 pub fn begin(alloc: Global, script: &Script, option: Option<u64>) -> Result<Stage, OutOfMemory>
     requires readable { IsReadable script.now }
-    ensures stands { IfOk result (λ s. StageStands script.now option (first_progress option) s) }
+    ensures new { IfOk result (λ s. AreNew (drain_seat script.now) script.now.node_names s.drainers) }
+    ensures stands { IfOk result (λ s. StageStands script.now option (first_progress option s.drainers) s) }
     ensures actors { IfOk result (λ s. AreByActors s.world.past) }
     ensures made { IfOk result (λ s. MadeAtMost 0 s) }
 {

@@ -10,10 +10,10 @@ use Rattle.world_core.specs.Kept.{History}
 use Rattle.world_core.specs.declared.drained.Drained.{Drained}
 use Rattle.world_core.specs.declared.drained.Drained.TheVariants.{Settled, Spent}
 use Rattle.actor_rounds.specs.declared.drainers.Drainer.{Drainer}
-use Rattle.actor_rounds.specs.Drainers.{AreNew, AreStanding, HaveNoEntries, seats_for, seats_of}
+use Rattle.actor_rounds.specs.Drainers.{AreNew, AreStanding, HaveNoEntries, seats_of}
 use Rattle.actor_rounds.specs.Longer.{IsOneOf}
 use Rattle.actor_rounds.specs.Rounds.{Drains, EndsWith, all_pass, made_of}
-use Rattle.actor_rounds.proofs.NewFacts.{new_roles_for, new_seats_for}
+use Rattle.actor_rounds.proofs.NewFacts.{new_seats_for}
 use Rattle.script_lines.specs.declared.actors.Actor.{Actor}
 use Rattle.script_text.specs.declared.script.Line.{Line}
 use Rattle.script_text.specs.declared.script.Script.{Script}
@@ -25,7 +25,6 @@ use Rattle.shared_work.specs.Lines.{AreOfLines}
 use Rattle.script_runs.specs.Budget.{first_budget, raised}
 use Rattle.script_runs.specs.Parts.{first_actor_seat}
 use Rattle.script_runs.specs.Replays.{EndsAs, Progress}
-use Rattle.actor_rounds.proofs.Resting.{new_rest}
 use Rattle.script_runs.proofs.Staging.{after_first}
 use Rattle.script_threads.specs.Runs.{IsRun, progress_after}
 use Rattle.script_threads.specs.Started.{EachStarted, after_lives, drain_seat, seat_after, started, started_part}
@@ -106,7 +105,7 @@ pub record HasDrained (script : Script) (first : ℕ) (option : Option ℕ) (bef
 module _ (script : Script) (workers calls first : ℕ) (option : Option ℕ) (before after : History) (old ran : List Drainer) (budget : ℕ) (d : Drained)
     (drained : HasDrained script first option before after old ran budget d) (is : first ≡ drain_seat workers script) where
   abbrev end : Progress
-  end = record (progress_after before.past option) { past = after.past; drained = 0 + made_of d; budget = budget }
+  end = record (progress_after before.past option old) { past = after.past; drainers = ran; drained = 0 + made_of d; budget = budget }
 
   ends_as : (e : Drained) → made_of e ≡ made_of d → EndsWith after.setup after.past budget e → EndsAs script.setup end e
   ends_as (Settled made) same settled = (omega (arith, same), subst (λ s. IsSettled s (world s after.past)) (drained.kept ∙ drained.setup) settled)
@@ -125,18 +124,16 @@ module _ (script : Script) (workers calls first : ℕ) (option : Option ℕ) (be
   is_run work = record {
     worked = before.past;
     work = work;
+    drainers = old;
+    new = subst (λ n. AreNew n script.node_names old) is drained.new;
     end = end;
     last = record {
       past = after.past;
       made = made_of d;
       budget = budget;
-      drainers = old;
       ran = ran;
       raises = drained.raises ∙ ap (λ s. raised option s before.past (first_budget option)) drained.setup;
-      seats = new_seats_for first script.node_names old drained.new ∙ ap (λ n. seats_for n script.node_names) is;
-      roles = new_roles_for first script.node_names old drained.new;
       stand = drained.stand;
-      rests = λ given is unspent. new_rest first script.node_names old drained.new;
       few = let few = drained.few in omega (arith, few);
       rounds = rounds;
       is = refl;

@@ -100,7 +100,7 @@ module _ (script : Script) (option : Option ℕ) (P : Entry → Type 0) where
   replay_asked past ending makes replay =
       subst Asked (sym replay.history)
       (same_asked replay.lines_done replay.end (drain_users replay.lines_done replay.end replay.last)
-      (moves_asked replay.lines_done script.lines (first_progress option) makes replay.moves (All-nil P)))
+      (moves_asked replay.lines_done script.lines (first_progress option replay.drainers) makes replay.moves (All-nil P)))
 
 -- ---- the nodes that entries ask to create
 

@@ -26,6 +26,8 @@ use Rattle.actor_turns.proofs.Lives.{seat_within}
 use Rattle.script_runs.specs.Limits.{IsKnown, IsReadable}
 use Rattle.script_runs.specs.Parts.{all_actors, all_lives, drain_roles, drain_seat, drain_seats, is_named, part_of, role_of}
 use Rattle.script_runs.specs.Replays.{AreMoves, IsMove, IsReplay, IsTurnLine, MoreMoves, NoMoves, Progress, first_progress}
+use Rattle.script_runs.specs.Drains.{AreDrainers}
+use Rattle.script_runs.proofs.Draining.{all_lines_keep_drainers, lines_keep_drainers, new_ones_are_drainers}
 use Rattle.script_runs.specs.Steps.Standing.{all_parts, place_of, seat_of_drains}
 use Rattle.script_runs.proofs.Casting.{drains_after, in_order, known_at, named_at, part_of_actor, within_at}
 use Rattle.script_runs.proofs.Orders.{life_between}
@@ -50,7 +52,7 @@ move_grows script option (Lose actor call lost) now next move = not_grown now ne
 move_grows script option (Restart actor calls) now next move = not_grown now next move
 move_grows script option (Turn actor calls) now next move = turn_grows actor (part_of script actor) calls now next move
 move_grows script option Drain now next move =
-    let g = drains_grow all_pass script.setup move.ran move.past _ move.drainers now.past _ move.rounds in
+    let g = drains_grow all_pass script.setup move.ran move.past _ now.drainers now.past _ move.rounds in
     record { newer = g.longer.added; are = ap (λ (p : Progress). p.past) move.is ∙ g.longer.are }
 
 pub moves_grow : (script : Script) (option : Option ℕ) (end : Progress) (lines : List Line) (now : Progress) → AreMoves script option end lines now → IsGrown now.past end.past
@@ -116,31 +118,36 @@ module _ (script : Script) (option : Option ℕ) (readable : IsReadable script) 
   others_keep : (now next : Progress) → IsGrown now.past next.past → ((seat : ℕ) → IsOneOf (drain_seats script) seat → own seat next.past ≡ own seat now.past) → Silent now → Silent next
   others_keep now next grown same silent = on_others script.setup (drain_seats script) (drain_roles script) grown.newer now.past next.past grown.are same silent
 
+  abbrev Are : Progress → Type 0
+  Are p = AreDrainers script (drain_seat script) option p
+
   one_move : (line : Line) (now next : Progress) (move : IsMove script option line now next) → IsThere line → IsRunOf script.setup next.past
-      → Silent now → MoveLasts script option line now next move × Silent next
-  one_move (Call user request) now next move there run silent = (
+      → Are now → Silent now → MoveLasts script option line now next move × Silent next
+  one_move (Call user request) now next move there run are silent = (
     tt,
     others_keep now next (move_grows script option (Call user request) now next move)
         (λ seat among. ap (λ (p : Progress). own seat p.past) move.is
         ∙ own_other _ now.past seat (no_user user (within_at script.lines there.0 (Call user request) readable.lines there.1).1 seat among)) silent,
   )
-  one_move (Lose actor call lost) now next move there run silent = (tt, subst Silent (sym move) silent)
-  one_move (Restart actor calls) now next move there run silent = (tt, subst Silent (sym move) silent)
-  one_move (Turn actor calls) now next move there run silent = (
+  one_move (Lose actor call lost) now next move there run are silent = (tt, subst Silent (sym move) silent)
+  one_move (Restart actor calls) now next move there run are silent = (tt, subst Silent (sym move) silent)
+  one_move (Turn actor calls) now next move there run are silent = (
     tt,
     others_keep now next (move_grows script option (Turn actor calls) now next move)
         (turn_others actor calls now next (named_at script.lines there.0 actor calls there.1) (known_at script.node_names script.lines there.0 (Turn actor calls) readable.known there.1) move) silent,
   )
-  one_move Drain now next move there run silent = (drain_lasts script (drain_seat script) option now next move run silent, drain_keeps script (drain_seat script) option now next move run silent)
+  one_move Drain now next move there run are silent =
+      (drain_lasts script (drain_seat script) option now next move are run silent, drain_keeps script (drain_seat script) option now next move are run silent)
 
   all_moves : (end : Progress) → IsRunOf script.setup end.past → (lines : List Line) (now : Progress)
-      → ((place : ℕ) (line : Line) → slice_get lines place ≡ Some line → IsThere line) → (moves : AreMoves script option end lines now) → Silent now
+      → ((place : ℕ) (line : Line) → slice_get lines place ≡ Some line → IsThere line) → (moves : AreMoves script option end lines now) → Are now → Silent now
       → MovesLast script option end lines now moves × Silent end
-  all_moves end run lines now among (NoMoves none same) silent = (tt, subst Silent (sym same) silent)
-  all_moves end run lines now among (MoreMoves line rest next are move more) silent =
+  all_moves end run lines now among (NoMoves none same) are silent = (tt, subst Silent (sym same) silent)
+  all_moves end run lines now among (MoreMoves line rest next is move more) are silent =
       let grown = moves_grow script option end rest next more in
-      let first = one_move line now next move (among 0 line (ap (λ ls. slice_get ls 0) are)) (run_of_older script.setup grown.newer next.past end.past grown.are run) silent in
-      let then_ = all_moves end run rest next (λ place x at. among (suc place) x (ap (λ ls. slice_get ls (suc place)) are ∙ at)) more first.1 in
+      let first = one_move line now next move (among 0 line (ap (λ ls. slice_get ls 0) is)) (run_of_older script.setup grown.newer next.past end.past grown.are run) are silent in
+      let kept = lines_keep_drainers script (drain_seat script) option line now next move are in
+      let then_ = all_moves end run rest next (λ place x at. among (suc place) x (ap (λ ls. slice_get ls (suc place)) is ∙ at)) more kept first.1 in
       ((first.0, then_.0), then_.1)
 
 -- ---- a replay
@@ -153,17 +160,24 @@ module _ (script : Script) (option : Option ℕ) (past : List Entry) (ending : D
   run_at_end : IsRunOf script.setup replay.end.past
   run_at_end = subst (IsRunOf script.setup) replay.history run
 
-  before : MovesLast script option replay.lines_done script.lines (first_progress option) replay.moves × AreSilentIfOvertaken script (drain_seat script) replay.lines_done.past
+  new_are : AreDrainers script (drain_seat script) option (first_progress option replay.drainers)
+  new_are = new_ones_are_drainers script (drain_seat script) option (first_progress option replay.drainers) replay.new
+
+  -- the actors of the last drain
+  pub last_are : AreDrainers script (drain_seat script) option replay.lines_done
+  last_are = all_lines_keep_drainers script (drain_seat script) option replay.lines_done script.lines (first_progress option replay.drainers) replay.moves new_are
+
+  before : MovesLast script option replay.lines_done script.lines (first_progress option replay.drainers) replay.moves × AreSilentIfOvertaken script (drain_seat script) replay.lines_done.past
   before =
       let grown = move_grows script option Drain replay.lines_done replay.end replay.last in
       all_moves script option readable replay.lines_done (run_of_older script.setup grown.newer replay.lines_done.past replay.end.past grown.are run_at_end)
-      script.lines (first_progress option) (λ place line at. (place, at)) replay.moves (none_yet script (drain_seat script))
+      script.lines (first_progress option replay.drainers) (λ place line at. (place, at)) replay.moves new_are (none_yet script (drain_seat script))
 
   pub lines_silence_the_overtaken : AreSilentIfOvertaken script (drain_seat script) replay.lines_done.past
   lines_silence_the_overtaken = before.1
 
   each_lasts : DrainsLast script option past ending replay
-  each_lasts = record { of_lines = before.0; of_last = drain_lasts script (drain_seat script) option replay.lines_done replay.end replay.last run_at_end before.1 }
+  each_lasts = record { of_lines = before.0; of_last = drain_lasts script (drain_seat script) option replay.lines_done replay.end replay.last last_are run_at_end before.1 }
 
 pub replayed_drains_last : ReplayedDrainsLast
 replayed_drains_last = each_lasts

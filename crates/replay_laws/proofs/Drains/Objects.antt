@@ -27,7 +27,7 @@ use Rattle.shared_work.specs.Lines.{AreOfLines, asked_by, asked_if, asked_in, ca
 use Rattle.script_runs.specs.Parts.{part_of, role_of}
 use Rattle.script_runs.specs.Replays.{AreMoves, IsMove, IsReplay, MoreMoves, NoMoves, Progress, first_progress}
 use Rattle.script_runs.proofs.Casting.{actor_built}
-use Rattle.script_runs.proofs.Draining.{drains_at_come_to, drains_come_to}
+use Rattle.script_runs.proofs.Draining.{drains_come_to}
 use Rattle.script_threads.specs.Runs.{IsRun, progress_after}
 use Rattle.script_threads.specs.Started.{drain_seat}
 use Rattle.script_threads.specs.Threads.{IsThreadedWork}
@@ -112,7 +112,7 @@ module _ (script : Script) (option : Option ℕ) where
   replay_created past ending replay =
       let all = ap creations replay.history in
       let last = move_created Drain replay.lines_done replay.end replay.last in
-      let lines = moves_created replay.lines_done script.lines (first_progress option) replay.moves in
+      let lines = moves_created replay.lines_done script.lines (first_progress option replay.drainers) replay.moves in
       omega (arith, all, last, lines)
 
 -- ---- the seats of users
@@ -252,7 +252,7 @@ work_created script workers calls worked work =
 run_created : (script : Script) (workers calls : ℕ) (option : Option ℕ) (past : List Entry) (ending : Drained) → IsRun script workers calls option past ending → creations past ≤ creates script.lines
 run_created script workers calls option past ending r =
     let all = ap creations r.history in
-    let last = same_users r.worked r.end.past (drains_at_come_to all_pass script (drain_seat workers script) option (progress_after r.worked option) r.end r.last).users in
+    let last = same_users r.worked r.end.past (drains_come_to all_pass script option (progress_after r.worked option r.drainers) r.end r.last).users in
     let work = work_created script workers calls r.worked r.work in
     omega (arith, all, last, work)
 

@@ -21,7 +21,7 @@ use Rattle.script_text.specs.declared.script.Script.{Script}
 use Rattle.script_text.specs.Said.{created_node}
 use Rattle.shared_work.specs.Lines.{AreOfLines, asked_by, asked_if, asked_in, call_of, user_call}
 use Rattle.script_runs.proofs.Casting.{actor_built}
-use Rattle.script_runs.proofs.Draining.{drains_at_come_to}
+use Rattle.script_runs.proofs.Draining.{drains_come_to}
 use Rattle.script_threads.specs.Runs.{IsRun, progress_after}
 use Rattle.script_threads.specs.Started.{EachStarted, after_lives, drain_seat, seat_after, started, started_part}
 use Rattle.script_threads.specs.Threads.{HasMadeCalls, IsThreadedWork}
@@ -158,7 +158,7 @@ run_creates script workers calls option past ending r node some =
     work_named script workers calls r.worked r.work node (some_filter (UserCreates node) (λ e. is_user e.kind) r.worked (subst (SomeOf (UserCreates node)) same some))
   where
     same : users_of past ≡ users_of r.worked
-    same = ap users_of r.history ∙ (drains_at_come_to all_pass script (drain_seat workers script) option (progress_after r.worked option) r.end r.last).users
+    same = ap users_of r.history ∙ (drains_come_to all_pass script option (progress_after r.worked option r.drainers) r.end r.last).users
 
 pub threaded_pods_are_on_named : ThreadedPodsAreOnNamed
 threaded_pods_are_on_named script workers calls option past ending names run r = pods_named script past names run (run_creates script workers calls option past ending r)

@@ -26,9 +26,10 @@ use Rattle.actor_turns.specs.Fates.{fate_of}
 use Rattle.script_runs.specs.Parts.{kind_of_worker, seat_kind_of, drain_seat, part_of, role_of}
 use Rattle.actor_turns.specs.Calls.{seat_at, IsOneMore, IsCallWith, AreCalls, NoCalls, MoreCalls}
 use Rattle.actor_rounds.specs.Rounds.{all_pass}
-use Rattle.script_runs.proofs.Draining.{drains_at_come_to}
+use Rattle.script_runs.proofs.Draining.{all_lines_keep_drainers, drains_come_to, lines_keep_drainers, new_ones_are_drainers}
 use Rattle.actor_rounds.specs.Drainers.{seats_for}
-use Rattle.script_runs.specs.Replays.{Progress, first_progress, IsTurnLine, IsDrainAt, IsMove, AreMoves, NoMoves, MoreMoves, IsReplay}
+use Rattle.script_runs.specs.Drains.{AreDrainers}
+use Rattle.script_runs.specs.Replays.{Progress, first_progress, IsTurnLine, IsDrain, IsMove, AreMoves, NoMoves, MoreMoves, IsReplay}
 use Rattle.history_laws.specs.Runs.Laws.{IsAskedGiven, IsGivenRun}
 use Rattle.history_laws.proofs.Runs.Runs.{runs_give, run_texts_have_one}
 use Rattle.replay_laws.specs.Printable.Laws.{IsReplayedRun, ReplaysGive, ReplayTextsHaveOne}
@@ -103,12 +104,13 @@ told_seats some (e ∷ es) past is told h = All-cons HasSeat e _ (is e.seat told
 
 -- a drain whose first seat is this one
 pub drain_fine : (script : Script) (first : ℕ) (option : Option ℕ) (before after : Progress)
-    → IsScript script → first ≤ 16863257 → IsDrainAt all_pass script first option before after → AreFine before.past → AreFine after.past
-drain_fine script first option before after is high d h =
-    let comes = drains_at_come_to all_pass script first option before after d in
+    → IsScript script → first ≤ 16863257 → IsDrain all_pass script option before after → AreDrainers script first option before → AreFine before.past → AreFine after.past
+drain_fine script first option before after is high d are h =
+    let comes = drains_come_to all_pass script option before after d in
     let entries = comes.entries.longer in
+    let of_seats = subst (λ (ss : List ℕ). AreToldOf ss entries.added) are.seats entries.of_seats in
     record {
-      seats = subst (All HasSeat) (sym entries.are) (told_seats (seats_for first script.node_names) entries.added before.past (drainer_seat script is first high) entries.of_seats h.seats);
+      seats = subst (All HasSeat) (sym entries.are) (told_seats (seats_for first script.node_names) entries.added before.past (drainer_seat script is first high) of_seats h.seats);
       users = subst (All AsksGiven) (sym comes.users) h.users;
     }
 
@@ -118,30 +120,39 @@ user_seat : (user : ℕ) → user ≤ 4 → IsNumber user
 user_seat user few = omega (arith, few)
 
 line_fine : (script : Script) (option : Option ℕ) (agents : List Pair) (earlier : List Line) (line : Line) (before after : Progress)
-    → IsScript script → IsLineAfter agents earlier line → IsMove script option line before after → AreFine before.past → AreFine after.past
-line_fine script option agents earlier (Call user request) before after is given move h =
+    → IsScript script → IsLineAfter agents earlier line → IsMove script option line before after
+    → AreDrainers script (drain_seat script) option before → AreFine before.past → AreFine after.past
+line_fine script option agents earlier (Call user request) before after is given move are h =
     subst (λ (p : Progress). AreFine p.past) (sym move.is) (fine_asked _ before.past (user_seat user (count_most 4 user given.0)) (users_ask request given.1) h)
-line_fine script option agents earlier (Lose actor call lost) before after is given move h = subst (λ (p : Progress). AreFine p.past) (sym move) h
-line_fine script option agents earlier (Restart actor calls) before after is given move h = subst (λ (p : Progress). AreFine p.past) (sym move) h
-line_fine script option agents earlier (Turn actor calls) before after is given move h =
+line_fine script option agents earlier (Lose actor call lost) before after is given move are h = subst (λ (p : Progress). AreFine p.past) (sym move) h
+line_fine script option agents earlier (Restart actor calls) before after is given move are h = subst (λ (p : Progress). AreFine p.past) (sym move) h
+line_fine script option agents earlier (Turn actor calls) before after is given move are h =
     turn_fine actor (part_of script actor) calls before after (life_seat script is actor) (no_actor_is_user actor) move h
-line_fine script option agents earlier Drain before after is given move h = drain_fine script (drain_seat script) option before after is (drain_high script is) move h
+line_fine script option agents earlier Drain before after is given move are h = drain_fine script (drain_seat script) option before after is (drain_high script is) move are h
 
 -- ---- the lines
 
 moves_fine : (script : Script) (option : Option ℕ) (end : Progress) (agents : List Pair) → IsScript script → (earlier lines : List Line) (now : Progress)
-    → AreLinesAfter script.setup.imports agents earlier lines → AreMoves script option end lines now → AreFine now.past → AreFine end.past
-moves_fine script option end agents is earlier lines now given (NoMoves none same) h = subst (λ (p : Progress). AreFine p.past) (sym same) h
-moves_fine script option end agents is earlier lines now given (MoreMoves line rest next here move more) h =
+    → AreLinesAfter script.setup.imports agents earlier lines → AreMoves script option end lines now
+    → AreDrainers script (drain_seat script) option now → AreFine now.past → AreFine end.past
+moves_fine script option end agents is earlier lines now given (NoMoves none same) are h = subst (λ (p : Progress). AreFine p.past) (sym same) h
+moves_fine script option end agents is earlier lines now given (MoreMoves line rest next here move more) are h =
     let these = subst (AreLinesAfter script.setup.imports agents earlier) here given in
     moves_fine script option end agents is (earlier ++ line ∷ []) rest next these.2 more
-    (line_fine script option agents earlier line now next is these.0 move h)
+    (lines_keep_drainers script (drain_seat script) option line now next move are) (line_fine script option agents earlier line now next is these.0 move are h)
 
 replay_fine : (script : Script) (budget : Option ℕ) (past : List Entry) (ending : Drained) → IsScript script → IsReplay script budget past ending → AreFine past
 replay_fine script budget past ending is replay =
     subst AreFine (sym replay.history)
     (drain_fine script (drain_seat script) budget replay.lines_done replay.end is (drain_high script is) replay.last
-    (moves_fine script budget replay.lines_done (agents_of script.setup.imports script.lines) is [] script.lines (first_progress budget) is.lines replay.moves nothing_fine))
+    (all_lines_keep_drainers script (drain_seat script) budget replay.lines_done script.lines first replay.moves new)
+    (moves_fine script budget replay.lines_done (agents_of script.setup.imports script.lines) is [] script.lines first is.lines replay.moves new nothing_fine))
+  where
+    first : Progress
+    first = first_progress budget replay.drainers
+
+    new : AreDrainers script (drain_seat script) budget first
+    new = new_ones_are_drainers script (drain_seat script) budget first replay.new
 
 -- ---- the history
 

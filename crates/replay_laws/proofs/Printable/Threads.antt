@@ -29,6 +29,7 @@ use Rattle.shared_work.specs.Lines.{AreOfLines, asked_by, asked_if, asked_in, ca
 use Rattle.script_runs.proofs.Casting.{few_restarts}
 use Rattle.script_threads.specs.Started.{EachStarted, after_lives, drain_seat, seat_after, started, started_for, started_part, workers_of}
 use Rattle.script_threads.specs.Threads.{HasMadeCalls, IsThreadedWork}
+use Rattle.script_runs.proofs.Draining.{new_ones_are_drainers}
 use Rattle.script_threads.specs.Runs.{IsRun, progress_after}
 use Rattle.history_laws.specs.Runs.Laws.{IsAskedGiven, IsGivenRun}
 use Rattle.history_laws.proofs.Runs.Runs.{runs_give, run_texts_have_one}
@@ -249,7 +250,8 @@ module _ (script : Script) (is : IsScript script) (workers : ℕ) where
   threads_fine : (calls : ℕ) (budget : Option ℕ) (past : List Entry) (ending : Drained) → IsRun script workers calls budget past ending → AreFine past
   threads_fine calls budget past ending run =
       subst AreFine (sym run.history)
-      (drain_fine script (drain_seat workers script) budget (progress_after run.worked budget) run.end is high run.last
+      (drain_fine script (drain_seat workers script) budget (progress_after run.worked budget run.drainers) run.end is high run.last
+      (new_ones_are_drainers script (drain_seat workers script) budget (progress_after run.worked budget run.drainers) run.new)
       (fine_of run.worked (work_given calls run.worked run.work)))
 
 pub made_by_threads : (script : Script) (workers calls : ℕ) (budget : Option ℕ) (past : List Entry) (ending : Drained)

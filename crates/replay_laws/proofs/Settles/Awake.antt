@@ -42,7 +42,9 @@ use Rattle.actor_turns.specs.Calls.{AreCalls, IsCallBy, MoreCalls, NoCalls, is_h
 use Rattle.actor_turns.specs.Fates.{fate_of}
 use Rattle.script_runs.specs.Limits.{IsReadable}
 use Rattle.script_runs.specs.Parts.{drain_roles, drain_seat, drain_seats, kind_of_worker, part_of, role_of}
+use Rattle.script_runs.specs.Drains.{AreDrainers}
 use Rattle.script_runs.specs.Replays.{AreMoves, IsDrain, IsMove, IsTurnLine, IsUserCall, MoreMoves, NoMoves, Progress, first_progress}
+use Rattle.script_runs.proofs.Draining.{drains_keep_drainers, lines_keep_drainers, new_ones_are_drainers}
 use Rattle.script_runs.proofs.Casting.{actor_built, known_at, named_at, within_at}
 use Rattle.script_runs.proofs.Staying.{calls_grow, keeps_devices}
 use Rattle.replay_laws.proofs.Drains.Apart.{one_at}
@@ -152,36 +154,41 @@ module _ (script : Script) (option : Option ℕ) (readable : IsReadable script) 
         (rounds_keep_epochs script.setup all_pass ds between h middle b rest whole seat node
         (runs_are_histories script.setup middle here.run) roles round (λ i d there role. inl (own_node ds seats_are roles_are i d there role)) current)
 
-  drain_awake : (now next : Progress) → IsRunOf script.setup next.past → IsDrain all_pass script option now next → Awake now.past → Awake next.past
-  drain_awake now next run d awake place seat node at_seat at_role =
+  abbrev Are : Progress → Type 0
+  Are p = AreDrainers script (drain_seat script) option p
+
+  drain_awake : (now next : Progress) → IsRunOf script.setup next.past → IsDrain all_pass script option now next → Are now → Awake now.past → Awake next.past
+  drain_awake now next run d are awake place seat node at_seat at_role =
       let same = ap (λ (p : Progress). p.past) d.is in
       subst (λ h. IsCurrent script.setup h node seat) (sym same)
-      (drains_leave place seat node at_seat at_role d.ran d.past _ (subst (IsRunOf script.setup) same run) d.drainers now.past _ d.seats d.roles d.rounds (awake place seat node at_seat at_role))
+      (drains_leave place seat node at_seat at_role d.ran d.past _ (subst (IsRunOf script.setup) same run) now.drainers now.past _ are.seats are.roles d.rounds (awake place seat node at_seat at_role))
 
   -- the line stands in the script
   abbrev IsThere : Line → Type 0
   IsThere line = (place : ℕ) × (slice_get script.lines place ≡ Some line)
 
-  one_awake : (line : Line) (now next : Progress) → IsThere line → turns_agent line ≡ false → IsRunOf script.setup next.past → IsMove script option line now next → Awake now.past → Awake next.past
-  one_awake (Call user request) now next there none run move awake = user_awake user request now next (within_at script.lines there.0 (Call user request) readable.lines there.1).1 move awake
-  one_awake (Lose actor call lost) now next there none run move awake = subst (λ (p : Progress). Awake p.past) (sym move) awake
-  one_awake (Restart actor calls) now next there none run move awake = subst (λ (p : Progress). Awake p.past) (sym move) awake
-  one_awake (Turn (Worker w) calls) now next there none run move awake =
+  one_awake : (line : Line) (now next : Progress) → IsThere line → turns_agent line ≡ false → IsRunOf script.setup next.past → IsMove script option line now next
+      → Are now → Awake now.past → Awake next.past
+  one_awake (Call user request) now next there none run move are awake = user_awake user request now next (within_at script.lines there.0 (Call user request) readable.lines there.1).1 move awake
+  one_awake (Lose actor call lost) now next there none run move are awake = subst (λ (p : Progress). Awake p.past) (sym move) awake
+  one_awake (Restart actor calls) now next there none run move are awake = subst (λ (p : Progress). Awake p.past) (sym move) awake
+  one_awake (Turn (Worker w) calls) now next there none run move are awake =
       turn_awake (part_of script (Worker w)) calls now next (actor_built (Worker w)) (no_agent w.kind) (role_of (Worker w)) run move awake
-  one_awake (Turn (Agent node) calls) now next there none run move awake = absurd (true≢false none)
-  one_awake Drain now next there none run move awake = drain_awake now next run move awake
+  one_awake (Turn (Agent node) calls) now next there none run move are awake = absurd (true≢false none)
+  one_awake Drain now next there none run move are awake = drain_awake now next run move are awake
 
   module _ (end : Progress) (run : IsRunOf script.setup end.past) where
     run_at : (lines : List Line) (next : Progress) → AreMoves script option end lines next → IsRunOf script.setup next.past
     run_at lines next more = let grown = moves_grow script option end lines next more in run_of_older script.setup grown.newer next.past end.past grown.are run
 
     all_awake : (lines : List Line) (now : Progress) → ((place : ℕ) (line : Line) → slice_get lines place ≡ Some line → IsThere line)
-        → TurnNoAgent lines → AreMoves script option end lines now → Awake now.past → Awake end.past
-    all_awake lines now among none (NoMoves empty same) awake = subst (λ (p : Progress). Awake p.past) (sym same) awake
-    all_awake lines now among none (MoreMoves line rest next are move more) awake =
-        let these = subst TurnNoAgent are none in
-        all_awake rest next (λ place x at. among (suc place) x (ap (λ ls. slice_get ls (suc place)) are ∙ at)) these.1 more
-        (one_awake line now next (among 0 line (ap (λ ls. slice_get ls 0) are)) these.0 (run_at rest next more) move awake)
+        → TurnNoAgent lines → AreMoves script option end lines now → Are now → Awake now.past → Awake end.past
+    all_awake lines now among none (NoMoves empty same) are awake = subst (λ (p : Progress). Awake p.past) (sym same) awake
+    all_awake lines now among none (MoreMoves line rest next is move more) are awake =
+        let these = subst TurnNoAgent is none in
+        all_awake rest next (λ place x at. among (suc place) x (ap (λ ls. slice_get ls (suc place)) is ∙ at)) these.1 more
+        (lines_keep_drainers script (drain_seat script) option line now next move are)
+        (one_awake line now next (among 0 line (ap (λ ls. slice_get ls 0) is)) these.0 (run_at rest next more) move are awake)
 
     -- before the first drain their seats have no entries
     abbrev AreUnused : Progress → Type 0
@@ -189,30 +196,33 @@ module _ (script : Script) (option : Option ℕ) (readable : IsReadable script) 
 
     -- what the first line leaves, and what the later ones leave of it
     first_awake : (line : Line) (rest : List Line) (now next : Progress) → IsThere line
-        → ((place : ℕ) (x : Line) → slice_get rest place ≡ Some x → IsThere x) → LeaveAgents (line ∷ rest) → IsMove script option line now next → AreMoves script option end rest next → AreUnused now
+        → ((place : ℕ) (x : Line) → slice_get rest place ≡ Some x → IsThere x) → LeaveAgents (line ∷ rest) → IsMove script option line now next → AreMoves script option end rest next → Are now → AreUnused now
         → (LeaveAgents rest → AreUnused next → Awake end.past) → Awake end.past
-    first_awake (Call user request) rest now next there among leave move more unused later =
+    first_awake (Call user request) rest now next there among leave move more are unused later =
         later leave (λ seat one_. ap (λ (p : Progress). own seat p.past) move.is
         ∙ (own_other _ now.past seat (no_user script option readable user (within_at script.lines there.0 (Call user request) readable.lines there.1).1 seat one_) ∙ unused seat one_))
-    first_awake (Lose actor call lost) rest now next there among leave move more unused later = later leave (λ seat one_. ap (λ (p : Progress). own seat p.past) move ∙ unused seat one_)
-    first_awake (Restart actor calls) rest now next there among leave move more unused later = later leave (λ seat one_. ap (λ (p : Progress). own seat p.past) move ∙ unused seat one_)
-    first_awake (Turn actor calls) rest now next there among leave move more unused later =
+    first_awake (Lose actor call lost) rest now next there among leave move more are unused later = later leave (λ seat one_. ap (λ (p : Progress). own seat p.past) move ∙ unused seat one_)
+    first_awake (Restart actor calls) rest now next there among leave move more are unused later = later leave (λ seat one_. ap (λ (p : Progress). own seat p.past) move ∙ unused seat one_)
+    first_awake (Turn actor calls) rest now next there among leave move more are unused later =
         later leave (λ seat one_. turn_others script option readable actor calls now next (named_at script.lines there.0 actor calls there.1)
         (known_at script.node_names script.lines there.0 (Turn actor calls) readable.known there.1) move seat one_ ∙ unused seat one_)
-    first_awake Drain rest now next there among leave move more unused later =
-        all_awake rest next among leave more (drain_awake now next (run_at rest next more) move (unused_are_awake script (drain_seat script) now.past unused))
+    first_awake Drain rest now next there among leave move more are unused later =
+        all_awake rest next among leave more (drains_keep_drainers all_pass script (drain_seat script) option now next move are)
+        (drain_awake now next (run_at rest next more) move are (unused_are_awake script (drain_seat script) now.past unused))
 
     left_awake : (lines : List Line) (now : Progress) → ((place : ℕ) (line : Line) → slice_get lines place ≡ Some line → IsThere line)
-        → LeaveAgents lines → AreMoves script option end lines now → AreUnused now → Awake end.past
-    left_awake lines now among leave (NoMoves empty same) unused = subst (λ (p : Progress). Awake p.past) (sym same) (unused_are_awake script (drain_seat script) now.past unused)
-    left_awake lines now among leave (MoreMoves line rest next are move more) unused =
-        let behind : (place : ℕ) (x : Line) → slice_get rest place ≡ Some x → IsThere x = λ place x at. among (suc place) x (ap (λ ls. slice_get ls (suc place)) are ∙ at) in
-        first_awake line rest now next (among 0 line (ap (λ ls. slice_get ls 0) are)) behind (subst LeaveAgents are leave) move more unused
-        (λ leave_rest unused_next. left_awake rest next behind leave_rest more unused_next)
+        → LeaveAgents lines → AreMoves script option end lines now → Are now → AreUnused now → Awake end.past
+    left_awake lines now among leave (NoMoves empty same) are unused = subst (λ (p : Progress). Awake p.past) (sym same) (unused_are_awake script (drain_seat script) now.past unused)
+    left_awake lines now among leave (MoreMoves line rest next is move more) are unused =
+        let behind : (place : ℕ) (x : Line) → slice_get rest place ≡ Some x → IsThere x = λ place x at. among (suc place) x (ap (λ ls. slice_get ls (suc place)) is ∙ at) in
+        let kept = lines_keep_drainers script (drain_seat script) option line now next move are in
+        first_awake line rest now next (among 0 line (ap (λ ls. slice_get ls 0) is)) behind (subst LeaveAgents is leave) move more are unused
+        (λ leave_rest unused_next. left_awake rest next behind leave_rest more kept unused_next)
 
 pub left_agents_are_awake : LeftAgentsAreAwake
 left_agents_are_awake script option past ending readable run leave replay =
-    left_awake script option readable replay.lines_done run_there script.lines (first_progress option) (λ place line at. (place, at)) leave replay.moves (λ seat among. refl)
+    left_awake script option readable replay.lines_done run_there script.lines (first_progress option replay.drainers) (λ place line at. (place, at)) leave replay.moves
+    (new_ones_are_drainers script (drain_seat script) option (first_progress option replay.drainers) replay.new) (λ seat among. refl)
   where
     run_there : IsRunOf script.setup replay.lines_done.past
     run_there =

@@ -10,14 +10,12 @@ use Rattle.script_text.specs.declared.script.Line.{Line}
 use Rattle.script_text.specs.declared.script.Line.TheVariants.{Call, Drain, Lose, Restart, Turn}
 use Rattle.script_text.specs.declared.script.Script.{Script}
 use Rattle.script_runs.specs.Limits.{IsReadable}
-use Rattle.script_runs.specs.Parts.{drain_seat}
-use Rattle.script_runs.specs.Replays.{AreMoves, IsDrainAt, IsMove, IsReplay, MoreMoves, NoMoves, Progress, first_progress}
+use Rattle.script_runs.specs.Replays.{AreMoves, IsDrain, IsMove, IsReplay, MoreMoves, NoMoves, Progress, first_progress}
 use Rattle.script_threads.specs.Runs.{IsRun, progress_after}
-use Rattle.script_threads.specs.Started.{drain_seat as threads_drain_seat}
 
 -- each whole round of the drain that begins with something due, for an actor that is no stale agent, has an entry that lasts
-abbrev pub DrainLasts : (script : Script) (first : ℕ) (option : Option ℕ) (before after : Progress) → IsDrainAt all_pass script first option before after → Type 0
-DrainLasts script first option before after d = EachRoundLasts all_pass script.setup d.ran d.past (d.budget - (before.drained + d.made)) d.drainers before.past (d.budget - before.drained) d.rounds
+abbrev pub DrainLasts : (script : Script) (option : Option ℕ) (before after : Progress) → IsDrain all_pass script option before after → Type 0
+DrainLasts script option before after d = EachRoundLasts all_pass script.setup d.ran d.past (d.budget - (before.drained + d.made)) before.drainers before.past (d.budget - before.drained) d.rounds
 
 -- so of what a line does, which only a drain line says anything of
 abbrev pub MoveLasts : (script : Script) (option : Option ℕ) (line : Line) (before after : Progress) → IsMove script option line before after → Type 0
@@ -25,7 +23,7 @@ MoveLasts script option (Call user request) before after move = ⊤
 MoveLasts script option (Lose actor call lost) before after move = ⊤
 MoveLasts script option (Restart actor calls) before after move = ⊤
 MoveLasts script option (Turn actor calls) before after move = ⊤
-MoveLasts script option Drain before after move = DrainLasts script (drain_seat script) option before after move
+MoveLasts script option Drain before after move = DrainLasts script option before after move
 
 -- so of each of the lines
 abbrev pub MovesLast : (script : Script) (option : Option ℕ) (end : Progress) (lines : List Line) (now : Progress) → AreMoves script option end lines now → Type 0
@@ -34,8 +32,8 @@ MovesLast script option end lines now (MoreMoves line rest next are move more) =
 
 -- so of each drain of a replay: those of its lines, and the last one
 pub record DrainsLast (script : Script) (option : Option ℕ) (past : List Entry) (ending : Drained) (replay : IsReplay script option past ending) : Type 0 where
-  pub of_lines : MovesLast script option replay.lines_done script.lines (first_progress option) replay.moves
-  pub of_last : DrainLasts script (drain_seat script) option replay.lines_done replay.end replay.last
+  pub of_lines : MovesLast script option replay.lines_done script.lines (first_progress option replay.drainers) replay.moves
+  pub of_last : DrainLasts script option replay.lines_done replay.end replay.last
 
 -- in each replay that is a run
 abbrev pub ReplayedDrainsLast : Type 0
@@ -44,7 +42,7 @@ ReplayedDrainsLast = (script : Script) (option : Option ℕ) (past : List Entry)
 
 -- so of the drain with which a run on threads ends
 abbrev pub ThreadedDrainLasts : (script : Script) (workers calls : ℕ) (option : Option ℕ) (past : List Entry) (ending : Drained) → IsRun script workers calls option past ending → Type 0
-ThreadedDrainLasts script workers calls option past ending r = DrainLasts script (threads_drain_seat workers script) option (progress_after r.worked option) r.end r.last
+ThreadedDrainLasts script workers calls option past ending r = DrainLasts script option (progress_after r.worked option r.drainers) r.end r.last
 
 -- in each run on threads that is a run
 abbrev pub ThreadedDrainsLast : Type 0

@@ -1,7 +1,8 @@
 -- What stands for how far a replay has come: a world, the actors, and the numbers of the drains. A choice of this project.
 use Rattle.std.specs.Prelude.{ℕ, ◌≡◌, ◌≤◌, ◌<◌, ◌+◌, true, List, [], ◌∷◌, ◌++◌, Option, Some, None, bytes_eq, drop, map, slice_get, if◌then◌else◌}
 use Rattle.attention_law.specs.Diligence.{entries}
-use Rattle.actor_rounds.specs.Drainers.{AreAtRest, AreStanding, roles_of, seats_of}
+use Rattle.actor_rounds.specs.declared.drainers.Drainer.{Drainer}
+use Rattle.actor_rounds.specs.Drainers.{AreNew, AreStanding}
 use Rattle.actor_rounds.specs.Rounds.{all_pass}
 use Rattle.world_core.specs.declared.drained.Drained.{Drained}
 use Rattle.world_core.specs.declared.drained.Drained.TheVariants.{Settled, Spent}
@@ -19,7 +20,8 @@ use Rattle.actor_turns.specs.declared.player.Player.{Player}
 use Rattle.script_runs.specs.declared.stage.Stage.{Stage}
 use Rattle.script_runs.specs.Budget.{most_budget}
 use Rattle.actor_turns.specs.Parts.{lives_of}
-use Rattle.script_runs.specs.Parts.{drain_roles, drain_seats, first_actor_seat, is_named, seat_kind_of, part_at, role_of}
+use Rattle.script_runs.specs.Drains.{AreDrainers}
+use Rattle.script_runs.specs.Parts.{drain_seat, first_actor_seat, is_named, seat_kind_of, part_at, role_of}
 use Rattle.script_lines.specs.Actors.{actor_word, four}
 use Rattle.worker_core.specs.declared.role.Role.{Role}
 use Rattle.script_runs.specs.Replays.{AreMoves, EndsAs, IsDrain, Progress, first_progress}
@@ -118,10 +120,9 @@ pub record StageStands (script : Script) (option : Option ℕ) (p : Progress) (s
   pub lives : EachWithRole (λ role x. x.part.named ≡ true → Lives role x s.world.past p.idle) (actors_for script.node_names) s.players.items
   pub made : EachPlayer (λ x. x.made ≡ p.made x.part.name) s.players.items
   pub held : EachPlayer (λ x. x.held ≡ []) s.players.items
-  pub drainers : AreStanding s.drainers s.world.past
-  pub seats : seats_of s.drainers ≡ drain_seats script
-  pub roles : roles_of s.drainers ≡ drain_roles script
-  pub rests : (given : ℕ) → option ≡ Some given → s.drained < given → AreAtRest s.drainers
+  pub drainers : s.drainers ≡ p.drainers
+  pub are : AreDrainers script (drain_seat script) option p
+  pub standing : AreStanding p.drainers p.past
   pub drained : s.drained ≡ p.drained
   pub budget : s.budget ≡ p.budget
   pub few : s.drained ≤ s.budget
@@ -157,8 +158,10 @@ abbrev pub with_made : ℕ → Drained → Drained
 with_made made (Settled before) = Settled made
 with_made made (Spent before key due) = Spent made key due
 
--- the lines before a place are done
+-- the lines before a place are done, from new actors of the drains on
 pub record SoFar (script : Script) (option : Option ℕ) (place : ℕ) (s : Stage) : Type 0 where
+  pub first : List Drainer
+  pub new : AreNew (drain_seat script) script.node_names first
   pub progress : Progress
   pub stands : StageStands script option progress s
-  pub moves : (end : Progress) → AreMoves script option end (drop place script.lines) progress → AreMoves script option end script.lines (first_progress option)
+  pub moves : (end : Progress) → AreMoves script option end (drop place script.lines) progress → AreMoves script option end script.lines (first_progress option first)

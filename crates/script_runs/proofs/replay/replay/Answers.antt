@@ -9,7 +9,7 @@ use Rattle.script_runs.proofs.replay.replay.Goals as goal
 
 pub loop-place-init : goal.loop-place-init
 loop-place-init c =
-    let so = so_far_first c.args.script.now c.args.budget c.in_ok-stage.stage c.in_ok-stage.ensures.stands in
+    let so = so_far_first c.args.script.now c.args.budget c.in_ok-stage.stage c.in_ok-stage.ensures.new c.in_ok-stage.ensures.stands in
     record {
       some = some_of c.args.script.now c.args.budget 0 c.in_ok-stage.stage so;
       actors = c.in_ok-stage.ensures.actors;

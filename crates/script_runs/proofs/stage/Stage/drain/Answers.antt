@@ -1,5 +1,7 @@
-use Rattle.std.proofs.Common.{◌≡◌, ◌+◌, ◌-◌, ap, refl, subst, sym, arith, ℕ}
+use Rattle.std.proofs.Common.{◌≡◌, ◌+◌, ◌-◌, ap, refl, subst, sym, arith, List, ℕ}
 use Rattle.world_core.specs.Kept.{History}
+use Rattle.actor_rounds.specs.declared.drainers.Drainer.{Drainer}
+use Rattle.actor_rounds.specs.Drainers.{AreStanding}
 use Rattle.actor_rounds.specs.Rounds.{EndsWith, made_of}
 use Rattle.script_runs.specs.Budget.{raised}
 use Rattle.script_runs.specs.Steps.Settled.{IsNoted}
@@ -18,7 +20,10 @@ overflow_sub-left c =
     room_in c.args.option w.setup w.past c.args.self.now.drained c.args.self.now.budget c.raised-budget.result stands.few stands.most c.raised-budget.ensures.value c.raised-budget.ensures.more
 
 pub drain_on-requires-clause-stands : goal.drain_on-requires-clause-stands
-drain_on-requires-clause-stands c = c.requires.stands.stands.drainers
+drain_on-requires-clause-stands c =
+    let stands = c.requires.stands.stands in
+    let s = c.args.self.now in
+    subst (λ (ds : List Drainer). AreStanding ds s.world.past) (sym stands.drainers) (subst (AreStanding c.requires.stands.progress.drainers) (sym stands.past) stands.standing)
 
 pub drain_on-requires-clause-noted : goal.drain_on-requires-clause-noted
 drain_on-requires-clause-noted c = c.requires.stands.stands.settled
@@ -47,8 +52,6 @@ returns-clause-moved c =
       others = c.drain_on.ensures.others;
       few = c.in_ok-drained.ensures.few;
       standing = c.in_ok-drained.ensures.stands;
-      seats = c.drain_on.ensures.seats;
-      roles = c.in_ok-drained.ensures.roles;
       setup = c.drain_on.ensures.setup;
       players = refl;
       drained = ap (λ n. s.drained + n) c.made_in.ensures;
