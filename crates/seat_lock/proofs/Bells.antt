@@ -67,6 +67,7 @@ module _ {X A R B : Type 0} (history : X → List (Entry A R)) (base : X → B) 
           held_by = r.held_by;
           placed = r.placed;
           undrawn = r.undrawn;
+          seen = r.seen;
         },
         refl,
       )

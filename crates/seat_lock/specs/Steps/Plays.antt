@@ -48,9 +48,11 @@ module _ {X A R B : Type 0} where
   abbrev pub TalliesNumbers : Step (Option X) → SeatState X A R B → ℕ → SeatState X A R B → Type 0
   TalliesNumbers st m n m' = (m' ≡ m) × (m.0.share ≤ n) × (n < 2 ^ 49)
 
-  -- what the seat has seen begins with what the passes that it met had seen, and these have other numbers than its own
+  -- What the seat has seen begins with what the passes that it met had seen, and these have other numbers than its own. Of its own entries it has
+  -- seen the oldest ones, and no others of its number
   abbrev pub ComparesFronts : Step (Option X) → SeatState X A R B → ℕ → SeatState X A R B → Type 0
   ComparesFronts st m n m' = (m' ≡ (record m.0 { fronts = [] }, m.1)) × All (λ (l : List (Entry A R)). StartsWith m.0.front l) m.0.fronts × All (λ (p : ℕ × List (Entry A R)). p.0 ≢ m.0.number) m.0.met
+      × StartsWith m.0.own (calls_of m.0.number m.0.front)
 
   -- Where the seat accounts for each number, no more are drawn, and it knew of just these. Else it knew of more than it accounts for
   abbrev pub ClosesNumbers : Step (Option X) → SeatState X A R B → ℕ → SeatState X A R B → Type 0
@@ -111,6 +113,18 @@ module _ {A R B : Type 0} where
 
   abbrev pub share_note : Known A R B → Known A R B
   share_note v = note_of v.share v.made
+
+  -- the view itself, which keeps all that it has
+  abbrev pub whole_view : Known A R B → Known A R B
+  whole_view v = v
+
+  -- a note of what the view has seen
+  abbrev pub sight_note : Known A R B → Known A R B
+  sight_note v = record (note_of 0 v.made) { front = v.front }
+
+  -- the view, which has seen what the note shows too
+  abbrev pub learnt_view : Known A R B → Known A R B → Known A R B
+  learnt_view v w = record v { front = longer v.front w.front; fronts = v.front ∷ w.front ∷ v.fronts }
 
   -- the view with the share of a note, which it borrows
   abbrev pub with_loan : Known A R B → Known A R B → Known A R B
