@@ -5,6 +5,7 @@ pub mod Counted
 pub mod Drained
 pub mod Drainers
 pub mod Firsts
+pub mod Kept
 pub mod Lived
 pub mod Ran
 pub mod Reclaimed

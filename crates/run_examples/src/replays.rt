@@ -1,7 +1,7 @@
 //! Computed examples of what the history of a replayed script has.
 
 ghost use Rattle.run_examples.specs.Replay.Calls.{CallExamples, EndExamples, SeatExamples};
-ghost use Rattle.run_examples.specs.Replay.Drains.{ActorExamples, AssignExamples, DrainExamples, ReclaimExamples, RoundExamples, SpentExamples};
+ghost use Rattle.run_examples.specs.Replay.Drains.{ActorExamples, AssignExamples, DrainExamples, KeptExamples, ReclaimExamples, RoundExamples, SpentExamples};
 ghost use Rattle.run_examples.specs.Replay.Lives.{LifeExamples};
 ghost use Rattle.run_examples.specs.Replay.Replays.{EmptyExamples, FewerExamples, TurnExamples, UserExamples};
 ghost use Rattle.run_examples.specs.Replay.Runs.{HeldExamples, QueueExamples};
@@ -65,6 +65,11 @@ pub fn stale_examples()
 /// The calls of a drain.
 pub fn drain_examples()
     ensures { DrainExamples }
+{}
+
+/// Drains that go on from where the last one left their actors.
+pub fn kept_examples()
+    ensures { KeptExamples }
 {}
 
 /// The actors of a drain.

@@ -44,8 +44,9 @@ use Rattle.script_runs.specs.Parts.{drain_roles, drain_seat}
 use Rattle.script_runs.specs.Replays.{AreMoves, IsMove, IsReplay, IsUserCall, MoreMoves, NoMoves, Progress, first_progress}
 use Rattle.worker_core.specs.declared.role.Role.{Role}
 use Rattle.run_examples.specs.Replay.Drains.{ActorExamples, RoundExamples, lists_made, made, made_a, made_script, node_script, only_watched, watches_made}
-use Rattle.run_examples.proofs.Replay.Firsts.{FirstCall, ends_so, first_call, no_lines, second_call}
-use Rattle.run_examples.proofs.Replay.Scheduled.{one_call_drain}
+use Rattle.run_examples.proofs.Replay.Firsts.{FirstCall, ends_so, first_call, last_drainers, no_lines, second_call}
+use Rattle.run_examples.proofs.Replay.Drainers.{drainers_new, drainers_of}
+use Rattle.run_examples.proofs.Replay.Scheduled.{one_call_drain, ran_all}
 
 abbrev is_list : Request → Bool
 is_list (requests.List kind namespace) = true
@@ -69,8 +70,9 @@ no_agent ds new same =
 
 pub actor_cases : ActorExamples
 actor_cases = record {
-  no_drain_without_its_agent = λ before after d new. no_agent d.drainers new d.roles;
-  no_stage_without_it = λ p s new stands. no_agent s.drainers new stands.roles;
+  no_replay_without_its_agent = λ past ending r new. no_agent r.drainers new (new_roles_for (drain_seat node_script) node_script.node_names r.drainers r.new);
+  nor_at_any_drain = λ p new are. no_agent p.drainers new are.roles;
+  no_stage_without_it = λ p s new stands. no_agent s.drainers new (ap roles_of stands.drainers ∙ stands.are.roles);
   with_it_they_are_its_actors = λ ds new. (new_seats_for (drain_seat node_script) node_script.node_names ds new, new_roles_for (drain_seat node_script) node_script.node_names ds new);
 }
 
@@ -93,8 +95,8 @@ one_line script option done now ls user request are (MoreMoves line rest next is
 -- ---- drains after it
 
 module _ (n : ℕ) (past : List Entry) (ending : Drained) (r : IsReplay made_script (Some n) past ending) (long : 1 < length past) where
-  asked : UserAsked r.lines_done (first_progress (Some n)) 1 (requests.Create (Volume (volume (codes "a") 5)))
-  asked = one_line made_script (Some n) r.lines_done (first_progress (Some n)) made_script.lines 1 (requests.Create (Volume (volume (codes "a") 5))) refl r.moves
+  asked : UserAsked r.lines_done (first_progress (Some n) r.drainers) 1 (requests.Create (Volume (volume (codes "a") 5)))
+  asked = one_line made_script (Some n) r.lines_done (first_progress (Some n) r.drainers) made_script.lines 1 (requests.Create (Volume (volume (codes "a") 5))) refl r.moves
 
   abbrev user_entry : Entry
   user_entry = record { seat = 1; kind = seats.User; request = requests.Create (Volume (volume (codes "a") 5)); reply = asked.reply; told = true }
@@ -113,7 +115,7 @@ module _ (n : ℕ) (past : List Entry) (ending : Drained) (r : IsReplay made_scr
   nothing_yet = ap (own 7) before_is
 
   pub first : FirstCall 7 r.lines_done.past r.end.past
-  first = first_call made_script (Some n) r.lines_done r.end r.last more nothing_yet
+  first = first_call made_script (Some n) r.lines_done r.end r.last (last_drainers made_script (Some n) past ending r) more nothing_yet
 
   -- the first call stands before the user's
   pub first_at : (place : ℕ) → length past ≡ place + 2 → slice_get past place ≡ Some first.entry
@@ -129,7 +131,7 @@ module _ (n : ℕ) (past : List Entry) (ending : Drained) (r : IsReplay made_scr
   second_asks place e two is there =
       let budget : r.last.budget ≡ n = r.last.raises in
       let none : r.lines_done.drained ≡ 0 = ap (λ (p : Progress). p.drained) asked.is in
-      let second = second_call made_script (Some n) r.lines_done r.end r.last more nothing_yet (omega (arith, two, budget, none)) in
+      let second = second_call made_script (Some n) r.lines_done r.end r.last (last_drainers made_script (Some n) past ending r) more nothing_yet (omega (arith, two, budget, none)) in
       let b = one_before in
       let two_before : length (second.first ∷ r.lines_done.past) ≡ 2 = ap suc b in
       let at : slice_get past place ≡ Some second.entry = ends_so past second.later second.entry (second.first ∷ r.lines_done.past) place (r.history ∙ second.are) (omega (arith, is, two_before)) in
@@ -181,8 +183,11 @@ round_cases = record {
   nor_at_the_seat_of_the_scheduler = λ r. absurd (true≢false
       (sym (ap is_scheduler (first_kind 1 (lists_made 7 seats.VolumeProtect ∷ made) (Spent 1 key dues.Available) r two 0 (lists_made 7 seats.VolumeProtect) refl refl))));
   but_the_scheduler_lists_them = record {
-    lines_done = record (first_progress (Some 1)) { past = made };
-    end = record (first_progress (Some 1)) { past = lists_made 7 seats.Scheduler ∷ made; drained = 1 };
+    drainers = drainers_of made_script;
+    new = drainers_new (drain_seat made_script) made_script.node_names;
+    lines_done = record (first_progress (Some 1) (drainers_of made_script)) { past = made };
+    end = record (first_progress (Some 1) (ran_all made_script made (lists_made 7 seats.Scheduler).reply (refl, (refl, (refl, (refl, (refl, tt))))) (key, dues.Available)
+        (key, dues.Available) (due_first made rows_made) (due_first (lists_made 7 seats.Scheduler ∷ made) rows_listed))) { past = lists_made 7 seats.Scheduler ∷ made; drained = 1 };
     moves = MoreMoves (lines.Call 1 (requests.Create (Volume (volume (codes "a") 5)))) [] _ refl (record { reply = replies.Done (Volume made_a); is = refl }) (NoMoves refl refl);
     last = one_call_drain made_script made (lists_made 7 seats.Scheduler).reply (refl, (refl, (refl, (refl, (refl, tt))))) (key, dues.Available)
         (key, dues.Available) (due_first made rows_made) (due_first (lists_made 7 seats.Scheduler ∷ made) rows_listed);

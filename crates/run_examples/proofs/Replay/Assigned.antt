@@ -29,8 +29,10 @@ use Rattle.settle_check.proofs.Settled.{not_settled}
 use Rattle.world_core.specs.declared.drained.Drained.TheVariants.{Spent}
 use Rattle.script_runs.specs.Replays.{IsReplay, NoMoves, Progress, first_progress}
 use Rattle.run_examples.specs.Replay.Drains.{AssignExamples, assigned_p, lone_p, pod_assigned, pod_script}
+use Rattle.script_runs.specs.Parts.{drain_seat}
 use Rattle.run_examples.proofs.Replay.Drained.{spent_drain}
-use Rattle.run_examples.proofs.Replay.Firsts.{ends_so, first_call, no_lines}
+use Rattle.run_examples.proofs.Replay.Drainers.{drainers_new, drainers_of}
+use Rattle.run_examples.proofs.Replay.Firsts.{ends_so, first_call, last_drainers, no_lines}
 
 -- ---- the worlds
 
@@ -105,9 +107,9 @@ unsettled settled = not_settled setup first (key_p, dues.Assign) assign_due sett
 -- the scheduler lists the volumes before it gives the pod a node
 lists_before : IsReplay pod_script (Some 1) pod_assigned (Spent 1 key_p dues.Mount) → ⊥
 lists_before r =
-    let none : r.lines_done ≡ first_progress (Some 1) = no_lines pod_script (Some 1) r.lines_done (first_progress (Some 1)) [] refl r.moves in
+    let none : r.lines_done ≡ first_progress (Some 1) r.drainers = no_lines pod_script (Some 1) r.lines_done (first_progress (Some 1) r.drainers) [] refl r.moves in
     let empty : r.lines_done.past ≡ [] = ap (λ (p : Progress). p.past) none in
-    let call = first_call pod_script (Some 1) r.lines_done r.end r.last (λ same. let both : pod_assigned ≡ [] = r.history ∙ same ∙ empty in absurd (cc)) (ap (own 7) empty) in
+    let call = first_call pod_script (Some 1) r.lines_done r.end r.last (last_drainers pod_script (Some 1) pod_assigned (Spent 1 key_p dues.Mount) r) (λ same. let both : pod_assigned ≡ [] = r.history ∙ same ∙ empty in absurd (cc)) (ap (own 7) empty) in
     let long : length r.lines_done.past ≡ 0 = ap length empty in
     let at : slice_get pod_assigned 0 ≡ Some call.entry = ends_so pod_assigned call.later call.entry r.lines_done.past 0 (r.history ∙ call.are) (omega (arith, long)) in
     let e : requests.BindPod key_p uid_p node_1 ≡ requests.List kinds.PersistentVolume None = ap (λ (x : Entry). x.request) (one _ call.entry at) ∙ call.asks in
@@ -117,8 +119,10 @@ pub assign_cases : AssignExamples
 assign_cases = record {
   due_until_it_has_a_node =
       record {
-        lines_done = first_progress (Some 0);
-        end = first_progress (Some 0);
+        drainers = drainers_of pod_script;
+        new = drainers_new (drain_seat pod_script) pod_script.node_names;
+        lines_done = first_progress (Some 0) (drainers_of pod_script);
+        end = first_progress (Some 0) (drainers_of pod_script);
         moves = NoMoves refl refl;
         last =
             spent_drain pod_script (key_p, dues.Assign) assign_due;

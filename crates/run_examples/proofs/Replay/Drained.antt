@@ -33,15 +33,15 @@ use Rattle.actor_rounds.specs.Rounds.{IsSpent, NothingDue, all_pass}
 use Rattle.script_text.specs.declared.script.Script.{Script}
 use Rattle.script_runs.specs.Drains.{DrainComesTo}
 use Rattle.script_runs.specs.Parts.{drain_seat}
-use Rattle.script_runs.specs.Replays.{IsDrain, NoMoves, first_progress}
-use Rattle.script_runs.proofs.Draining.{drains_come_to}
+use Rattle.script_runs.specs.Replays.{IsDrain, NoMoves, Progress, first_progress}
+use Rattle.script_runs.proofs.Draining.{drains_come_to, new_ones_are_drainers}
 use Rattle.run_examples.specs.Replay.Calls.{reads}
 use Rattle.run_examples.specs.Replay.Drains.{DrainExamples, Drains, SpentExamples, begins_with, node_script, volume_script}
 use Rattle.run_examples.specs.Replay.Replays.{empty_script}
-use Rattle.run_examples.proofs.Replay.Drainers.{drainers_of, drainers_rest, drainers_roles, drainers_seats, drainers_stand}
-use Rattle.run_examples.proofs.Replay.Firsts.{ends_so, first_call}
+use Rattle.run_examples.proofs.Replay.Drainers.{drainers_new, drainers_of, drainers_stand}
+use Rattle.run_examples.proofs.Replay.Firsts.{FirstCall, ends_so, first_call}
 use Rattle.run_examples.proofs.Replay.Replayed.{nothing_due}
-use Rattle.run_examples.proofs.Replay.Scheduled.{one_call_drain}
+use Rattle.run_examples.proofs.Replay.Scheduled.{call_at, one_call_drain, ran_all}
 
 -- ---- what is due in the world that begins with a volume
 
@@ -92,35 +92,32 @@ not_bound f = differ is_available (sym (subst (λ o. IsDue volume_script.setup (
 -- ---- what its one call is
 
 module _ (script : Script) (five : drain_seat script ≡ 5) (e : Entry) (d : Drains script 1 1 (e ∷ [])) where
-  its_call : (later : List Entry) (entry : Entry) → e ∷ [] ≡ later ++ entry ∷ [] → entry ≡ e
-  its_call later entry are = one entry e (sym (ends_so (e ∷ []) later entry [] 0 are refl))
+  first : FirstCall (drain_seat script + 2) [] d.after.past
+  first =
+      first_call script (Some 1) (first_progress (Some 1) d.drainers) d.after d.drain
+      (new_ones_are_drainers script (drain_seat script) (Some 1) (first_progress (Some 1) d.drainers) d.new)
+      (λ (none : d.after.past ≡ []). let one_ : e ∷ [] ≡ [] = sym d.past_is ∙ none in absurd (cc)) refl
+
+  its_call : first.entry ≡ e
+  its_call = one first.entry e (sym (ends_so (e ∷ []) first.later first.entry [] 0 (sym d.past_is ∙ first.are) refl))
 
   its_seat : e.seat ≡ 7
-  its_seat =
-      let first = first_call script (Some 1) (first_progress (Some 1)) (record (first_progress (Some 1)) { past = e ∷ []; drained = 1 }) d (λ (none : e ∷ [] ≡ []). absurd (cc)) refl in
-      ap (λ (x : Entry). x.seat) (sym (its_call first.later first.entry first.are)) ∙ first.of_seat ∙ ap (λ n. n + 2) five
+  its_seat = ap (λ (x : Entry). x.seat) (sym its_call) ∙ first.of_seat ∙ ap (λ n. n + 2) five
 
   its_kind : e.kind ≡ seats.Scheduler
-  its_kind =
-      let first = first_call script (Some 1) (first_progress (Some 1)) (record (first_progress (Some 1)) { past = e ∷ []; drained = 1 }) d (λ (none : e ∷ [] ≡ []). absurd (cc)) refl in
-      ap (λ (x : Entry). x.kind) (sym (its_call first.later first.entry first.are)) ∙ first.of_kind
+  its_kind = ap (λ (x : Entry). x.kind) (sym its_call) ∙ first.of_kind
 
   its_answer : e.told ≡ true
-  its_answer =
-      let first = first_call script (Some 1) (first_progress (Some 1)) (record (first_progress (Some 1)) { past = e ∷ []; drained = 1 }) d (λ (none : e ∷ [] ≡ []). absurd (cc)) refl in
-      ap (λ (x : Entry). x.told) (sym (its_call first.later first.entry first.are)) ∙ first.was_told
+  its_answer = ap (λ (x : Entry). x.told) (sym its_call) ∙ first.was_told
 
   its_request : e.request ≡ requests.List kinds.PersistentVolume None
-  its_request =
-      let first = first_call script (Some 1) (first_progress (Some 1)) (record (first_progress (Some 1)) { past = e ∷ []; drained = 1 }) d (λ (none : e ∷ [] ≡ []). absurd (cc)) refl in
-      ap (λ (x : Entry). x.request) (sym (its_call first.later first.entry first.are)) ∙ first.asks
+  its_request = ap (λ (x : Entry). x.request) (sym its_call) ∙ first.asks
 
 not_at : (script : Script) (seat : ℕ) (told : Bool) → drain_seat script ≡ 5 → seat ≢ 7 → Drains script 1 1 (reads seat told ∷ []) → ⊥
 not_at script seat told five other d = other (its_seat script five (reads seat told) d)
 
-what_came : (script : Script) (budget made : ℕ) (past : List Entry) → Drains script budget made past
-    → DrainComesTo script (first_progress (Some budget)) (record (first_progress (Some budget)) { past = past; drained = made })
-what_came script budget made past d = drains_come_to all_pass script (Some budget) (first_progress (Some budget)) (record (first_progress (Some budget)) { past = past; drained = made }) d
+what_came : (script : Script) (budget made : ℕ) (past : List Entry) (d : Drains script budget made past) → DrainComesTo script (first_progress (Some budget) d.drainers) d.after
+what_came script budget made past d = drains_come_to all_pass script (Some budget) (first_progress (Some budget) d.drainers) d.after d.drain
 
 -- tests that tell requests apart
 
@@ -132,45 +129,67 @@ abbrev is_scheduler : SeatKind → Bool
 is_scheduler seats.Scheduler = true
 is_scheduler kind = false
 
+-- the budget of its drain
+budget_of : (script : Script) (budget made : ℕ) (past : List Entry) (d : Drains script budget made past) → d.after.budget ≡ budget
+budget_of script budget made past d = ap (λ (p : Progress). p.budget) d.drain.is ∙ d.drain.raises
+
 short : Drains volume_script 1 0 [] → ⊥
 short d = by (what_came volume_script 1 0 [] d).ends
   where
-    by : IsSettled volume_script.setup (world volume_script.setup []) ⊎ (◌≡◌ {A = ℕ} 0 1) → ⊥
-    by (inl settled) = unsettled settled
-    by (inr spent) = absurd (omega (arith, spent))
+    by : IsSettled volume_script.setup (world volume_script.setup d.after.past) ⊎ (d.after.drained ≡ d.after.budget) → ⊥
+    by (inl settled) = unsettled (subst (λ h. IsSettled volume_script.setup (world volume_script.setup h)) d.past_is settled)
+    by (inr spent) = let b = budget_of volume_script 1 0 [] d in let m = d.made_is in absurd (omega (arith, spent, b, m))
 
 -- one within a budget of none
 too_many : Drains volume_script 0 1 (begins_with 7 ∷ []) → ⊥
 too_many d =
     let few = (what_came volume_script 0 1 (begins_with 7 ∷ []) d).few in
-    let none : (first_progress (Some 0)).budget ≡ 0 = refl in
-    absurd (omega (arith, few, none))
+    let b = budget_of volume_script 0 1 (begins_with 7 ∷ []) d in
+    let m = d.made_is in
+    absurd (omega (arith, few, b, m))
 
 no_need : Drains empty_script 1 0 []
 no_need = record {
-  past = [];
-  made = 0;
-  budget = 1;
   drainers = drainers_of empty_script;
-  ran = drainers_of empty_script;
-  raises = refl;
-  seats = drainers_seats empty_script;
-  roles = drainers_roles empty_script;
-  stand = drainers_stand empty_script [] (refl, (refl, (refl, (refl, (refl, tt)))));
-  rests = λ given is unspent. drainers_rest empty_script;
-  few = omega arith;
-  rounds = NothingDue nothing_due refl refl refl;
-  is = refl;
+  new = drainers_new (drain_seat empty_script) empty_script.node_names;
+  after = first_progress (Some 1) (drainers_of empty_script);
+  drain = record {
+    past = [];
+    made = 0;
+    budget = 1;
+    ran = drainers_of empty_script;
+    raises = refl;
+    stand = drainers_stand empty_script [] (refl, (refl, (refl, (refl, (refl, tt)))));
+    few = omega arith;
+    rounds = NothingDue nothing_due refl refl refl;
+    is = refl;
+  };
+  past_is = refl;
+  made_is = refl;
+}
+
+-- a first drain of one call of the scheduler
+one_drained : (script : Script) (reply : Reply) → HaveNoEntries (seats_of (drainers_of script)) []
+    → IsFirstDue script.setup (world script.setup []) (Some (key_a, dues.Available))
+    → IsFirstDue script.setup (world script.setup (call_at (drain_seat script + 2) reply ∷ [])) (Some (key_a, dues.Available))
+    → Drains script 1 1 (call_at (drain_seat script + 2) reply ∷ [])
+one_drained script reply none due still = record {
+  drainers = drainers_of script;
+  new = drainers_new (drain_seat script) script.node_names;
+  after = record (first_progress (Some 1) (ran_all script [] reply none (key_a, dues.Available) (key_a, dues.Available) due still)) {
+    past = call_at (drain_seat script + 2) reply ∷ [];
+    drained = 1;
+  };
+  drain = one_call_drain script [] reply none (key_a, dues.Available) (key_a, dues.Available) due still;
+  past_is = refl;
+  made_is = refl;
 }
 
 pub drain_cases : DrainExamples
 drain_cases = record {
-  the_scheduler_begins = one_call_drain volume_script [] (begins_with 7).reply (refl, (refl, (refl, (refl, (refl, tt))))) (key_a, dues.Available)
-      (key_a, dues.Available) first_due (due_first (begins_with 7 ∷ []) rows_listed);
-  also_where_there_is_an_agent = one_call_drain node_script [] (begins_with 7).reply (refl, (refl, (refl, (refl, (refl, (refl, tt)))))) (
-    key_a,
-    dues.Available,
-  ) (key_a, dues.Available) first_due (due_first (begins_with 7 ∷ []) rows_listed);
+  the_scheduler_begins = one_drained volume_script (begins_with 7).reply (refl, (refl, (refl, (refl, (refl, tt))))) first_due (due_first (begins_with 7 ∷ []) rows_listed);
+  also_where_there_is_an_agent =
+      one_drained node_script (begins_with 7).reply (refl, (refl, (refl, (refl, (refl, (refl, tt)))))) first_due (due_first (begins_with 7 ∷ []) rows_listed);
   not_the_binder = not_at volume_script 5 true refl (λ (e : 5 ≡ 7). absurd (omega (arith, e)));
   not_volume_protection = not_at volume_script 9 true refl (λ (e : 9 ≡ 7). absurd (omega (arith, e)));
   not_the_agent_of_a_node = not_at node_script 10 true refl (λ (e : 10 ≡ 7). absurd (omega (arith, e)));
@@ -184,25 +203,21 @@ drain_cases = record {
   not_past_the_budget = too_many;
   not_short_of_it_while_something_is_due = short;
   none_where_nothing_is_due = no_need;
-  not_even_one = λ d. let e : begins_with 7 ∷ [] ≡ [] = (what_came empty_script 1 1 (begins_with 7 ∷ []) d).none nothing_due in absurd (cc);
+  not_even_one = λ d. let e : begins_with 7 ∷ [] ≡ [] = sym d.past_is ∙ (what_came empty_script 1 1 (begins_with 7 ∷ []) d).none nothing_due in absurd (cc);
 }
 
 -- ---- how it ends
 
 -- with no budget no call is made
 pub spent_drain : (script : Script) (first : Key × Due) → IsFirstDue script.setup (world script.setup []) (Some first)
-    → IsDrain all_pass script (Some 0) (first_progress (Some 0)) (first_progress (Some 0))
+    → IsDrain all_pass script (Some 0) (first_progress (Some 0) (drainers_of script)) (first_progress (Some 0) (drainers_of script))
 spent_drain script first due = record {
   past = [];
   made = 0;
   budget = 0;
-  drainers = drainers_of script;
   ran = drainers_of script;
   raises = refl;
-  seats = drainers_seats script;
-  roles = drainers_roles script;
   stand = drainers_stand script [] (none_at (seats_of (drainers_of script)));
-  rests = λ given is unspent. drainers_rest script;
   few = omega arith;
   rounds = IsSpent first due refl refl refl refl;
   is = refl;
@@ -215,11 +230,12 @@ spent_drain script first due = record {
 pub spent_cases : SpentExamples
 spent_cases = record {
   the_first_that_is_due = record {
-    lines_done = first_progress (Some 0);
-    end = first_progress (Some 0);
+    drainers = drainers_of volume_script;
+    new = drainers_new (drain_seat volume_script) volume_script.node_names;
+    lines_done = first_progress (Some 0) (drainers_of volume_script);
+    end = first_progress (Some 0) (drainers_of volume_script);
     moves = NoMoves refl refl;
-    last = spent_drain
-        volume_script (key_a, dues.Available) first_due;
+    last = spent_drain volume_script (key_a, dues.Available) first_due;
     history = refl;
     ends = (refl, refl, first_due);
   };

@@ -88,7 +88,7 @@ drainers_at first nodes =
     at_seat (of_kind seats.Scheduler) (first + 2) ∷ at_seat (of_kind seats.Ops) (first + 1) ∷ at_seat (of_kind seats.Binder) first
     ∷ at_seat (of_kind seats.ClaimProtect) (first + 3) ∷ at_seat (of_kind seats.VolumeProtect) (first + 4) ∷ agents_at (first + 5) nodes
 
-drainers_new : (first : ℕ) (nodes : List (List ℕ)) → AreNew first nodes (drainers_at first nodes)
+pub drainers_new : (first : ℕ) (nodes : List (List ℕ)) → AreNew first nodes (drainers_at first nodes)
 drainers_new first nodes = record {
   scheduler = at_seat (of_kind seats.Scheduler) (first + 2);
   ops = at_seat (of_kind seats.Ops) (first + 1);

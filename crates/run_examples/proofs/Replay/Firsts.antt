@@ -68,7 +68,10 @@ use Rattle.worker_core.proofs.Answered.{turn_role}
 use Rattle.script_text.specs.declared.script.Line.{Line}
 use Rattle.script_text.specs.declared.script.Script.{Script}
 use Rattle.script_runs.specs.Parts.{drain_seat}
-use Rattle.script_runs.specs.Replays.{AreMoves, IsDrain, MoreMoves, NoMoves, Progress}
+use Rattle.script_runs.specs.Drains.{AreDrainers}
+use Rattle.script_runs.specs.Replays.{AreMoves, IsDrain, IsReplay, MoreMoves, NoMoves, Progress, first_progress}
+use Rattle.script_runs.proofs.Draining.{all_lines_keep_drainers, new_ones_are_drainers}
+use Rattle.world_core.specs.declared.drained.Drained.{Drained}
 
 -- ---- no lines
 
@@ -287,6 +290,12 @@ first_is [] seat role ss rs at_seats at_roles = none_some (ap (λ (xs : List ℕ
 first_is (d ∷ ds) seat role ss rs at_seats at_roles =
     (d, refl, one d.seat seat (ap (λ (xs : List ℕ). slice_get xs 0) at_seats), one d.actor.role role (ap (λ (xs : List Role). slice_get xs 0) at_roles))
 
+-- the actors of the last drain of a replay
+pub last_drainers : (script : Script) (option : Option ℕ) (past : List Entry) (ending : Drained) (r : IsReplay script option past ending) → AreDrainers script (drain_seat script) option r.lines_done
+last_drainers script option past ending r =
+    all_lines_keep_drainers script (drain_seat script) option r.lines_done script.lines (first_progress option r.drainers) r.moves
+    (new_ones_are_drainers script (drain_seat script) option (first_progress option r.drainers) r.new)
+
 -- the first call of a drain that makes one
 pub record FirstCall (seat : ℕ) (h past : List Entry) : Type 0 where
   pub entry : Entry
@@ -307,12 +316,12 @@ pub record SecondCall (h past : List Entry) : Type 0 where
   pub asks : entry.request ≡ requests.List kind None
 
 module _ (script : Script) (option : Option ℕ) (before after : Progress) (drain : IsDrain all_pass script option before after)
-    (more : after.past ≢ before.past) (none : own (drain_seat script + 2) before.past ≡ []) where
+    (are : AreDrainers script (drain_seat script) option before) (more : after.past ≢ before.past) (none : own (drain_seat script + 2) before.past ≡ []) where
   past_is : after.past ≡ drain.past
   past_is = ap (λ (p : Progress). p.past) drain.is
 
-  head : (d : Drainer) × (slice_get drain.drainers 0 ≡ Some d) × (d.seat ≡ drain_seat script + 2) × (d.actor.role ≡ of_kind seats.Scheduler)
-  head = first_is drain.drainers (drain_seat script + 2) (of_kind seats.Scheduler) _ _ drain.seats drain.roles
+  head : (d : Drainer) × (slice_get before.drainers 0 ≡ Some d) × (d.seat ≡ drain_seat script + 2) × (d.actor.role ≡ of_kind seats.Scheduler)
+  head = first_is before.drainers (drain_seat script + 2) (of_kind seats.Scheduler) _ _ are.seats are.roles
 
   begins : DrainBegins head.0 before.past drain.past (drain.budget - before.drained)
   begins = (drain_begins _ _ _ _ _ _ _ head.0 (λ same. more (past_is ∙ same)) head.1 drain.rounds).0

@@ -30,7 +30,7 @@ use Rattle.settle_check.proofs.Settled.{not_settled}
 use Rattle.world_core.specs.declared.drained.Drained.TheVariants.{Spent}
 use Rattle.script_runs.specs.Replays.{IsReplay, Progress, first_progress}
 use Rattle.run_examples.specs.Replay.Drains.{ReclaimExamples, data_erased, ended_script, ops_asks, volume_deleted}
-use Rattle.run_examples.proofs.Replay.Firsts.{ends_so, first_call, no_lines}
+use Rattle.run_examples.proofs.Replay.Firsts.{ends_so, first_call, last_drainers, no_lines}
 
 -- ---- the worlds
 
@@ -103,9 +103,9 @@ unsettled w rows settled = not_settled setup w (key_a, dues.Reclaim) (reclaim_du
 -- ops makes no first call
 begins_otherwise : IsReplay ended_script (Some 2) data_erased (Spent 2 key_a dues.Reclaim) → ⊥
 begins_otherwise r =
-    let none : r.lines_done ≡ first_progress (Some 2) = no_lines ended_script (Some 2) r.lines_done (first_progress (Some 2)) [] refl r.moves in
+    let none : r.lines_done ≡ first_progress (Some 2) r.drainers = no_lines ended_script (Some 2) r.lines_done (first_progress (Some 2) r.drainers) [] refl r.moves in
     let empty : r.lines_done.past ≡ [] = ap (λ (p : Progress). p.past) none in
-    let first = first_call ended_script (Some 2) r.lines_done r.end r.last (λ same. let both : data_erased ≡ [] = r.history ∙ same ∙ empty in absurd (cc)) (ap (own 7) empty) in
+    let first = first_call ended_script (Some 2) r.lines_done r.end r.last (last_drainers ended_script (Some 2) data_erased (Spent 2 key_a dues.Reclaim) r) (λ same. let both : data_erased ≡ [] = r.history ∙ same ∙ empty in absurd (cc)) (ap (own 7) empty) in
     let long : length r.lines_done.past ≡ 0 = ap length empty in
     let at : slice_get data_erased 1 ≡ Some first.entry = ends_so data_erased first.later first.entry r.lines_done.past 1 (r.history ∙ first.are) (omega (arith, long)) in
     let e : 7 ≡ 6 = sym first.of_seat ∙ ap (λ (x : Entry). x.seat) (sym (one (ops_asks (requests.Get key_a) (replies.Found (Volume ended_a))) first.entry at)) in

@@ -27,7 +27,9 @@ use Rattle.script_runs.specs.Replays.{AreMoves, IsDrain, IsMove, IsReplay, IsTur
 use Rattle.run_examples.specs.Replay.Calls.{reads, some_key, told_calls}
 use Rattle.run_examples.specs.Replay.Replays.{EmptyExamples, TurnExamples, UserExamples, empty_script, turn_script, user_reads, user_script}
 use Rattle.script_runs.proofs.Draining.{calls_leave_entries, drains_come_to}
-use Rattle.run_examples.proofs.Replay.Drainers.{drainers_of, drainers_rest, drainers_roles, drainers_seats, drainers_stand}
+use Rattle.actor_rounds.specs.declared.drainers.Drainer.{Drainer}
+use Rattle.script_runs.specs.Parts.{drain_seat}
+use Rattle.run_examples.proofs.Replay.Drainers.{drainers_new, drainers_of, drainers_stand}
 use Rattle.run_examples.proofs.Replay.Firsts.{no_lines}
 use Rattle.run_examples.proofs.Replay.Brought.{only_life, silent_binder}
 use Rattle.run_examples.proofs.Replay.Counted.{LeavesOne, end_cases, none_left, one_call}
@@ -35,24 +37,22 @@ use Rattle.run_examples.proofs.Replay.Counted.{LeavesOne, end_cases, none_left, 
 -- ---- a replay whose last drain has nothing to do
 
 abbrev pub settled_replay : (script : Script) (past : List Entry) (made : List ℕ → ℕ)
-    → AreMoves script None (record (first_progress None) { past = past; made = made }) script.lines (first_progress None)
+    → AreMoves script None (record (first_progress None (drainers_of script)) { past = past; made = made }) script.lines (first_progress None (drainers_of script))
     → 2048 ≡ raised None script.setup past 0 → IsSettled script.setup (world script.setup past)
     → HaveNoEntries (seats_of (drainers_of script)) past → IsReplay script None past (Settled 0)
 settled_replay script past made moves budget settled none = record {
-  lines_done = record (first_progress None) { past = past; made = made };
-  end = record (first_progress None) { past = past; made = made; budget = 2048 };
+  drainers = drainers_of script;
+  new = drainers_new (drain_seat script) script.node_names;
+  lines_done = record (first_progress None (drainers_of script)) { past = past; made = made };
+  end = record (first_progress None (drainers_of script)) { past = past; made = made; budget = 2048 };
   moves = moves;
   last = record {
     past = past;
     made = 0;
     budget = 2048;
-    drainers = drainers_of script;
     ran = drainers_of script;
     raises = budget;
-    seats = drainers_seats script;
-    roles = drainers_roles script;
     stand = drainers_stand script past none;
-    rests = λ given is unspent. drainers_rest script;
     few = omega arith;
     rounds = NothingDue settled refl refl refl;
     is = refl;
@@ -76,40 +76,40 @@ none_added (x ∷ xs) ys is = absurd (cc)
 
 -- what the last drain comes to where no line came before it
 
-past_after : (before end : Progress) → before ≡ first_progress None → IsDrain all_pass empty_script None before end → end.past ≡ []
-past_after before end is d =
+past_after : (ds : List Drainer) (before end : Progress) → before ≡ first_progress None ds → IsDrain all_pass empty_script None before end → end.past ≡ []
+past_after ds before end is d =
     let first : before.past ≡ [] = ap (λ (p : Progress). p.past) is in
     (drains_come_to all_pass empty_script None before end d).none (settled_at before.past first) ∙ first
 
-drained_after : (before end : Progress) → before ≡ first_progress None → IsDrain all_pass empty_script None before end → end.drained ≡ 0
-drained_after before end is d =
+drained_after : (ds : List Drainer) (before end : Progress) → before ≡ first_progress None ds → IsDrain all_pass empty_script None before end → end.drained ≡ 0
+drained_after ds before end is d =
     let l = calls_leave_entries empty_script None before end d in
-    let none : [] ≡ l.added ++ before.past = sym (past_after before end is d) ∙ l.are in
+    let none : [] ≡ l.added ++ before.past = sym (past_after ds before end is d) ∙ l.are in
     let long : length l.added ≡ 0 = none_added l.added before.past none in
     let count = l.count in
     let low = (drains_come_to all_pass empty_script None before end d).low in
     let first : before.drained ≡ 0 = ap (λ (p : Progress). p.drained) is in
     omega (arith, long, count, low, first)
 
-budget_after : (before end : Progress) → before ≡ first_progress None → IsDrain all_pass empty_script None before end → end.budget ≡ 2048
-budget_after before end is d = ap (λ (p : Progress). p.budget) d.is ∙ d.raises ∙ ap (λ (p : Progress). raised None empty_script.setup p.past p.budget) is
+budget_after : (ds : List Drainer) (before end : Progress) → before ≡ first_progress None ds → IsDrain all_pass empty_script None before end → end.budget ≡ 2048
+budget_after ds before end is d = ap (λ (p : Progress). p.budget) d.is ∙ d.raises ∙ ap (λ (p : Progress). raised None empty_script.setup p.past p.budget) is
 
-at_the_end : (done : Progress) → AreMoves empty_script None done [] (first_progress None) → done ≡ first_progress None
-at_the_end done moves = no_lines empty_script None done (first_progress None) [] refl moves
+at_the_end : (ds : List Drainer) (done : Progress) → AreMoves empty_script None done [] (first_progress None ds) → done ≡ first_progress None ds
+at_the_end ds done moves = no_lines empty_script None done (first_progress None ds) [] refl moves
 
 makes_no_call : IsReplay empty_script None (reads 5 true ∷ []) (Settled 0) → ⊥
 makes_no_call r =
-    let none : reads 5 true ∷ [] ≡ [] = r.history ∙ past_after r.lines_done r.end (at_the_end r.lines_done r.moves) r.last in
+    let none : reads 5 true ∷ [] ≡ [] = r.history ∙ past_after r.drainers r.lines_done r.end (at_the_end r.drainers r.lines_done r.moves) r.last in
     absurd (cc)
 
 counts_no_call : IsReplay empty_script None [] (Settled 1) → ⊥
 counts_no_call r =
-    let one : 1 ≡ 0 = r.ends.0 ∙ drained_after r.lines_done r.end (at_the_end r.lines_done r.moves) r.last in
+    let one : 1 ≡ 0 = r.ends.0 ∙ drained_after r.drainers r.lines_done r.end (at_the_end r.drainers r.lines_done r.moves) r.last in
     absurd (omega (arith, one))
 
 spends_nothing : IsReplay empty_script None [] (Spent 0 some_key dues.Available) → ⊥
 spends_nothing r =
-    let none : 0 ≡ 2048 = r.ends.1 ∙ budget_after r.lines_done r.end (at_the_end r.lines_done r.moves) r.last in
+    let none : 0 ≡ 2048 = r.ends.1 ∙ budget_after r.drainers r.lines_done r.end (at_the_end r.drainers r.lines_done r.moves) r.last in
     absurd (omega (arith, none))
 
 pub empty_cases : EmptyExamples
@@ -130,9 +130,10 @@ pub record BeginsWith (seat : ℕ) (past : List Entry) : Type 0 where
   pub was_told : entry.told ≡ true
 
 begins_with : (script : Script) (seat : ℕ) (past : List Entry) (ending : Drained)
-    → ((done : Progress) → AreMoves script None done script.lines (first_progress None) → LeavesOne seat done.past) → IsReplay script None past ending → BeginsWith seat past
+    → ((ds : List Drainer) (done : Progress) → AreMoves script None done script.lines (first_progress None ds) → LeavesOne seat done.past)
+    → IsReplay script None past ending → BeginsWith seat past
 begins_with script seat past ending leaves r =
-    let one = leaves r.lines_done r.moves in
+    let one = leaves r.drainers r.lines_done r.moves in
     let drain = calls_leave_entries script None r.lines_done r.end r.last in
     record {
       later = drain.added;
@@ -161,23 +162,23 @@ its_answer seat x b = ap (λ (e : Entry). e.told) (alone x b.entry b.later b.are
 
 -- ---- one line
 
-one_move : (script : Script) (seat : ℕ) (line : Line) (done now : Progress) (ls : List Line) → ls ≡ line ∷ [] → now ≡ first_progress None
-    → ((next : Progress) → IsMove script None line (first_progress None) next → LeavesOne seat next.past) → AreMoves script None done ls now → LeavesOne seat done.past
-one_move script seat line done now ls are start leaves (NoMoves none is) = absurd (cc)
-one_move script seat line done now ls are start leaves (MoreMoves first rest next is move more) =
+one_move : (script : Script) (seat : ℕ) (line : Line) (ds : List Drainer) (done now : Progress) (ls : List Line) → ls ≡ line ∷ [] → now ≡ first_progress None ds
+    → ((next : Progress) → IsMove script None line (first_progress None ds) next → LeavesOne seat next.past) → AreMoves script None done ls now → LeavesOne seat done.past
+one_move script seat line ds done now ls are start leaves (NoMoves none is) = absurd (cc)
+one_move script seat line ds done now ls are start leaves (MoreMoves first rest next is move more) =
     let same : first ≡ line = cc in
     let last : rest ≡ [] = cc in
-    let begins : IsMove script None line (first_progress None) next = subst (λ p. IsMove script None line p next) start (subst (λ l. IsMove script None l now next) same move) in
+    let begins : IsMove script None line (first_progress None ds) next = subst (λ p. IsMove script None line p next) start (subst (λ l. IsMove script None l now next) same move) in
     subst (λ (p : Progress). LeavesOne seat p.past) (sym (no_lines script None done next rest last more)) (leaves next begins)
 
 -- ---- a user's line
 
-user_moved : (next : Progress) → IsUserCall 1 (Get some_key) (first_progress None) next → LeavesOne 1 next.past
-user_moved next move = record { entry = _; are = ap (λ (p : Progress). p.past) move.is; of_seat = refl; was_told = refl }
+user_moved : (ds : List Drainer) (next : Progress) → IsUserCall 1 (Get some_key) (first_progress None ds) next → LeavesOne 1 next.past
+user_moved ds next move = record { entry = _; are = ap (λ (p : Progress). p.past) move.is; of_seat = refl; was_told = refl }
 
 user_begins : (past : List Entry) (ending : Drained) → IsReplay user_script None past ending → BeginsWith 1 past
-user_begins past ending r = begins_with user_script 1 past ending (λ done moves. one_move user_script 1 (lines.Call 1 (Get some_key)) done
-    (first_progress None) user_script.lines refl refl user_moved moves) r
+user_begins past ending r = begins_with user_script 1 past ending (λ ds done moves. one_move user_script 1 (lines.Call 1 (Get some_key)) ds done
+    (first_progress None ds) user_script.lines refl refl (user_moved ds) moves) r
 
 nothing_due_after : IsSettled user_script.setup (world user_script.setup (user_reads 1 ∷ []))
 unfolding world_after effect on_devices device_answer after outcome get
@@ -201,16 +202,16 @@ user_cases = record {
 abbrev binder_part : Part
 binder_part = part_of turn_script binder_1
 
-turn_moved : (next : Progress) → IsTurnLine all_pass [] (role_of binder_1) binder_part 1 (first_progress None) next → LeavesOne 5 next.past
-turn_moved next (inl all) = subst (LeavesOne 5) (sym (ap (λ (p : Progress). p.past) all.is)) (one_call binder_part all.past 1 1 [] refl refl refl refl all.made)
-turn_moved next (inr fewer) =
+turn_moved : (ds : List Drainer) (next : Progress) → IsTurnLine all_pass [] (role_of binder_1) binder_part 1 (first_progress None ds) next → LeavesOne 5 next.past
+turn_moved ds next (inl all) = subst (LeavesOne 5) (sym (ap (λ (p : Progress). p.past) all.is)) (one_call binder_part all.past 1 1 [] refl refl refl refl all.made)
+turn_moved ds next (inr fewer) =
     let few = fewer.few in
     let none : fewer.past ≡ [] = none_left binder_part fewer.past 1 fewer.count [] (omega (arith, few)) fewer.made in
     absurd (end_cases.not_at_once (subst (λ h. MayEnd seats.Binder [] (own fewer.seat h)) none fewer.ends))
 
 turn_begins : (past : List Entry) (ending : Drained) → IsReplay turn_script None past ending → BeginsWith 5 past
-turn_begins past ending r = begins_with turn_script 5 past ending (λ done moves. one_move turn_script 5 (lines.Turn binder_1 1) done
-    (first_progress None) turn_script.lines refl refl turn_moved moves) r
+turn_begins past ending r = begins_with turn_script 5 past ending (λ ds done moves. one_move turn_script 5 (lines.Turn binder_1 1) ds done
+    (first_progress None ds) turn_script.lines refl refl (turn_moved ds) moves) r
 
 pub nothing_due_in_turn : IsSettled turn_script.setup (world turn_script.setup (reads 5 true ∷ []))
 unfolding world_after effect on_devices device_answer after outcome get
@@ -220,7 +221,7 @@ pub budget_after_turn : 2048 ≡ raised None turn_script.setup (reads 5 true ∷
 unfolding world_after effect on_devices device_answer after outcome get
 budget_after_turn = refl
 
-pub one_needed : AreNeededLives [] (role_of binder_1) binder_part 1 (reads 5 true ∷ []) (first_progress None).idle
+pub one_needed : AreNeededLives [] (role_of binder_1) binder_part 1 (reads 5 true ∷ []) (first_progress None []).idle
 one_needed seat low high = subst (λ s. IsNeededLife [] (role_of binder_1) binder_part s 1 (reads 5 true ∷ []) []) (only_life seat low high) (record {
   since = told_calls (reads 5 true ∷ []);
   are = record { of_seat = refl; left = refl };

@@ -70,19 +70,18 @@ module _ (script : Script) (h : List Entry) (reply : Reply) (none : HaveNoEntrie
   round = Turns (at_seat (of_kind seats.Scheduler) (drain_seat script + 2)) ran (call_at (drain_seat script + 2) reply ∷ h) 0 false refl runs
       (spent_round (call_at (drain_seat script + 2) reply ∷ h) others)
 
-  pub one_call_drain : IsDrain all_pass script (Some 1) (record (first_progress (Some 1)) { past = h })
-      (record (first_progress (Some 1)) { past = call_at (drain_seat script + 2) reply ∷ h; drained = 1 })
+  abbrev pub ran_all : List Drainer
+  ran_all = ran ∷ map woke others
+
+  pub one_call_drain : IsDrain all_pass script (Some 1) (record (first_progress (Some 1) (drainers_of script)) { past = h })
+      (record (first_progress (Some 1) ran_all) { past = call_at (drain_seat script + 2) reply ∷ h; drained = 1 })
   one_call_drain = record {
     past = call_at (drain_seat script + 2) reply ∷ h;
     made = 1;
     budget = 1;
-    drainers = drainers_of script;
-    ran = ran ∷ map woke others;
+    ran = ran_all;
     raises = refl;
-    seats = drainers_seats script;
-    roles = drainers_roles script;
     stand = drainers_stand script h none;
-    rests = λ given is unspent. drainers_rest script;
     few = omega arith;
     rounds = Goes first due (omega arith) (ran ∷ map woke others) (call_at (drain_seat script + 2) reply ∷ h) 0 false round (IsSpent second still refl refl refl refl);
     is = refl;

@@ -62,7 +62,7 @@ three_calls =
     watched : (kind : Kind) (past : List Entry) → IsCallWith all_pass Told 5 seats.Binder past (watches kind ∷ past)
     watched kind past = record { request = Watch kind 3; reply = Events (record { events = []; upto = 3 }); passes = refl; is = refl }
 
-three_of_nine : IsTurnLine all_pass [] (role_of binder_1) plain_part 9 (first_progress None) after_a_pass
+three_of_nine : IsTurnLine all_pass [] (role_of binder_1) plain_part 9 (first_progress None []) after_a_pass
 three_of_nine = inr (record {
   count = 3;
   few = omega arith;
@@ -97,7 +97,7 @@ three_of_nine = inr (record {
       due = λ key due. absurd (never_due (role_of binder_1) key tt due.1.1.1);
     }
 
-all_three : IsTurnLine all_pass [] (role_of binder_1) plain_part 3 (first_progress None) after_a_pass → ⊥
+all_three : IsTurnLine all_pass [] (role_of binder_1) plain_part 3 (first_progress None []) after_a_pass → ⊥
 all_three (inl all) = let e : told_calls whole_pass ≡ [] = ap (λ (p : Progress). p.idle 5) all.is in absurd (cc)
 all_three (inr fewer) =
     let same : 3 ≡ 0 + fewer.count = ap (λ (p : Progress). p.made plain_part.name) fewer.is in

@@ -77,7 +77,7 @@ needed_six = (
   λ watch through. true≢false (sym through.whole),
 )
 
-needed_lives : AreNeededLives [] (role_of binder_1) plain_part 6 six (first_progress None).idle
+needed_lives : AreNeededLives [] (role_of binder_1) plain_part 6 six (first_progress None []).idle
 needed_lives seat low high =
     subst (λ s. IsNeededLife [] (role_of binder_1) plain_part s 6 six []) (only_life seat low high)
     (record { since = told_calls six; are = its_six; needed = needed_six; silent = silent_binder (told_calls six) })
@@ -99,7 +99,7 @@ six_calls =
     kinds.PersistentVolumeClaim [] ∷ lists kinds.PersistentVolume [] ∷ []} 0 six refl (record { request = _; reply = _; passes = refl; is = refl })
     (NoCalls refl refl))))))
 
-one_more : (after : Progress) → after.past ≡ watches kinds.PersistentVolume ∷ six → IsTurnLine all_pass [] (role_of binder_1) plain_part 7 (first_progress None) after → ⊥
+one_more : (after : Progress) → after.past ≡ watches kinds.PersistentVolume ∷ six → IsTurnLine all_pass [] (role_of binder_1) plain_part 7 (first_progress None []) after → ⊥
 one_more after at (inl all) =
     let past : all.past ≡ watches kinds.PersistentVolume ∷ six = sym (ap (λ (p : Progress). p.past) all.is) ∙ at in
     let low : 5 ≤ 5 = omega arith in
@@ -205,7 +205,7 @@ left_a since is done = none_called (Some list_a ∷ []) (done.brought key_a list
 lost_earlier : IsDone binder [] (newer ++ (Some list_a ∷ None ∷ [])) → ⊥
 lost_earlier done = none_called (Some list_a ∷ None ∷ []) (done.brought key_a list_a newer (None ∷ []) refl brings_a (due_six, (due_five, (due_four, (due_three, (due_two, due_one))))))
 
-left_told : (after : Progress) → after.past ≡ only_watches → IsTurnLine all_pass [] (role_of binder_1) plain_part 50 (first_progress None) after → ⊥
+left_told : (after : Progress) → after.past ≡ only_watches → IsTurnLine all_pass [] (role_of binder_1) plain_part 50 (first_progress None []) after → ⊥
 left_told after at (inl all) =
     let past : length all.past ≡ 6 = ap length (sym (ap (λ (p : Progress). p.past) all.is) ∙ at) in
     let count : length all.past ≡ 0 + 50 = told_count plain_part all.past 1 50 [] refl all.made in
@@ -272,7 +272,7 @@ done_lossy = record {
   due = λ key due. absurd (nothing_due key due.1.1.1.1.1.1.1);
 }
 
-six_end : IsTurnLine all_pass [] (role_of binder_1) plain_part 9 (first_progress None) (made_fewer plain_part 6 six)
+six_end : IsTurnLine all_pass [] (role_of binder_1) plain_part 9 (first_progress None []) (made_fewer plain_part 6 six)
 six_end = inr (record {
   count = 6;
   few = omega arith;

@@ -9,16 +9,15 @@ use Rattle.binder_model.specs.Due.{IsSettled}
 use Rattle.binder_model.specs.Told.{own}
 use Rattle.binder_model.specs.World.{effect, on_devices, world, world_after}
 use Rattle.world_core.specs.declared.drained.Drained.{Drained}
-use Rattle.actor_rounds.specs.Drainers.{seats_for}
-use Rattle.actor_rounds.specs.Longer.{AreToldOf, IsOneOf}
+use Rattle.actor_rounds.specs.Drainers.{seats_for, seats_of}
+use Rattle.actor_rounds.specs.Longer.{AreToldOf, IsLonger, IsOneOf}
 use Rattle.actor_rounds.proofs.Entries.{grown_others}
 use Rattle.actor_rounds.specs.Rounds.{NothingDue, all_pass}
-use Rattle.actor_rounds.proofs.NewFacts.{new_roles_for, new_seats_for, new_stand}
+use Rattle.actor_rounds.proofs.NewFacts.{new_seats_for, new_stand}
 use Rattle.script_runs.specs.Budget.{raised}
-use Rattle.script_runs.specs.Drains.{DrainAtComesTo}
+use Rattle.script_runs.specs.Drains.{DrainComesTo}
 use Rattle.script_runs.specs.Examples.{scheduler_1}
-use Rattle.script_runs.proofs.Draining.{drains_at_come_to}
-use Rattle.actor_rounds.proofs.Resting.{new_rest}
+use Rattle.script_runs.proofs.Draining.{drains_come_to}
 use Rattle.script_runs.proofs.Staging.{after_first}
 use Rattle.script_threads.specs.Runs.{progress_after}
 use Rattle.run_examples.specs.Threads.Runs.{IsSmallRun, RunExamples, both, with_scheduler}
@@ -42,14 +41,18 @@ one_node = codes "n1" ∷ []
 
 -- ---- what a drain leaves as it was
 
-came : (past : List Entry) (ending : Drained) → (r : IsSmallRun past ending) → DrainAtComesTo small 11 (progress_after r.worked None) r.end
-came past ending r = drains_at_come_to all_pass small 11 None (progress_after r.worked None) r.end r.last
+came : (past : List Entry) (ending : Drained) → (r : IsSmallRun past ending) → DrainComesTo small (progress_after r.worked None r.drainers) r.end
+came past ending r = drains_come_to all_pass small None (progress_after r.worked None r.drainers) r.end r.last
+
+its_seats : (past : List Entry) (ending : Drained) → (r : IsSmallRun past ending) → seats_of r.drainers ≡ seats_for 11 one_node
+its_seats past ending r = new_seats_for 11 one_node r.drainers r.new
 
 -- no seat past the actors' has an entry but those of the drain
 none_beside : (past : List Entry) (ending : Drained) (seat : ℕ) → (seat ≡ 0) ⊎ (11 ≤ seat) → (IsOneOf (seats_for 11 one_node) seat → ⊥) → IsSmallRun past ending → own seat past ≡ []
 none_beside past ending seat out not r =
     let grown = (came past ending r).entries in
-    ap (own seat) r.history ∙ grown_others (seats_for 11 one_node) r.worked r.end.past (record { made = grown.made; longer = grown.longer }) seat not ∙ r.work.others seat out
+    let longer = subst (λ ss. IsLonger ss grown.made r.worked r.end.past) (its_seats past ending r) grown.longer in
+    ap (own seat) r.history ∙ grown_others (seats_for 11 one_node) r.worked r.end.past (record { made = grown.made; longer = longer }) seat not ∙ r.work.others seat out
 
 not_before : (seat : ℕ) → seat < 11 → IsOneOf (seats_for 11 one_node) seat → ⊥
 not_before seat low one = let high = after_first 11 one_node seat one in absurd (omega (arith, low, high))
@@ -85,7 +88,8 @@ no_call : (ending : Drained) → IsSmallRun (with_scheduler 13) ending → ⊥
 no_call ending r =
     let comes = came (with_scheduler 13) ending r in
     let longer = comes.entries.longer in
-    let worked : r.worked ≡ both = users_before longer.added r.worked (r.history ∙ longer.are) (r.work.others 13 (inr (omega arith))) longer.of_seats in
+    let worked : r.worked ≡ both = users_before longer.added r.worked (r.history ∙ longer.are) (r.work.others 13 (inr (omega arith)))
+        (subst (λ ss. AreToldOf ss longer.added) (its_seats (with_scheduler 13) ending r) longer.of_seats) in
     let same : with_scheduler 13 ≡ both = r.history ∙ comes.none (subst (λ h. IsSettled small.setup (world small.setup h)) (sym worked) nothing_due) ∙ worked in
     let long : 3 ≡ 2 = ap length same in
     absurd (omega (arith, long))
@@ -95,18 +99,16 @@ run_cases = record {
   nothing_is_due_after_the_users = record {
     worked = both;
     work = both_worked;
-    end = record (progress_after both None) { budget = 2048 };
+    drainers = drainers 11 (codes "n1");
+    new = drainers_new 11 (codes "n1");
+    end = record (progress_after both None (drainers 11 (codes "n1"))) { budget = 2048 };
     last = record {
       past = both;
       made = 0;
       budget = 2048;
-      drainers = drainers 11 (codes "n1");
       ran = drainers 11 (codes "n1");
       raises = budget_is;
-      seats = new_seats_for 11 one_node (drainers 11 (codes "n1")) (drainers_new 11 (codes "n1"));
-      roles = new_roles_for 11 one_node (drainers 11 (codes "n1")) (drainers_new 11 (codes "n1"));
       stand = new_stand 11 one_node (drainers 11 (codes "n1")) (drainers_new 11 (codes "n1")) both (refl, (refl, (refl, (refl, (refl, (refl, tt))))));
-      rests = λ given is unspent. new_rest 11 one_node (drainers 11 (codes "n1")) (drainers_new 11 (codes "n1"));
       few = omega arith;
       rounds = NothingDue nothing_due refl refl refl;
       is = refl;

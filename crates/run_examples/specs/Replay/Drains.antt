@@ -1,5 +1,5 @@
 -- Drains, and how they end: cases that hold, and cases beside them that do not. A choice of this project.
-use Rattle.std.specs.Prelude.{ℕ, ◌≡◌, true, false, List, [], ◌∷◌, Some, None, codes}
+use Rattle.std.specs.Prelude.{ℕ, ◌≡◌, true, false, List, [], ◌∷◌, Option, Some, None, codes, slice_get}
 use Rattle.kube_parts.specs.declared.names.Due.TheVariants as dues
 use Rattle.kube_parts.specs.declared.parts.Kind.TheVariants as kinds
 use Rattle.kube_parts.specs.declared.parts.VolumePhase.TheVariants as phases
@@ -16,6 +16,10 @@ use Rattle.call_types.specs.declared.request.SeatKind.{SeatKind}
 use Rattle.call_types.specs.declared.request.SeatKind.TheVariants as seats
 use Rattle.binder_model.specs.ObjectKeys.{volume_key}
 use Rattle.model_laws.specs.Worked.{volume, volume_at}
+use Rattle.script_lines.specs.declared.actors.Actor.{Actor}
+use Rattle.sync_queue.specs.Work.{Work, no_work}
+use Rattle.worker_core.specs.declared.task.Under.{Under}
+use Rattle.world_core.specs.declared.drained.Drained.{Drained}
 use Rattle.world_core.specs.declared.drained.Drained.TheVariants.{Settled, Spent}
 use Rattle.actor_rounds.specs.declared.drainers.Drainer.{Drainer}
 use Rattle.actor_rounds.specs.Drainers.{AreNew, roles_of, seats_of}
@@ -27,7 +31,8 @@ use Rattle.model_examples.specs.Samples.{deleting_a, ended_a, key_a, key_p, n1, 
 use Rattle.script_runs.specs.declared.stage.Stage.{Stage}
 use Rattle.script_runs.specs.Examples.{script_of}
 use Rattle.script_runs.specs.Parts.{drain_roles, drain_seat, drain_seats}
-use Rattle.script_runs.specs.Replays.{EndsAs, IsDrain, IsReplay, Progress, first_progress}
+use Rattle.script_runs.specs.Drains.{AreDrainers}
+use Rattle.script_runs.specs.Replays.{EndsAs, IsDrain, IsMove, IsReplay, Progress, first_progress}
 use Rattle.script_runs.specs.Steps.Standing.{StageStands}
 use Rattle.run_examples.specs.Replay.Calls.{reads}
 use Rattle.run_examples.specs.Replay.Replays.{empty_script}
@@ -40,9 +45,14 @@ volume_script = record empty_script { setup = record { pools = []; faults = []; 
 abbrev pub node_script : Script
 node_script = record volume_script { node_names = codes "n1" ∷ [] }
 
--- with a budget of so many calls a first drain makes so many, which are these entries
-abbrev pub Drains : Script → ℕ → ℕ → List Entry → Type 0
-Drains script budget made past = IsDrain all_pass script (Some budget) (first_progress (Some budget)) (record (first_progress (Some budget)) { past = past; drained = made })
+-- with a budget of so many calls a first drain, by new actors, makes so many, which are these entries
+pub record Drains (script : Script) (budget made : ℕ) (past : List Entry) : Type 0 where
+  pub drainers : List Drainer
+  pub new : AreNew (drain_seat script) script.node_names drainers
+  pub after : Progress
+  pub drain : IsDrain all_pass script (Some budget) (first_progress (Some budget) drainers) after
+  pub past_is : after.past ≡ past
+  pub made_is : after.drained ≡ made
 
 -- the list with which the scheduler of a drain begins, at this seat
 abbrev pub begins_with : ℕ → Entry
@@ -71,9 +81,36 @@ pub record DrainExamples : Type 0 where
 
 -- the actors of a drain of a script with a node, made for no node: the agent lacks
 pub record ActorExamples : Type 0 where
-  pub no_drain_without_its_agent : (before after : Progress) (d : IsDrain all_pass node_script None before after) → AreNew (drain_seat node_script) [] d.drainers → ⊥
+  pub no_replay_without_its_agent : (past : List Entry) (ending : Drained) (r : IsReplay node_script None past ending) → AreNew (drain_seat node_script) [] r.drainers → ⊥
+  pub nor_at_any_drain : (p : Progress) → AreNew (drain_seat node_script) [] p.drainers → AreDrainers node_script (drain_seat node_script) None p → ⊥
   pub no_stage_without_it : (p : Progress) (s : Stage) → AreNew (drain_seat node_script) [] s.drainers → StageStands node_script None p s → ⊥
   pub with_it_they_are_its_actors : (ds : List Drainer) → AreNew (drain_seat node_script) node_script.node_names ds → (seats_of ds ≡ drain_seats node_script) × (roles_of ds ≡ drain_roles node_script)
+
+-- ---- drains go on from where the last one left their actors
+
+-- a queue in which a volume waits
+abbrev pub one_waits : Work
+one_waits = record { waiting = key_a ∷ []; taken = []; parked = [] }
+
+-- the binder of the drains is the third in a round
+pub record KeptExamples : Type 0 where
+  pub no_queue_at_first : (past : List Entry) (ending : Drained) (r : IsReplay volume_script None past ending) (d : Drainer)
+      → slice_get r.drainers 2 ≡ Some d → d.actor.work ≡ one_waits → ⊥
+  pub nothing_under_way_at_first : (past : List Entry) (ending : Drained) (r : IsReplay volume_script None past ending) (d : Drainer) (u : Under)
+      → slice_get r.drainers 2 ≡ Some d → d.actor.under ≡ Some u → ⊥
+  pub a_drain_begins_with_what_the_last_one_left : (script : Script) (option : Option ℕ) (before middle after : Progress)
+      (one : IsDrain all_pass script option before middle) (two : IsDrain all_pass script option middle after) (d : Drainer)
+      → slice_get one.ran 2 ≡ Some d → slice_get middle.drainers 2 ≡ Some d
+  pub not_with_another_queue : (script : Script) (option : Option ℕ) (before middle after : Progress)
+      (one : IsDrain all_pass script option before middle) (two : IsDrain all_pass script option middle after) (d other : Drainer)
+      → slice_get one.ran 2 ≡ Some d → slice_get middle.drainers 2 ≡ Some other → d.actor.work ≡ no_work → other.actor.work ≡ one_waits → ⊥
+  pub nor_with_something_else_under_way : (script : Script) (option : Option ℕ) (before middle after : Progress)
+      (one : IsDrain all_pass script option before middle) (two : IsDrain all_pass script option middle after) (d other : Drainer) (u : Under)
+      → slice_get one.ran 2 ≡ Some d → slice_get middle.drainers 2 ≡ Some other → d.actor.under ≡ None → other.actor.under ≡ Some u → ⊥
+  pub lines_between_leave_them : (script : Script) (option : Option ℕ) (user : ℕ) (request : Request) (before after : Progress)
+      → IsMove script option (lines.Call user request) before after → after.drainers ≡ before.drainers
+  pub turns_too : (script : Script) (option : Option ℕ) (actor : Actor) (calls : ℕ) (before after : Progress)
+      → IsMove script option (lines.Turn actor calls) before after → after.drainers ≡ before.drainers
 
 -- ---- drains that do something else than rounds of all controllers in their order
 
@@ -131,7 +168,7 @@ volume_deleted = ops_asks (requests.Delete key_a ended_a.meta.uid) (replies.Done
 
 -- all drains have made so many calls, as many as they may, and these are the entries
 abbrev pub drained : ℕ → List Entry → Progress
-drained calls past = record (first_progress (Some calls)) { past = past; drained = calls }
+drained calls past = record (first_progress (Some calls) []) { past = past; drained = calls }
 
 pub record ReclaimExamples : Type 0 where
   pub due_until_it_is_deleted : EndsAs ended_script.setup (drained 2 data_erased) (Spent 2 key_a dues.Reclaim)

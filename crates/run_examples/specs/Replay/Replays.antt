@@ -58,9 +58,9 @@ plain_part = part_of turn_script binder_1
 
 -- after a turn in which it watched each kind
 abbrev pub after_a_pass : Progress
-after_a_pass = record (first_progress None) { past = whole_pass; made = and_made plain_part.name 3 (first_progress None).made; idle = and_idle 5 (told_calls whole_pass) (first_progress None).idle }
+after_a_pass = record (first_progress None []) { past = whole_pass; made = and_made plain_part.name 3 (first_progress None []).made; idle = and_idle 5 (told_calls whole_pass) (first_progress None []).idle }
 
 pub record FewerExamples : Type 0 where
-  pub fewer_after_a_whole_pass : IsTurnLine all_pass [] (role_of binder_1) plain_part 9 (first_progress None) after_a_pass
-  pub not_where_three_were_asked : IsTurnLine all_pass [] (role_of binder_1) plain_part 3 (first_progress None) after_a_pass → ⊥
+  pub fewer_after_a_whole_pass : IsTurnLine all_pass [] (role_of binder_1) plain_part 9 (first_progress None []) after_a_pass
+  pub not_where_three_were_asked : IsTurnLine all_pass [] (role_of binder_1) plain_part 3 (first_progress None []) after_a_pass → ⊥
   pub the_next_begins_with_a_call : IsTurnLine all_pass [] (role_of binder_1) plain_part 9 after_a_pass after_a_pass → ⊥

@@ -43,8 +43,8 @@ abbrev pub made_all : Part → ℕ → List Entry → Progress → Progress
 made_all part calls past before = record before { past = past; made = and_made part.name calls before.made }
 
 pub record NeededExamples : Type 0 where
-  pub as_many_as_it_needs : IsTurnLine all_pass [] (role_of binder_1) plain_part 6 (first_progress None) (made_all plain_part 6 six (first_progress None))
-  pub not_one_more : (after : Progress) → after.past ≡ watches kinds.PersistentVolume ∷ six → IsTurnLine all_pass [] (role_of binder_1) plain_part 7 (first_progress None) after → ⊥
+  pub as_many_as_it_needs : IsTurnLine all_pass [] (role_of binder_1) plain_part 6 (first_progress None []) (made_all plain_part 6 six (first_progress None []))
+  pub not_one_more : (after : Progress) → after.past ≡ watches kinds.PersistentVolume ∷ six → IsTurnLine all_pass [] (role_of binder_1) plain_part 7 (first_progress None []) after → ⊥
 
 -- ---- a turn that ends leaves no key that it was told, and that was due since, without a call
 
@@ -59,11 +59,11 @@ only_watches = watches kinds.StorageClass ∷ watches kinds.PersistentVolumeClai
 
 -- after a turn that gave it fewer, and these were its calls
 abbrev pub made_fewer : Part → ℕ → List Entry → Progress
-made_fewer part calls past = record (first_progress None) { past = past; made = and_made part.name calls (first_progress None).made; idle = and_idle 5 (told_calls past) (first_progress None).idle }
+made_fewer part calls past = record (first_progress None []) { past = past; made = and_made part.name calls (first_progress None []).made; idle = and_idle 5 (told_calls past) (first_progress None []).idle }
 
 pub record LeftExamples : Type 0 where
-  pub where_nothing_is_due : IsTurnLine all_pass [] (role_of binder_1) plain_part 9 (first_progress None) (made_fewer plain_part 6 six)
-  pub not_where_a_told_key_is_left : (after : Progress) → after.past ≡ only_watches → IsTurnLine all_pass [] (role_of binder_1) plain_part 50 (first_progress None) after → ⊥
+  pub where_nothing_is_due : IsTurnLine all_pass [] (role_of binder_1) plain_part 9 (first_progress None []) (made_fewer plain_part 6 six)
+  pub not_where_a_told_key_is_left : (after : Progress) → after.past ≡ only_watches → IsTurnLine all_pass [] (role_of binder_1) plain_part 50 (first_progress None []) after → ⊥
   -- the call that was lost may have been that of the key
   pub a_lost_call_counts_for_it : IsDone (role_of binder_1) []
       (Some (watches kinds.StorageClass) ∷ Some (watches kinds.PersistentVolumeClaim) ∷ Some (watches kinds.PersistentVolume) ∷ None ∷ Some
@@ -91,7 +91,7 @@ is_stale = asks 5 (requests.Mounts (codes "n") 1) (replies.Refused (StaleEpoch 2
 
 -- another took the node since its first call
 abbrev pub lost_node : Progress
-lost_node = record (first_progress None) { past = takes 9 2 ∷ takes 5 1 ∷ []; made = and_made agent_part.name 1 (first_progress None).made }
+lost_node = record (first_progress None []) { past = takes 9 2 ∷ takes 5 1 ∷ []; made = and_made agent_part.name 1 (first_progress None []).made }
 
 pub record StaleExamples : Type 0 where
   pub it_is_told_so : IsTurnLine all_pass [] (role_of agent_n) agent_part 1 lost_node (made_all agent_part 1 (is_stale ∷ lost_node.past) lost_node)
