@@ -10,15 +10,20 @@ use Rattle.seat_lock.specs.declared.keeps.Entry.{Entry as Line}
 use Rattle.seat_lock.specs.declared.keeps.Keeps.{Ghosts}
 use Rattle.seat_lock.specs.declared.known.Known.{Known}
 use Rattle.seat_lock.specs.declared.pass.Pass.{Pass}
+use Rattle.seat_lock.specs.declared.pass.Sight.{Sight}
 use Rattle.seat_lock.specs.Calls.{Enters}
 use Rattle.seat_lock.specs.History.{AddsNoOthers, StartsWith, calls_of}
 use Rattle.seat_lock.specs.Passes.{AreFirstPasses, Recalls, number_of, value_given, view_of}
+use Rattle.seat_lock.specs.Passes.{HasLearnt as HasLearntLines, shown_by as lines_shown}
 use Rattle.world_core.specs.Kept.{History}
 use Rattle.shared_world.specs.declared.shared.SharedWorld.{SharedWorld}
 use Rattle.call_types.specs.declared.ask.Ask.{Ask}
 use Rattle.shared_world.specs.Lines.{Kept, entries, entry_of, kept_of, lines}
-use Rattle.shared_world.specs.Passes.{AddsNoSeats, AreFirst, Begins, HasCalled, IsIn, mine_of, past_given, seen_by}
-use Rattle.shared_world.proofs.Lining.{back, both_entries, own_entries, own_lines}
+use Rattle.shared_world.specs.Passes.{AddsNoSeats, AreFirst, Begins, HasCalled, HasLearnt, IsIn, mine_of, past_given, seen_by, shown_by}
+use Rattle.shared_world.proofs.Lining.{back, both_entries, longer_entries, own_entries, own_lines}
+
+begins_so : (newer older : List (Line Ask Reply)) → StartsWith newer older → Begins (entries newer) (entries older)
+begins_so newer older starts = (entries starts.0, ap entries starts.1 ∙ both_entries starts.0 older)
 
 begun : (past : List Entry) (older : List (Line Ask Reply)) → StartsWith (lines past) older → Begins past (entries older)
 begun past older starts = (entries starts.0, sym (back past) ∙ ap entries starts.1 ∙ both_entries starts.0 older)
@@ -54,6 +59,19 @@ module _ {k : Ghosts Kept Ask Reply Setup} where
 
       seen : seen_by q ≡ entry_of l ∷ entries entered.seen
       seen = ap (λ (w : Known Ask Reply Setup). entries w.front) entered.is
+
+  pub has_learnt : (p q : Pass Kept Ask Reply Setup k) (sight : Sight Kept Ask Reply Setup k) → HasLearntLines (lines_shown sight) p q → HasLearnt (shown_by sight) p q
+  has_learnt p q sight learnt = record {
+    numbers = learnt.numbers;
+    mine = ap (λ (w : Known Ask Reply Setup). entries w.own) learnt.view;
+    seen = ap (λ (w : Known Ask Reply Setup). entries w.front) learnt.view ∙ longer_entries (view_of p).front (lines_shown sight);
+    old = begins_so (view_of q).front (view_of p).front learnt.old;
+    new = begins_so (view_of q).front (lines_shown sight) learnt.new;
+    only = subst (Begins (mine_of q)) (own_entries (number_of q) (view_of q).front) (begins_so (view_of q).own (calls_of (number_of q) (view_of q).front) learnt.own);
+    made = ap (λ (w : Known Ask Reply Setup). w.made) learnt.view;
+    met = ap (λ (w : Known Ask Reply Setup). w.met) learnt.view;
+    found = ap (λ (w : Known Ask Reply Setup). w.found) learnt.view;
+  }
 
   -- a fork has the entries of its number in what was handed in
   pub forked : (shared : SharedWorld) (p q : Pass Kept Ask Reply Setup k) → k.history (value_given shared.lock) ≡ lines (past_given shared)

@@ -9,8 +9,10 @@ use Rattle.binder_model.specs.Told.{own}
 use Rattle.seat_lock.specs.declared.keeps.Entry.{Entry as Line}
 use Rattle.seat_lock.specs.declared.keeps.Keeps.{Ghosts}
 use Rattle.seat_lock.specs.declared.pass.Pass.{Pass}
-use Rattle.seat_lock.specs.History.{first_forks}
-use Rattle.seat_lock.specs.Passes.{IsPassOf, forks_of, made_of, met_count, number_of, value_given, view_of}
+use Rattle.seat_lock.specs.declared.pass.Sight.{Sight}
+use Rattle.seat_lock.specs.History.{first_forks, longer}
+use Rattle.seat_lock.specs.Passes.{IsPassOf, IsSightOf, KeepsNumbers, forks_of, made_of, met_count, number_of, value_given, view_of}
+use Rattle.seat_lock.specs.Passes.{shown_by as lines_shown}
 use Rattle.call_types.specs.declared.ask.Ask.{Ask}
 use Rattle.shared_world.specs.declared.shared.SharedWorld.{SharedWorld}
 use Rattle.shared_world.specs.Lines.{Kept, entries}
@@ -65,6 +67,27 @@ module _ {k : Ghosts Kept Ask Reply Setup} where
     pub seen : seen_by q ≡ e ∷ (between ++ seen_by p)
     pub only : own (number_of p) (seen_by q) ≡ mine_of q
     pub run : IsRunOf setup (seen_by q)
+    pub made : made_of q ≡ made_of p
+    pub met : (view_of q).met ≡ (view_of p).met
+    pub found : (view_of q).found ≡ (view_of p).found
+
+  -- the sight is of this world
+  abbrev pub IsSight : SharedWorld → Sight Kept Ask Reply Setup k → Type 0
+  IsSight shared sight = IsSightOf shared.lock sight
+
+  -- what the sight shows: the entries that its pass had seen
+  abbrev pub shown_by : Sight Kept Ask Reply Setup k → List Entry
+  shown_by sight = entries (lines_shown sight)
+
+  -- The pass p, once it has learnt of these entries. It has then seen the longer of the two lists, which begins with both. Its own entries are what they
+  -- were, and of its seat it has seen the oldest of these and no others. So its next call is newer than all that it has learnt of
+  pub record HasLearnt (shown : List Entry) (p q : Pass Kept Ask Reply Setup k) : Type 0 where
+    pub numbers : KeepsNumbers p q
+    pub mine : mine_of q ≡ mine_of p
+    pub seen : seen_by q ≡ longer (seen_by p) shown
+    pub old : Begins (seen_by q) (seen_by p)
+    pub new : Begins (seen_by q) shown
+    pub only : Begins (mine_of q) (own (number_of q) (seen_by q))
     pub made : made_of q ≡ made_of p
     pub met : (view_of q).met ≡ (view_of p).met
     pub found : (view_of q).found ≡ (view_of p).found

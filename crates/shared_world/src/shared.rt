@@ -5,19 +5,22 @@ ghost use Rattle.binder_model.specs.Licence.{Licensed};
 ghost use Rattle.binder_model.specs.Told.{own};
 ghost use Rattle.seat_lock.specs.Passes.{AreSame, BeginsWithBoth, FoundMade, HasMet, IsApart, IsForkOf, IsSameBut, KeepsNumbers, forks_of, most_made, number_of, pass_count, value_given, view_of};
 ghost use Rattle.shared_world.specs.Lines.{kept_of};
-ghost use Rattle.shared_world.specs.Passes.{AddsNoSeats, AreFirst, Begins, HasCalled, IsIn, IsOf, mine_of, past_given, setup_of};
+ghost use Rattle.shared_world.specs.Passes.{AddsNoSeats, AreFirst, Begins, HasCalled, HasLearnt, IsIn, IsOf, IsSight, mine_of, past_given, seen_by, setup_of, shown_by};
 
 use crate::behind::WorldBehind;
 use call_types::ask::Ask;
 use call_types::reply::Reply;
 use kube_types::copies::OutOfMemory;
-use seat_lock::{NotMade, Pass, SeatLock, StillShared};
+use seat_lock::{NotMade, Pass, SeatLock, Sight, StillShared};
 use std::alloc::Global;
 use std::sync::Wait;
 use world_core::kept::KeptWorld;
 
 /// What a thread calls the world with. Its number is the seat of its calls.
 pub type WorldPass = Pass<WorldBehind>;
+
+/// What a pass had seen of the world's entries.
+pub type WorldSight = Sight<WorldBehind>;
 
 /// A kept world on which one pass at a time may act.
 pub struct SharedWorld {
@@ -113,6 +116,28 @@ impl SharedWorld {
         ensures apart { IsApart first.new }
     {
         self.lock.meet(first, second)
+    }
+
+    /// What the pass has seen, for another pass to learn. The pass stays as it was.
+    pub fn sight(&self, pass: &mut WorldPass) -> WorldSight
+        requires pass { IsOf self.now pass.old }
+        ensures pass { IsOf self.now pass.new }
+        ensures sight { IsSight self.now result }
+        ensures numbers { KeepsNumbers pass.old pass.new }
+        ensures view { view_of pass.new ≡ view_of pass.old }
+        ensures shown { shown_by result ≡ seen_by pass.old }
+    {
+        self.lock.sight(pass)
+    }
+
+    /// The pass has then seen what the sight shows too, and all that it calls from now on is newer. It makes no call.
+    pub fn learn(&self, pass: &mut WorldPass, sight: WorldSight)
+        requires pass { IsOf self.now pass.old }
+        requires sight { IsSight self.now sight }
+        ensures pass { IsOf self.now pass.new }
+        ensures learnt { HasLearnt (shown_by sight) pass.old pass.new }
+    {
+        self.lock.learn(pass, sight)
     }
 
     /// Gives the world back, if the passes and those that were met into them are all that were ever made. Else all stays as
