@@ -1,6 +1,6 @@
 -- What a scheduler begins with writes has these writes.
 use Rattle.std.specs.Prelude.{◌≡◌, List, [], ◌∷◌, Some}
-use Rattle.std.proofs.Common.{ap}
+use Rattle.std.proofs.Common.{ap, sym}
 use Rattle.call_types.specs.declared.request.Request.{Request}
 use Rattle.model_laws.proofs.Lists.{none_some, one}
 use Rattle.pod_scheduler.specs.declared.schedule.ScheduleOp.{ScheduleOp}
