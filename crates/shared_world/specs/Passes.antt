@@ -21,6 +21,7 @@ use Rattle.shared_world.specs.Lines.{Kept, entries}
 abbrev pub setup_of : SharedWorld → Setup
 setup_of shared = (value_given shared.lock).setup
 
+-- the history that the world had when it was shared
 abbrev pub past_given : SharedWorld → List Entry
 past_given shared = (value_given shared.lock).past
 

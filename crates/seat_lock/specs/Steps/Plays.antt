@@ -7,6 +7,7 @@ use Rattle.seat_lock.specs.declared.known.Stage.TheVariants.{Idle, Waits, Turn, 
 use Rattle.seat_lock.specs.Steps.Rule.{spent_view}
 use Rattle.seat_lock.specs.History.{calls_of, StartsWith, longer}
 
+-- the state of a thread at the table: the value that it holds, if it does, and what it knows
 abbrev SeatState : Type 0 → Type 0 → Type 0 → Type 0 → Type 0
 SeatState X A R B = Me (Option X) (Known A R B)
 
@@ -59,10 +60,12 @@ module _ {X A R B : Type 0} where
   ClosesNumbers st m n m' = (n ≡ m.0.share → (m' ≡ (record m.0 { stage = Closing }, m.1)) × (m.0.made ≡ n))
       × (n ≢ m.0.share → (m' ≡ (record m.0 { found = n ∷ m.0.found; made = n }, m.1)) × (m.0.share < m.0.made) × (m.0.made ≤ n))
 
+-- the first of the numbers, or this one where there is none
 abbrev pub head_or : ℕ → List ℕ → ℕ
 head_or d [] = d
 head_or d (n ∷ ns) = n
 
+-- the numbers behind the first
 abbrev pub tail_of : List ℕ → List ℕ
 tail_of [] = []
 tail_of (n ∷ ns) = ns
