@@ -218,9 +218,9 @@ pub(crate) fn first_of_binder<L: Lookup>(
     ensures { IfOk result (λ first. IsBinderFirst (L.rows lookup.now) key.now first) }
 {
     match binder::first_for(alloc, lookup, key)? {
-        binder::First::Drops => Ok(First::Drops),
-        binder::First::Queues(other) => Ok(First::Queues(other)),
-        binder::First::Begins(machine) => Ok(First::Begins(Task::Binder(machine))),
+        binder::FirstMachine::Drops => Ok(First::Drops),
+        binder::FirstMachine::Queues(other) => Ok(First::Queues(other)),
+        binder::FirstMachine::Begins(machine) => Ok(First::Begins(Task::Binder(machine))),
     }
 }
 
