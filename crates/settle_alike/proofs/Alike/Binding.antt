@@ -1,13 +1,10 @@
 -- What the binder, the protection controllers and ops have to do does not look at versions.
 use Rattle.std.proofs.Common.{◌≡◌, ◌∙◌, ℕ, List, Bool, true, false, Option, Some, None, refl, sym, ap, if◌then◌else◌}
 use Rattle.std.specs.Prelude.{◌&&◌, ◌||◌, not, is_none, is_some, option_map}
-use Rattle.plain_data.specs.Pairs.{value_at}
 use Rattle.kube_parts.specs.declared.uid.Uid.{Uid}
 use Rattle.kube_parts.specs.declared.names.Due.TheVariants as dues
-use Rattle.kube_objects.specs.declared.objects.Class.{Class as ClassData}
 use Rattle.kube_objects.specs.declared.objects.Ref.{Ref}
 use Rattle.kube_objects.specs.declared.objects.Claim.{Claim as ClaimData}
-use Rattle.kube_objects.specs.declared.objects.Node.{Node as NodeData}
 use Rattle.kube_objects.specs.declared.objects.Volume.{Volume as VolumeData}
 use Rattle.kube_objects.specs.declared.objects.Object.{Object}
 use Rattle.kube_objects.specs.declared.objects.Object.TheVariants.{Class, Node, Volume, Claim, Pod}
@@ -29,24 +26,19 @@ use Rattle.kube_objects.specs.Bindings.{
   ref_uid,
   refers_carrying,
   refers_for,
-  selected_node,
   uid_carries,
   uid_fits,
   uses,
 }
 use Rattle.kube_objects.specs.Keys.{row_at}
-use Rattle.call_types.specs.declared.setup.Setup.{Setup}
 use Rattle.binder_model.specs.BinderDue.{claim_due, claim_with, completed_due, has_other_uid, is_default_row, is_uid_of_other, lost_due, named_due, reference_due, referred_due, uid_due, volume_due}
 use Rattle.binder_model.specs.BindWrites.{claim_write, is_completed_with, next_write, shows_bound, write_bound, write_claim_status, write_completion, write_reference}
-use Rattle.binder_model.specs.Due.{by_class_due, claim_guard_due, delayed_due, guard_due, is_served, on_node_due, provision_due, provision_if_new}
+use Rattle.binder_model.specs.Due.{claim_guard_due, guard_due}
 use Rattle.binder_model.specs.Matching.{binder_takes, eligible, fits, has_match, is_delayed, is_selected, only_own_passes, waits_for_pod}
-use Rattle.label_rules.specs.Selectors.{admits}
-use Rattle.binder_model.specs.ObjectKeys.{claim_key, class_key, node_key, volume_key}
-use Rattle.binder_model.specs.Provisioning.{data_name, is_wanting, provisions}
-use Rattle.binder_model.specs.World.{World}
+use Rattle.binder_model.specs.ObjectKeys.{claim_key, class_key, volume_key}
 use Rattle.settle_writes.specs.Writes.Lasting.{content_of}
 use Rattle.settle_alike.specs.Alike.Alike.{contents_of}
-use Rattle.settle_alike.proofs.Alike.Rows.{any_mapped, plain_class, plain_claim, plain_node, plain_volume, plain_world, row_plain}
+use Rattle.settle_alike.proofs.Alike.Rows.{any_mapped, plain_claim, plain_volume, row_plain}
 
 -- references see names and UIDs
 
@@ -79,17 +71,12 @@ other_uid_plain v c = by (ref_uid v.claim_ref)
     by None = refl
     by (Some u) = refl
 
-own_plain : (b : Bool) (v : VolumeData) (c : ClaimData) → only_own_passes b (plain_volume v) (plain_claim c) ≡ only_own_passes b v c
+pub own_plain : (b : Bool) (v : VolumeData) (c : ClaimData) → only_own_passes b (plain_volume v) (plain_claim c) ≡ only_own_passes b v c
 own_plain true v c = for_plain v c
 own_plain false v c = refl
 
 pub eligible_plain : (v : VolumeData) (c : ClaimData) → eligible (plain_volume v) (plain_claim c) None ≡ eligible v c None
 eligible_plain v c = ap (λ b. not (is_deleting v.meta) && is_protected_volume v && fits v c && is_selected c.selector v.meta.labels && true &&
-    ((b && not (is_ended v.phase)) || (is_available v.phase && is_none v.claim_ref))) (for_plain v c)
-
-pub eligible_on_plain : (v : VolumeData) (c : ClaimData) (n : NodeData) → eligible (plain_volume v) (plain_claim c) (Some (plain_node n)) ≡ eligible v c (Some n)
-eligible_on_plain v c n =
-    ap (λ b. not (is_deleting v.meta) && is_protected_volume v && fits v c && is_selected c.selector v.meta.labels && admits v.terms n.meta.labels &&
     ((b && not (is_ended v.phase)) || (is_available v.phase && is_none v.claim_ref))) (for_plain v c)
 
 -- a volume
@@ -234,45 +221,3 @@ uses_plain c (Pod x) = refl
 
 pub claim_guard_plain : (rows : List Object) (c : ClaimData) → claim_guard_due (contents_of rows) (plain_claim c) ≡ claim_guard_due rows c
 claim_guard_plain rows c = ap (guard_due (is_deleting c.meta) (is_protected_claim c)) (any_mapped content_of (uses (plain_claim c)) (uses c) (uses_plain c) rows)
-
--- provisioning
-
-none_plain : (x : Option Object) → is_none (option_map content_of x) ≡ is_none x
-none_plain None = refl
-none_plain (Some o) = refl
-
-new_plain : (rows : List Object) (uid : Uid) → provision_if_new (contents_of rows) uid ≡ provision_if_new rows uid
-new_plain rows uid = ap (λ b. if b then Some dues.Provision else None) (ap is_none (row_plain (volume_key (data_name uid)) rows) ∙ none_plain (row_at (volume_key (data_name uid)) rows))
-
-module _ (setup : Setup) (w : World) (c : ClaimData) where
-  on_node_plain : (uid : Uid) (x : ClassData) (o : Option Object) → on_node_due setup (plain_world w) (plain_claim c) uid (plain_class x) (option_map content_of o) ≡ on_node_due setup w c uid x o
-  on_node_plain uid x None = refl
-  on_node_plain uid x (Some (Class o)) = refl
-  on_node_plain uid x (Some (Volume o)) = refl
-  on_node_plain uid x (Some (Claim o)) = refl
-  on_node_plain uid x (Some (Pod o)) = refl
-  on_node_plain uid x (Some (Node n)) = ap (λ d. if is_served setup w.devices c uid x (Some n.meta.labels) then d else Some dues.ClearNode) (new_plain w.store.rows uid)
-
-  delayed_due_plain : (uid : Uid) (x : ClassData) (node : Option (List ℕ)) → delayed_due setup (plain_world w) (plain_claim c) uid (plain_class x) node ≡ delayed_due setup w c uid x node
-  delayed_due_plain uid x None = refl
-  delayed_due_plain uid x (Some node) = ap (on_node_due setup (plain_world w) (plain_claim c) uid (plain_class x)) (row_plain (node_key node)
-      w.store.rows) ∙ on_node_plain uid x (row_at (node_key node) w.store.rows)
-
-  by_class_plain : (u : Option Uid) (o : Option Object) → by_class_due setup (plain_world w) (plain_claim c) u (option_map content_of o) ≡ by_class_due setup w c u o
-  by_class_plain None o = refl
-  by_class_plain (Some uid) None = refl
-  by_class_plain (Some uid) (Some (Node o)) = refl
-  by_class_plain (Some uid) (Some (Volume o)) = refl
-  by_class_plain (Some uid) (Some (Claim o)) = refl
-  by_class_plain (Some uid) (Some (Pod o)) = refl
-  by_class_plain (Some uid) (Some (Class x)) =
-      let delayed = delayed_due_plain uid x (value_at selected_node c.meta.annotations) in
-      let immediate = ap (λ d. if is_served setup w.devices c uid x None then d else None) (new_plain w.store.rows uid) in
-      λ i. if not (provisions x) then None else if x.delayed then delayed i else immediate i
-
-  pub provision_plain : provision_due setup (plain_world w) (plain_claim c) ≡ provision_due setup w c
-  provision_plain =
-      let found = match_plain w.store.rows c in
-      let due = ap (by_class_due setup (plain_world w) (plain_claim c) c.meta.uid) (row_plain (class_key (class_of_claim c)) w.store.rows)
-      ∙ by_class_plain c.meta.uid (row_at (class_key (class_of_claim c)) w.store.rows) in
-      λ i. if is_wanting c && not (found i) then due i else None

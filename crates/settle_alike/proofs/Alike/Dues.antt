@@ -3,19 +3,24 @@ use Rattle.std.proofs.Common.{◌≡◌, ◌∙◌, [], Option, Some, None, refl
 use Rattle.std.specs.Prelude.{option_map}
 use Rattle.kube_objects.specs.declared.key.Key.{Key}
 use Rattle.kube_parts.specs.declared.names.Due.{Due}
+use Rattle.kube_objects.specs.declared.objects.Claim.{Claim as ClaimData}
 use Rattle.kube_objects.specs.declared.objects.Object.{Object}
 use Rattle.kube_objects.specs.declared.objects.Object.TheVariants.{Class, Node, Volume, Claim, Pod}
 use Rattle.kube_objects.specs.Bindings.{is_scheduled}
 use Rattle.kube_objects.specs.Keys.{row_at}
 use Rattle.call_types.specs.declared.setup.Setup.{Setup}
-use Rattle.binder_model.specs.Due.{IsDue, or_due, reclaim_due, volume_guard_due}
+use Rattle.binder_model.specs.Due.{IsDue, or_due, provision_due, reclaim_due, volume_guard_due}
 use Rattle.binder_model.specs.World.{World}
 use Rattle.model_laws.proofs.Lists.{none_some, one}
 use Rattle.settle_writes.specs.Writes.Lasting.{content_of}
 use Rattle.settle_alike.specs.Alike.Alike.{AlikeIsDue, AlikeIsSettled, AreAlike}
-use Rattle.settle_alike.proofs.Alike.Binding.{claim_due_plain, claim_guard_plain, provision_plain, volume_due_plain}
+use Rattle.settle_alike.proofs.Alike.Binding.{claim_due_plain, claim_guard_plain, volume_due_plain}
 use Rattle.settle_alike.proofs.Alike.Pods.{pod_due_from, pod_due_to}
-use Rattle.settle_alike.proofs.Alike.Rows.{plain_world, row_plain}
+use Rattle.settle_alike.proofs.Alike.Rows.{plain_claim, plain_world, row_plain}
+use Rattle.settle_alike.proofs.Near.Near.{near_plain, near_provisions}
+
+pub provision_plain : (setup : Setup) (w : World) (c : ClaimData) → provision_due setup (plain_world w) (plain_claim c) ≡ provision_due setup w c
+provision_plain setup w c = sym (near_provisions setup w (plain_world w) c (plain_claim c) (near_plain w) refl)
 
 due_to : (setup : Setup) (w : World) (o : Object) (action : Option Due) → IsDue setup w o action → IsDue setup (plain_world w) (content_of o) action
 due_to setup w (Class x) action due = due

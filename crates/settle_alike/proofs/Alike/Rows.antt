@@ -4,7 +4,6 @@ use Rattle.std.specs.Prelude.{cond, filter, map, option_map, slice_get}
 use Rattle.std.specs.List.{cons_option, filter_map, list_all, list_any}
 use Rattle.std.specs.Ordering.{is_eq}
 use Rattle.kube_objects.specs.declared.key.Key.{Key}
-use Rattle.kube_parts.specs.declared.parts.Kind.{Kind}
 use Rattle.kube_objects.specs.declared.objects.Class.{Class as ClassData}
 use Rattle.kube_objects.specs.declared.objects.Node.{Node as NodeData}
 use Rattle.kube_objects.specs.declared.objects.Claim.{Claim as ClaimData}
@@ -12,7 +11,7 @@ use Rattle.kube_objects.specs.declared.objects.Volume.{Volume as VolumeData}
 use Rattle.kube_objects.specs.declared.objects.Pod.{Pod as PodData}
 use Rattle.kube_objects.specs.declared.objects.Object.{Object}
 use Rattle.kube_objects.specs.declared.objects.Object.TheVariants.{Class, Node, Volume, Claim, Pod}
-use Rattle.kube_objects.specs.Keys.{is_of_kind, key_cmp, key_of, row_at, rows_of}
+use Rattle.kube_objects.specs.Keys.{key_cmp, key_of, row_at}
 use Rattle.binder_model.specs.Choice.{claim_in, claim_named}
 use Rattle.binder_model.specs.ObjectKeys.{claim_key}
 use Rattle.binder_model.specs.World.{World}
@@ -100,16 +99,6 @@ row_plain k (x ∷ xs) = ap (λ j. cond (is_eq (key_cmp j k)) (Some (content_of 
     by : (b : Bool) → row_at k (contents_of xs) ≡ option_map content_of (row_at k xs) → cond b (Some (content_of x)) (row_at k (contents_of xs)) ≡ option_map content_of (cond b (Some x) (row_at k xs))
     by true rest = refl
     by false rest = rest
-
-kind_plain : (kind : Kind) (o : Object) → is_of_kind kind (content_of o) ≡ is_of_kind kind o
-kind_plain kind (Class x) = refl
-kind_plain kind (Node x) = refl
-kind_plain kind (Volume x) = refl
-kind_plain kind (Claim x) = refl
-kind_plain kind (Pod x) = refl
-
-pub rows_plain : (kind : Kind) (rows : List Object) → rows_of kind (contents_of rows) ≡ contents_of (rows_of kind rows)
-rows_plain kind rows = filter_mapped content_of (is_of_kind kind) (is_of_kind kind) (kind_plain kind) rows
 
 claim_in_plain : (x : Option Object) → claim_in (option_map content_of x) ≡ option_map plain_claim (claim_in x)
 claim_in_plain None = refl

@@ -10,7 +10,6 @@ use Rattle.binder_model.specs.Matching.{is_delayed}
 use Rattle.binder_model.specs.ObjectKeys.{class_key}
 use Rattle.model_laws.proofs.Lists.{none_some, one}
 use Rattle.kube_objects.specs.declared.objects.Claim.{Claim as ClaimData}
-use Rattle.kube_objects.specs.declared.objects.Node.{Node as NodeData}
 use Rattle.kube_objects.specs.declared.objects.Pod.{Pod as PodData}
 use Rattle.kube_objects.specs.declared.objects.Object.{Object}
 use Rattle.kube_objects.specs.declared.objects.Object.TheVariants.{Class, Node, Volume, Claim, Pod}
@@ -20,15 +19,14 @@ use Rattle.binder_model.specs.World.{World}
 use Rattle.settle_measure.specs.Left.Tries.{TriesLeft}
 use Rattle.settle_writes.specs.Writes.Lasting.{content_of}
 use Rattle.settle_alike.specs.Alike.Alike.{contents_of}
-use Rattle.settle_alike.proofs.Alike.Rows.{plain_claim, plain_node, plain_pod, plain_volume}
-use Rattle.settle_alike.proofs.Alike.Pods.{plain_step}
+use Rattle.settle_alike.proofs.Alike.Rows.{plain_claim, plain_pod, plain_volume, plain_world}
 use Rattle.settle_alike.specs.Near.Near.{AlikeAreNear, AreNear, NearAssigns, NearImmediates, NearPrepares, NearProvisions, NearSearches, NearTries, rest_of, rests_of}
 use Rattle.settle_alike.proofs.Near.Annotations.{rest_claim}
 use Rattle.settle_alike.proofs.Near.Provisioning.{immediate_rest, late_rest, provision_rest}
 use Rattle.settle_alike.proofs.Near.Rows.{rest_world, row_rest}
 use Rattle.settle_alike.proofs.Near.Serving.{prepare_from, prepare_to, volume_back}
 use Rattle.settle_alike.proofs.Near.Trying.{left_from, left_to}
-use Rattle.settle_alike.proofs.Near.Steps.{assigning_plain, assigns_any, is_assigning, is_searching, searches_is, searches_so, searching_plain, step_rest, step_with}
+use Rattle.settle_alike.proofs.Near.Steps.{assigning_plain, assigns_any, is_assigning, is_searching, plain_step, searches_is, searches_so, searching_plain, step_rest, step_with}
 use Rattle.binder_model.specs.Due.{IsDue, IsPodDue, IsStepDue}
 use Rattle.binder_model.specs.Choice.{Assigns, GoesNowhere, Searches, Step, Waits, claims_of, is_under_way, step_of}
 use Rattle.kube_objects.specs.Bindings.{is_scheduled}
@@ -43,12 +41,16 @@ rest_content (Volume x) = refl
 rest_content (Claim x) = refl
 rest_content (Pod x) = refl
 
-rests_contents : (rows : List Object) → rests_of (contents_of rows) ≡ rests_of rows
+pub rests_contents : (rows : List Object) → rests_of (contents_of rows) ≡ rests_of rows
 rests_contents [] = refl
 rests_contents (o ∷ os) = let here = rest_content o in let rest = rests_contents os in λ i. here i ∷ rest i
 
 pub alike_are_near : AlikeAreNear
 alike_are_near old new a = record { rows = sym (rests_contents old.store.rows) ∙ (ap rests_of a.rows ∙ rests_contents new.store.rows); stored = a.stored; mounts = a.mounts }
+
+-- a world is near to the one without versions, epochs and counts
+pub near_plain : (w : World) → AreNear w (plain_world w)
+near_plain w = record { rows = sym (rests_contents w.store.rows); stored = refl; mounts = refl }
 
 pub no_nearer : (w : World) → AreNear w w
 no_nearer w = record { rows = refl; stored = refl; mounts = refl }
@@ -68,13 +70,6 @@ pod_or p o = p
 
 pub one_pod : (p q : PodData) → content_of (Pod p) ≡ content_of (Pod q) → plain_pod p ≡ plain_pod q
 one_pod p q same = ap (pod_or p) same
-
-abbrev node_or : NodeData → Object → NodeData
-node_or n (Node x) = x
-node_or n o = n
-
-one_node : (n m : NodeData) → content_of (Node n) ≡ content_of (Node m) → plain_node n ≡ plain_node m
-one_node n m same = ap (node_or n) same
 
 abbrev pub claim_or : ClaimData → Object → ClaimData
 claim_or c (Claim x) = x
@@ -119,7 +114,7 @@ scheduled_plain : (p q : PodData) → plain_pod p ≡ plain_pod q → is_schedul
 scheduled_plain p q same = ap (λ (x : PodData). is_scheduled x) same
 
 -- the steps of the pod in both, where it is known whether all claims are under way
-step_both : (old new : World) (p q : PodData) → AreNear old new → plain_pod p ≡ plain_pod q → (under_way : Bool)
+pub step_both : (old new : World) (p q : PodData) → AreNear old new → plain_pod p ≡ plain_pod q → (under_way : Bool)
     → plain_step (step_with old.store.rows p under_way) ≡ plain_step (step_with new.store.rows q under_way)
 step_both old new p q near same under_way =
     let rows = near.rows in

@@ -17,7 +17,7 @@ use Rattle.binder_model.specs.Matching.{binder_takes, covers, eligible, has_matc
 use Rattle.binder_model.specs.ObjectKeys.{class_key, node_key, volume_key}
 use Rattle.binder_model.specs.Provisioning.{data_name, is_wanting, provisions}
 use Rattle.binder_model.specs.World.{World}
-use Rattle.settle_alike.proofs.Alike.Binding.{eligible_plain, for_plain}
+use Rattle.settle_alike.proofs.Alike.Binding.{eligible_plain, own_plain}
 use Rattle.settle_alike.proofs.Alike.Rows.{any_mapped, plain_class, plain_claim, plain_volume}
 use Rattle.settle_alike.specs.Near.Near.{rest_of, rests_of}
 use Rattle.settle_alike.proofs.Near.Annotations.{class_rest, completed_rest, rest_claim}
@@ -25,10 +25,6 @@ use Rattle.settle_alike.proofs.Near.Rows.{delayed_at_rest, for_rest, rest_world,
 use Rattle.settle_alike.proofs.Near.Serving.{class_row_rest}
 use Rattle.std.specs.Bool.{beq}
 use Rattle.std.specs.Prelude.{bytes_eq, nat_le}
-
-own_plain : (b : Bool) (v : VolumeData) (c : ClaimData) → only_own_passes b (plain_volume v) (plain_claim c) ≡ only_own_passes b v c
-own_plain true v c = for_plain v c
-own_plain false v c = refl
 
 takes_rest : (rows : List Object) (c : ClaimData) (o : Object) → binder_takes (rests_of rows) (plain_claim c) (rest_of o) ≡ binder_takes rows c o
 takes_rest rows c (Class x) = refl

@@ -28,12 +28,18 @@ use Rattle.binder_model.specs.Choice.{
   volume_admits,
 }
 use Rattle.settle_alike.proofs.Alike.Rows.{any_mapped, any_same, plain_node, plain_pod}
-use Rattle.settle_alike.proofs.Alike.Pods.{plain_step}
 use Rattle.settle_alike.specs.Near.Near.{rests_of}
 use Rattle.settle_alike.proofs.Near.Annotations.{completed_rest, rest_claim}
 use Rattle.settle_alike.proofs.Near.Provisioning.{late_rest}
 use Rattle.settle_alike.proofs.Near.Rows.{named_rest, rows_rest}
 use Rattle.settle_alike.proofs.Near.Serving.{all_claims, claims_rest, volume_rest}
+
+-- a step but for the version of the node
+abbrev pub plain_step : Step → Step
+plain_step (Assigns n) = Assigns (plain_node n)
+plain_step GoesNowhere = GoesNowhere
+plain_step Waits = Waits
+plain_step Searches = Searches
 
 missing_rest : (x : Option ClaimData) → is_missing (option_map rest_claim x) ≡ is_missing x
 missing_rest None = refl

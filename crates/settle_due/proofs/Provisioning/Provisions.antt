@@ -45,9 +45,8 @@ use Rattle.settle_writes.specs.Writes.Lasting.{IsBackFault, Lasts}
 use Rattle.settle_writes.specs.Writes.Writes.{IsStored}
 use Rattle.settle_writes.proofs.Writes.Claims.{clear_lasts}
 use Rattle.settle_writes.proofs.Writes.CreateLasts.{provisioned_lasts}
-use Rattle.settle_alike.proofs.Alike.Binding.{provision_plain}
 use Rattle.settle_alike.proofs.Alike.Calls.{LastsOrAlike, calls_last_or_leave_alike, then_alike}
-use Rattle.settle_alike.proofs.Alike.Dues.{one_plain}
+use Rattle.settle_alike.proofs.Alike.Dues.{one_plain, provision_plain}
 use Rattle.settle_alike.proofs.Alike.Rows.{plain_claim}
 use Rattle.settle_slot.specs.Slot.Slots.{IsDecisionPoint, own_entry}
 use Rattle.settle_slot.specs.Slot.Would.{AtOnce, Later, WouldLast}
