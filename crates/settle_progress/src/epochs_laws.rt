@@ -1,14 +1,10 @@
 //! What a node agent remembers of its node, and that the node stays its own.
 //!
-//! Promises, of runs: as long as the epoch of an agent is its node's, it remembers the mounts that the devices have
-//! there, but for Mounts and Unmounts whose answers were lost (`mounts_are_remembered`). Only an agent takes nodes, and
-//! only its own, and only while it was told no epoch of it (`agents_take_their_own`). So its epoch stays the node's,
-//! whatever others do that do not take the node (`epochs_stay`), and in each round in which no other agent of the node
-//! is still to take it (`rounds_keep_epochs`); and an agent that is no stale one is told no StaleEpoch, and stays so
-//! (`agents_stay_awake`). A round leaves it so that an agent is silent only where another took its node
-//! (`rounds_silence_the_overtaken`), and so do entries of others (`others_silence_none`); then one that took no epoch
-//! but the node's is no stale one (`current_are_awake`).
-//! Not said: that no two agents of a round serve one node.
+//! Promises, of runs: the epoch of an agent stays the node's, whatever others do that do not take the node
+//! (`epochs_stay`), and in each round in which no other agent of the node is still to take it (`rounds_keep_epochs`).
+//! A round leaves it so that an agent is silent only where another took its node (`rounds_silence_the_overtaken`);
+//! then one that took no epoch but the node's is no stale one (`current_are_awake`). Not said: that no two agents of
+//! a round serve one node.
 
 ghost use Rattle.settle_progress.specs.Epochs.Epochs.{EpochsStay, RoundsKeepEpochs};
 ghost use Rattle.settle_progress.specs.Epochs.Silent.{CurrentAreAwake, RoundsSilenceTheOvertaken};

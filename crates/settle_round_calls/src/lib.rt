@@ -6,7 +6,7 @@
 //! (`every_drained_round_is_short`). A Mount may be held back, and counts as a call. It is a sum of slots. What is
 //! under way ends within few calls and writes (`specs/UnderWay`), and raises the variant by little (`specs/Rise`).
 //! The binder, the scheduler and the protection controllers make eight calls for each write, and 65 more
-//! (`specs/Sure`); the provisioner and reclaimer and the agents also pay by what stands (`specs/Slots`,
+//! (`proofs/Sure`); the provisioner and reclaimer and the agents also pay by what stands (`specs/Slots`,
 //! `specs/Rest`). Premises: UIDs of imports have 128 bits, the actors are at most 13, and the annotations of claims
 //! are always in order. Not said: the number for larger worlds; nor how many rounds there are.
 #![tactic(auto)]

@@ -1,6 +1,5 @@
 pub mod Growth
 pub mod Made
-pub mod Sizes
 pub mod Sums
 pub mod Failing
 pub mod Keeping

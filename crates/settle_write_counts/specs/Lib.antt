@@ -1,5 +1,4 @@
 pub mod Scheduler
 pub mod Rounds
-pub mod Passed
 pub mod Ops
 pub mod Agents

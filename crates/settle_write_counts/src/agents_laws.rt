@@ -2,9 +2,8 @@
 //!
 //! Promises: the only write of a node agent is that a pod leaves, so in each slot of an agent the pods that stand are
 //! fewer by one for each of its writes (`agents_write_little`); and no slot of an actor that is built adds a pod
-//! (`slots_add_no_pod`). So the agents of a round together write no more than there were pods when it began
-//! (`agents_of_a_round_write_little`). All is said over any choice of which requests reach the world, of slots that end
-//! idle or with their budget spent, and whatever is under way. Not said: that a write is done.
+//! (`slots_add_no_pod`). All is said over any choice of which requests reach the world, of slots that end idle or
+//! with their budget spent, and whatever is under way. Not said: that a write is done.
 
 ghost use Rattle.settle_write_counts.specs.Agents.Agents.{AgentsWriteLittle, SlotsAddNoPod};
 

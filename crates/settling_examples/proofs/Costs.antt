@@ -1,9 +1,9 @@
--- What an object, a slot and a round cost at most in calls, computed.
+-- What an object and a slot cost at most in calls, computed.
 use Rattle.std.proofs.Common.{refl}
 use Rattle.settle_round_calls.specs.Slots.Slots.{again_calls, ops_sweep_calls}
 use Rattle.settle_round_calls.specs.Rest.ShortRounds.{agent_sweep_calls, sweep_calls}
-use Rattle.settling_examples.specs.Ending.{copies, faults_upto}
-use Rattle.settling_examples.specs.Costs.{CostExamples, LessExamples, SlotExamples, SweepExamples, SweptExamples}
+use Rattle.settling_examples.specs.Ending.{copies}
+use Rattle.settling_examples.specs.Costs.{CostExamples, SlotExamples, SweepExamples}
 
 pub cost_examples : CostExamples
 cost_examples = record {
@@ -53,38 +53,4 @@ sweep_examples = record {
   by_both = refl;
   by_few_pods = refl;
   by_pods = refl;
-}
-
-pub less_examples : LessExamples
-unfolding faults_upto
-less_examples = record {
-  write = refl;
-  claim = refl;
-  volume = refl;
-  actor = refl;
-  actor_with_pod = refl;
-  no_actor = refl;
-  all = refl;
-  most_nothing = refl;
-  most_claim = refl;
-  most_selected = refl;
-  most_volume = refl;
-  most_pod = refl;
-  most_placed = refl;
-  most_faults = refl;
-}
-
-pub swept_examples : SweptExamples
-unfolding agent_sweep_calls copies faults_upto sweep_calls
-swept_examples = record {
-  three_times = refl;
-  four_times = refl;
-  few_faults = refl;
-  more_faults = refl;
-  few_volumes = refl;
-  more_volumes = refl;
-  few_pods = refl;
-  more_pods = refl;
-  twice = refl;
-  both = refl;
 }

@@ -1,6 +1,6 @@
--- What an object, a slot and a round cost at most in calls: small cases, and worlds in which all is listed again.
+-- What an object and a slot cost at most in calls: small cases, and worlds in which all is listed again.
 -- A choice of this project.
-use Rattle.std.specs.Prelude.{ℕ, ◌≡◌, ◌+◌, ◌*◌, ◌++◌, true, List, [], ◌∷◌, codes}
+use Rattle.std.specs.Prelude.{ℕ, ◌≡◌, true, List, [], ◌∷◌, codes}
 use Rattle.kube_parts.specs.declared.parts.VolumePhase.{VolumePhase}
 use Rattle.kube_parts.specs.declared.parts.VolumePhase.TheVariants as volumes
 use Rattle.kube_objects.specs.declared.objects.Object.{Object}
@@ -11,9 +11,8 @@ use Rattle.call_types.specs.declared.request.SeatKind.TheVariants as seats
 use Rattle.settle_measure.specs.Left.Small.{free, meta, open_claim}
 use Rattle.settle_round_calls.specs.Slots.Costs.{made_calls, own_calls}
 use Rattle.settle_round_calls.specs.Slots.Slots.{again_calls, ended_in, objects_calls, ops_sweep_calls}
-use Rattle.settle_round_calls.specs.Rest.ShortRounds.{agent_sweep_calls, less_calls, ops_most, sweep_calls, swept_calls}
-use Rattle.settling_examples.specs.Ending.{class_of, copies, faults_upto, pod_on, setup_with, world_with}
-use Rattle.settling_examples.specs.Near.{claim_with}
+use Rattle.settle_round_calls.specs.Rest.ShortRounds.{agent_sweep_calls, sweep_calls}
+use Rattle.settling_examples.specs.Ending.{class_of, copies, pod_on}
 
 -- ---- what an object costs
 
@@ -101,57 +100,3 @@ pub record SweepExamples : Type 0 where
   -- and of an agent by how many pods: three for each and for its kind
   pub by_few_pods : agent_sweep_calls 1196 ≡ 0
   pub by_pods : agent_sweep_calls 1197 ≡ 3
-
--- ---- what a round costs
-
--- how often ops may write in a round that begins with these objects, with so many planned faults ahead
-abbrev pub most_for : ℕ → List Object → ℕ
-most_for faults rows = ops_most (setup_with (faults_upto faults) []) (world_with rows)
-
--- what ops and an agent list again in such a round
-abbrev pub swept_for : ℕ → List Object → ℕ
-swept_for faults rows = swept_calls (setup_with (faults_upto faults) []) (world_with rows)
-
-pub record LessExamples : Type 0 where
-  -- eight for each write, two for each claim, three for each volume; for each actor 65, and three for each pod
-  pub write : less_calls 0 0 0 0 1 ≡ 8
-  pub claim : less_calls 0 1 0 0 0 ≡ 2
-  pub volume : less_calls 0 0 1 0 0 ≡ 3
-  pub actor : less_calls 1 0 0 0 0 ≡ 65
-  pub actor_with_pod : less_calls 1 0 0 1 0 ≡ 68
-  pub no_actor : less_calls 0 0 0 1 0 ≡ 0
-  pub all : less_calls 2 3 4 5 6 ≡ 226
-  -- ops may write once for each claim, twice where a node is selected for it; once for each volume and each planned fault; and for a pod without a node
-  -- once, and once for each claim that it names
-  pub most_nothing : most_for 0 [] ≡ 0
-  pub most_claim : most_for 0 (Claim open_claim ∷ []) ≡ 1
-  pub most_selected : most_for 0 (Claim (claim_with (codes "n")) ∷ []) ≡ 2
-  pub most_volume : most_for 0 (volume_in volumes.Available ∷ []) ≡ 1
-  pub most_pod : most_for 0 (pod_naming (codes "c" ∷ []) ∷ []) ≡ 2
-  pub most_placed : most_for 0 (Pod (pod_on (codes "p") (codes "n")) ∷ []) ≡ 0
-  pub most_faults : most_for 4 [] ≡ 4
-
--- so many claims, and so many pods that each name two
-abbrev pub claims_and_pods : ℕ → ℕ → List Object
-claims_and_pods claims pods = copies claims (Claim open_claim) ++ copies pods (pod_naming (codes "c" ∷ codes "d" ∷ []))
-
--- so many claims, and so many open volumes
-abbrev pub claims_and_volumes : ℕ → ℕ → List Object
-claims_and_volumes claims more = copies claims (Claim open_claim) ++ copies more (volume_in volumes.Available)
-
-pub record SweptExamples : Type 0 where
-  -- ops lists again after each 513 writes that it may make: one for each claim
-  pub three_times : swept_for 0 (claims_and_pods 2051 0) ≡ 3 * 535
-  pub four_times : swept_for 0 (claims_and_pods 2052 0) ≡ 4 * 537
-  -- one for each planned fault
-  pub few_faults : swept_for 267 (claims_and_pods 1784 0) ≡ 3
-  pub more_faults : swept_for 268 (claims_and_pods 1784 0) ≡ 4
-  -- and one for each volume, which has its keys listed too
-  pub few_volumes : swept_for 0 (claims_and_volumes 1784 267) ≡ 3 * 802
-  pub more_volumes : swept_for 0 (claims_and_volumes 1784 268) ≡ 4 * 805
-  -- an agent lists again after each 513 pods, and pays for these and for the claims that they name
-  pub few_pods : swept_for 0 (claims_and_pods 0 512) ≡ 0
-  pub more_pods : swept_for 0 (claims_and_pods 0 513) ≡ 1029
-  pub twice : swept_for 0 (claims_and_pods 0 1026) ≡ 2 * 5646
-  -- where both do, it is the sum
-  pub both : swept_for 0 (claims_and_pods 1784 513) ≡ 6 + 1029

@@ -5,7 +5,7 @@
 //! them. Not said: anything of other cases.
 #![tactic(auto)]
 
-ghost use Rattle.settling_examples.specs.Costs.{CostExamples, LessExamples, SlotExamples, SweepExamples, SweptExamples};
+ghost use Rattle.settling_examples.specs.Costs.{CostExamples, SlotExamples, SweepExamples};
 ghost use Rattle.settling_examples.specs.Ending.{AgentExamples, AllowanceExamples, BudgetExamples, CallExamples, ClassExamples, LineExamples, NamingExamples, NumberExamples, SharingExamples, SizeExamples};
 ghost use Rattle.settling_examples.specs.Held.{HeldExamples};
 ghost use Rattle.settling_examples.specs.Lasting.{AlikeExamples, LastingExamples};
@@ -122,14 +122,4 @@ pub fn slot_examples()
 /// What a sweep costs beyond what the writes before it have left.
 pub fn sweep_examples()
     ensures { SweepExamples }
-{}
-
-/// What a round costs by what stands, and how often ops may write in it.
-pub fn less_examples()
-    ensures { LessExamples }
-{}
-
-/// Worlds in whose rounds there are sweeps, and some in which there is one less.
-pub fn swept_examples()
-    ensures { SweptExamples }
 {}

@@ -1,18 +1,15 @@
 -- How many calls a round makes at most: the stated number.
 -- A choice of this project.
-use Rattle.std.specs.Prelude.{ℕ, ◌≤◌, ◌+◌, ◌*◌, ◌-◌, ◌/◌, List, length, ⊤}
+use Rattle.std.specs.Prelude.{ℕ, ◌≤◌, ◌+◌, ◌*◌, ◌-◌, List, length, ⊤}
 use Rattle.call_types.specs.declared.entry.Entry.{Entry}
 use Rattle.call_types.specs.declared.setup.Setup.{Setup}
 use Rattle.binder_model.specs.World.{World, world}
-use Rattle.settle_measure.specs.Left.Measure.{claims_in, faults_left, pods_in, volumes_in}
+use Rattle.settle_measure.specs.Left.Measure.{faults_left}
 use Rattle.actor_rounds.specs.declared.drainers.Drainer.{Drainer}
 use Rattle.actor_rounds.specs.Rounds.{Drains, Goes, IsSpent, Lets, NothingDue}
 use Rattle.settle_calls.specs.Slots.Rounds.{size_of_world}
-use Rattle.settle_write_counts.specs.Scheduler.Pods.{pods_writes}
-use Rattle.settle_write_counts.specs.Rounds.Counts.{nodes_in}
-use Rattle.settle_write_counts.specs.Rounds.Rounds.{pods_size}
 
--- ---- by the writes of the round
+-- ---- what is listed again
 
 -- how many calls a sweep of ops costs at most beyond those that the writes before it have left: the kinds that it follows are listed again where it
 -- made 513 writes since it read them, and each of these has seven calls left for its event, which is never told. What is listed costs it two for each
@@ -23,20 +20,6 @@ sweep_calls claims volumes = (2 * claims + 3 * volumes + 24) - 7 * 513
 -- and a sweep of an agent, which follows pods alone
 unfoldable pub agent_sweep_calls : ℕ → ℕ
 agent_sweep_calls pods = (3 * pods + 3) - 7 * 513
-
--- how often ops may write at most in a round: a volume for each claim, the end of each volume, each node that was selected for a claim or that the
--- scheduler selects, and phase Failed for each planned fault that is ahead
-abbrev pub ops_most : Setup → World → ℕ
-ops_most setup w = claims_in w.store.rows + volumes_in w.store.rows + nodes_in w + pods_writes w + faults_left setup w.devices
-
--- how many calls so many actors make at most, by what stood when the round began and by the writes of the round. Each write costs eight. Of the
--- rest a claim costs ops two and a volume three, and pods cost an agent three; the others pay nothing beside their writes and their passes
-abbrev pub less_calls : ℕ → ℕ → ℕ → ℕ → ℕ → ℕ
-less_calls actors claims volumes pods writes = 8 * writes + (2 * claims + 3 * volumes + actors * (3 * pods + 65))
-
--- after each 513 writes of ops there may be a sweep, and after each 513 of an agent, which writes once for each pod
-abbrev pub swept_calls : Setup → World → ℕ
-swept_calls setup w = sweep_calls (claims_in w.store.rows) (volumes_in w.store.rows) * (ops_most setup w / 513) + agent_sweep_calls (pods_size w) * (pods_in w.store.rows / 513)
 
 -- ---- by the sizes
 

@@ -30,7 +30,7 @@ use Rattle.worker_core.specs.declared.task.Under.{Under}
 use Rattle.worker_core.specs.declared.turn.Given.TheVariants as givens
 use Rattle.worker_core.specs.declared.turn.Next.TheVariants.{Call}
 use Rattle.worker_core.specs.declared.turn.Outcome.TheVariants.{Lost, Told}
-use Rattle.worker_core.specs.Absorbs.{absorbed, lost_given, woken}
+use Rattle.worker_core.specs.Absorbs.{absorbed, lost_given}
 use Rattle.worker_core.specs.Memories.{Memory}
 use Rattle.worker_core.specs.Roles.{IsBuiltKind}
 use Rattle.worker_core.specs.States.{ActorState, call_in, read_of_kind, read_request, start_call, start_of}
@@ -46,7 +46,7 @@ use Rattle.settle_calls.specs.Slots.Slots.{writes_since}
 use Rattle.settle_write_counts.proofs.Rounds.Failing.{none_begins, under_fails}
 use Rattle.settle_write_counts.proofs.Rounds.Runs.{IsCalled, called_at, run_at, silent_run}
 use Rattle.settle_write_counts.proofs.Rounds.Slots.{counted}
-use Rattle.settle_write_counts.specs.Ops.Ops.{OpsWritesFall, ops_writes}
+use Rattle.settle_write_counts.specs.Ops.Ops.{ops_writes}
 use Rattle.settle_write_counts.proofs.Ops.Calls.{IsRead, call_lowers, low, read_stays}
 use Rattle.settle_write_counts.proofs.Ops.Machines.{Fits, TaskFits, UnderFits, begun_fits, goes_on, nothing_begun}
 
@@ -239,6 +239,3 @@ falls_from setup lets seat old after h past b left idle kind run rests runs = by
         let none : under_fails old.under ≡ 0 = ap under_fails (rests fresh) in
         let d = done in
         omega (arith, lower, none, d)
-
-pub ops_writes_fall : OpsWritesFall
-ops_writes_fall setup lets seat old after h past b left idle kind run rests runs = falls_from setup lets seat (woken old) after h past b left idle kind run rests runs

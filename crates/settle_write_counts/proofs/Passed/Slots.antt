@@ -32,7 +32,7 @@ use Rattle.worker_core.specs.declared.turn.Given.{Given}
 use Rattle.worker_core.specs.declared.turn.Given.TheVariants as givens
 use Rattle.worker_core.specs.declared.turn.Next.TheVariants.{Call}
 use Rattle.worker_core.specs.declared.turn.Outcome.TheVariants.{Told}
-use Rattle.worker_core.specs.Absorbs.{absorbed, given_told, learned, woken}
+use Rattle.worker_core.specs.Absorbs.{absorbed, given_told, learned}
 use Rattle.worker_core.specs.Roles.{IsBuiltKind}
 use Rattle.worker_core.specs.States.{ActorState, call_in, read_of_kind, read_request, start_call, start_of}
 use Rattle.worker_core.specs.Tasks.{under_after}
@@ -47,7 +47,6 @@ use Rattle.settle_slot.proofs.Slot.Knowing.{sees, told_knows}
 use Rattle.settle_slot.proofs.Slot.Slots.{begun_behind, decides_gives}
 use Rattle.settle_progress.proofs.Epochs.Silent.{older_run}
 use Rattle.settle_write_counts.specs.Scheduler.Pods.{pods_writes}
-use Rattle.settle_write_counts.specs.Passed.Slots.{PassedSchedulersWriteLittle}
 use Rattle.settle_write_counts.proofs.Passed.Costs.{costs_bounded, costs_on}
 use Rattle.settle_write_counts.proofs.Passed.Deciding.{decision_spends}
 use Rattle.settle_write_counts.proofs.Passed.Spending.{EachSpends, Spends}
@@ -221,6 +220,3 @@ writes_from setup lets seat old after_ h past b left idle kind run holds rests r
     let bound = (world setup h).store.version + pods_writes (world setup h) in
     runs_low setup seat old.role kind run.imports bound lets holds after_ past left idle run (begun old) h b runs refl (begun_behind setup seat old h) (omega arith)
     (λ fresh. subst (IsWithin setup seat old.role kind run.imports bound h) (sym (rests fresh)) (Rests (omega (arith, costs))))
-
-pub passed_schedulers_write_little : PassedSchedulersWriteLittle
-passed_schedulers_write_little setup lets seat old after h past b left idle kind run holds rests runs = writes_from setup lets seat (woken old) after h past b left idle kind run holds rests runs

@@ -17,9 +17,8 @@ use Rattle.worker_core.specs.Roles.{IsBuiltKind}
 use Rattle.actor_rounds.specs.declared.drainers.Drainer.{Drainer}
 use Rattle.actor_rounds.specs.Drainers.{AreAtRest, roles_of}
 use Rattle.actor_rounds.specs.Rounds.{Ends, IsRound, Lets, Runs, Turns}
-use Rattle.actor_rounds.proofs.RoundFacts.{AreBuilt, roles_built, round_grows}
+use Rattle.actor_rounds.proofs.RoundFacts.{AreBuilt, round_grows}
 use Rattle.actor_rounds.proofs.RunFacts.{run_grows}
-use Rattle.settle_calls.proofs.Events.Sums.{div_less}
 use Rattle.settle_calls.specs.Tasks.Costs.{calls_for}
 use Rattle.settle_calls.specs.Tasks.Tasks.{under_left}
 use Rattle.settle_calls.specs.Slots.Slots.{PassesReads, slot_cost, writes_since}
@@ -28,10 +27,9 @@ use Rattle.settle_calls.proofs.Slots.Slots.{slots_are_short}
 use Rattle.settle_progress.proofs.Epochs.Silent.{older_run}
 use Rattle.settle_write_counts.proofs.Rounds.Runs.{silent_run}
 use Rattle.settle_write_counts.proofs.Rounds.Slots.{counted}
-use Rattle.settle_write_counts.specs.Rounds.Rounds.{ArePaying, CallsAreBounded, CallsAreFew, most_size, most_writes}
-use Rattle.settle_write_counts.proofs.Rounds.Growth.{AreGiven, given_few, given_first}
+use Rattle.settle_write_counts.specs.Rounds.Rounds.{most_size}
+use Rattle.settle_write_counts.proofs.Rounds.Growth.{AreGiven, given_few}
 use Rattle.settle_write_counts.proofs.Rounds.Made.{slot_given}
-use Rattle.settle_write_counts.proofs.Rounds.Sizes.{writes_are_few}
 
 -- ---- numbers
 
@@ -121,24 +119,3 @@ module _ (setup : Setup) (lets : Lets) (past : List Entry) (left : ℕ) (run : I
         let whole_ = ap (λ k. (3 * most_size (world setup start) + 3 * all + 7) * (k / 513)) split in
         let actors = one_more (length ds) (3 * most_size (world setup start) + 62) in
         omega (arith, later, first, split, sweeps, whole_, actors)
-
-pub calls_are_few : CallsAreFew
-calls_are_few setup lets ds after h past b left whole roles rests run passes round =
-    let all = sum setup lets past left run passes h (writes_since setup h past) ds h b after whole round (roles_built (roles_of ds) roles) rests
-    (omega arith) (given_first (world setup h).store.rows) in
-    omega (arith, all)
-
--- with more writes it is more
-pub swept_more : (size few many : ℕ) → few ≤ many → (3 * size + 3 * few + 7) * (few / 513) ≤ (3 * size + 3 * many + 7) * (many / 513)
-swept_more size few many le = mul-le (3 * size + 3 * few + 7) (few / 513) (3 * size + 3 * many + 7) (many / 513) (omega (arith, le)) (div_less few many le)
-
--- payers rest
-resting : (setup : Setup) (ds : List Drainer) → ArePaying setup ds → AreAtRest ds
-resting setup ds payers place d at = (payers place d at).rests
-
-pub calls_are_bounded : CallsAreBounded
-calls_are_bounded setup lets ds after h past b left whole roles payers run passes round few =
-    let calls = calls_are_few setup lets ds after h past b left whole roles (resting setup ds payers) run passes round in
-    let writes = writes_are_few setup lets ds after h past b left whole roles payers run round few in
-    let sweeps = swept_more (most_size (world setup h)) (writes_since setup h past) (most_writes setup (world setup h)) writes in
-    omega (arith, calls, writes, sweeps)

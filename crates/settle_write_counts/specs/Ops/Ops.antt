@@ -1,23 +1,16 @@
 -- How many writes the provisioner and reclaimer does in a slot, by the objects with which the slot begins.
 -- A choice of this project.
-use Rattle.std.specs.Prelude.{ℕ, ◌≡◌, ◌≤◌, ◌+◌, Bool, false, not, ◌||◌, List, Option, Some, None}
+use Rattle.std.specs.Prelude.{ℕ, ◌≤◌, ◌+◌, Bool, false, not, ◌||◌, List, Option, Some, None}
 use Rattle.kube_objects.specs.declared.objects.Object.{Object}
 use Rattle.kube_objects.specs.declared.objects.Object.TheVariants.{Volume, Claim}
 use Rattle.kube_parts.specs.declared.uid.Uid.{Uid}
 use Rattle.kube_objects.specs.Bindings.{is_deleting, is_ended}
 use Rattle.kube_objects.specs.Keys.{row_at}
-use Rattle.call_types.specs.declared.entry.Entry.{Entry}
-use Rattle.call_types.specs.declared.request.SeatKind.TheVariants as seats
 use Rattle.call_types.specs.declared.setup.Setup.{Setup}
 use Rattle.binder_model.specs.ObjectKeys.{volume_key}
-use Rattle.binder_model.specs.Promises.{IsRunOf}
 use Rattle.binder_model.specs.Provisioning.{data_name}
 use Rattle.binder_model.specs.World.{World, world}
 use Rattle.settle_measure.specs.Left.Measure.{claims_in, faults_left, total, unless, volumes_in}
-use Rattle.worker_core.specs.Absorbs.{woken}
-use Rattle.worker_core.specs.States.{ActorState}
-use Rattle.actor_rounds.specs.Rounds.{Lets, Runs}
-use Rattle.settle_calls.specs.Slots.Slots.{writes_since}
 use Rattle.settle_write_counts.specs.Rounds.Counts.{nodes_in}
 
 -- a volume stands there that has not ended
@@ -39,13 +32,6 @@ ops_left rows o = 0
 -- these, the nodes that may be taken back, and phase Failed for each planned fault that is ahead
 abbrev pub ops_writes : Setup → World → ℕ
 ops_writes setup w = total (ops_left w.store.rows) w.store.rows + nodes_in w + faults_left setup w.devices
-
--- the provisioner and reclaimer, run with nothing under way: each of its writes lowers that number, and no call of it raises it
-abbrev pub OpsWritesFall : Type 0
-OpsWritesFall =
-    (setup : Setup) (lets : Lets) (seat : ℕ) (old after : ActorState) (h past : List Entry) (b left : ℕ) (idle : Bool) → old.role.kind ≡ seats.Ops
-    → IsRunOf setup past → (old.memory.stale ≡ false → old.under ≡ None)
-    → Runs lets seat after past left idle (woken old) h b → writes_since setup h past + ops_writes setup (world setup past) ≤ ops_writes setup (world setup h)
 
 -- it is no more than these, in any world
 abbrev pub OpsWritesAreBounded : Type 0
