@@ -8,11 +8,10 @@ use Rattle.call_types.specs.declared.request.SeatKind.{SeatKind}
 use Rattle.call_types.specs.declared.request.Request.{Request}
 use Rattle.call_types.specs.declared.request.Request.TheVariants as requests
 use Rattle.binder_model.specs.Answers.{Outcome, is_user}
-use Rattle.binder_model.specs.Devices.{Data, Devices, DeviceAnswer, epoch_of, is_planned, provision_new, provision, unless_planned, unless_stale}
+use Rattle.binder_model.specs.Devices.{Data, Devices, DeviceAnswer, epoch_of, is_planned, provision_new, provision, erase, unless_planned, unless_stale, take_node, with_mounts, device_answer}
 use Rattle.binder_model.specs.Watching.{oldest}
 use Rattle.binder_model.specs.World.{base, World, Effect, OnStore, OnDevices, SetsMoment, is_time, world, effect, world_after, on_devices, set_time, watch}
 use Rattle.safety_law.proofs.Invariant.DeviceMoves.{device_moves}
-use Rattle.model_laws.proofs.Refused.{devices_count as counted}
 
 -- an answer counts one call or none
 record IsCounted (d : Devices) (a : DeviceAnswer) : Type 0 where
@@ -43,9 +42,19 @@ unfolding provision
 provisioned setup d name provisioner bytes labels (Some x) = record { most = omega arith }
 provisioned setup d name provisioner bytes labels None = new_data setup d name provisioner bytes labels _
 
-abbrev AreCounted : Devices → Option DeviceAnswer → Type 0
-AreCounted d None = ⊤
-AreCounted d (Some a) = IsCounted d a
+abbrev AreCountedCalls : Devices → Option DeviceAnswer → Type 0
+AreCountedCalls d None = ⊤
+AreCountedCalls d (Some a) = IsCounted d a
+
+counted : (setup : Setup) (d : Devices) (request : Request) → AreCountedCalls d (device_answer setup d request)
+unfolding device_answer erase take_node with_mounts
+counted setup d (requests.Provision name provisioner bytes labels) = planned setup d _ (provisioned setup d name provisioner bytes labels _)
+counted setup d (requests.Erase id) = planned setup d _ (record { most = omega arith })
+counted setup d (requests.TakeNode node) = record { most = omega arith }
+counted setup d (requests.Mounts node epoch) = stale d _ _ (record { most = omega arith })
+counted setup d (requests.Mount node epoch pod claims) = stale d _ _ (record { most = omega arith })
+counted setup d (requests.Unmount node epoch pod) = stale d _ _ (record { most = omega arith })
+counted setup d _ = tt
 
 record IsCountedOnce (w : World) (x : Effect) : Type 0 where
   most : (world_after w x).devices.calls ≤ w.devices.calls + 1
@@ -66,7 +75,7 @@ either : (b : Bool) (w : World) (x y : Effect) → IsCountedOnce w x → IsCount
 either true w x y kx ky = kx
 either false w x y kx ky = ky
 
-asked : (w : World) (kind : SeatKind) (request : Request) (a : Option DeviceAnswer) → AreCounted w.devices a → IsCountedOnce w (on_devices w kind request a)
+asked : (w : World) (kind : SeatKind) (request : Request) (a : Option DeviceAnswer) → AreCountedCalls w.devices a → IsCountedOnce w (on_devices w kind request a)
 unfolding on_devices
 asked w kind request (Some a) k = either (is_user kind) w _ (OnDevices a) (on_store w _) (answered w a k)
 asked w kind request None k = on_store w _
