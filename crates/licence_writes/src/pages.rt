@@ -91,7 +91,7 @@ fn sought_by(claim: &Claim, bytes: Option<u64>) -> Sought {
         None => Sought::All,
         Some(uid) => match bytes {
             None => Sought::Lost(uid),
-            Some(bytes) => Sought::ShownData(uid, bytes),
+            Some(bytes) => Sought::Shown(uid, bytes),
         },
     }
 }
