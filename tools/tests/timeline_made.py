@@ -65,6 +65,15 @@ PENDING_WORDS = {"volume small": "is too small", "volume typo": "has another cla
                  "volume taken": "has labels that"}
 
 
+def causes_script():
+    """A claim that 40 volumes do not serve for a few causes, and one that was of a claim of its name."""
+    things = [volume("class-%d" % n, storage_class="other") for n in range(23)] + [volume("small-%d" % n, "1Gi") for n in range(17)]
+    again = volume("again", claimRef={"namespace": "default", "name": "c", "uid": "33333333-3333-4333-8333-333333333333"})
+    again["metadata"].update(uid="44444444-4444-4444-8444-444444444444", resourceVersion="7")
+    again["status"] = {"phase": "Released"}
+    return line(do="import", object=again) + "".join(create(t) for t in [*things, claim("c")])
+
+
 def staying_script():
     """Objects that are to go and stay, and pods without a node or a mount."""
     things = [node("n1"), volume("a"), claim("c"), pod("p", "c", nodeName="n1"), pod("lone", "missing"), pod("stuck", "late", nodeName="n1"),

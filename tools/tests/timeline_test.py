@@ -217,10 +217,10 @@ def test_keys(browser, zones):
 
 def test_shapes(browser, mounted):
     opened(browser, mounted)
-    drawn = browser.run("""(drawOver(), { paths: new Set([...find('picture').querySelectorAll('path[transform]')].map(p => p.getAttribute('d'))).size,
-      hollow: find('picture').querySelectorAll('path[transform][stroke-dasharray]').length, flags: [...find('picture').querySelectorAll('path')].filter(p => /l6,3l-6,3Z/.test(p.getAttribute('d'))).length,
+    drawn = browser.run("""(drawOver(), { paths: new Set([...find('picture').querySelectorAll('path[transform], .answer-lost > path:first-child')].map(p => p.getAttribute('d'))).size,
+      hollow: find('picture').querySelectorAll('.answer-lost').length, flags: [...find('picture').querySelectorAll('path')].filter(p => /l6,3l-6,3Z/.test(p.getAttribute('d'))).length,
       lanes: view.lanes.map(l => l.label), bars: [...find('picture').querySelectorAll('text')].map(t => t.textContent) })""")
-    check("calls are told apart by their shape", drawn["paths"] >= 5, drawn["paths"])
+    check("calls are told apart by their shape", drawn["paths"] >= 4, drawn["paths"])
     check("a lost answer is hollow", drawn["hollow"] == 1, drawn["hollow"])
     check("a restart has a mark, in the lane of its actor", drawn["flags"] == 1 and "Agent of n1 (6, 7)" in drawn["lanes"], drawn["lanes"])
     check("nodes show epochs and mounts", any(t.startswith("epoch 2, 1 mounted") for t in drawn["bars"]), drawn["bars"])
@@ -311,6 +311,118 @@ def test_face(browser, path):
     browser.call("Emulation.setEmulatedMedia", media="")
 
 
+def test_opening(browser, program, folder):
+    """A history that begins with imports opens at the first call of a user, with the rows that changed."""
+    script = read(os.path.join(ROOT, "examples", "cluster", "cluster.script"))
+    delete = made.line(do="delete", kind="PersistentVolumeClaim", namespace="shop", name="cache")
+    path = replayed(program, folder, "opening", script + made.line(do="drain") + delete)
+    opened(browser, path)
+    entries = [json.loads(line) for line in read(path).split("\nend\n")[0].split("\n")[1:]]
+    first = next(at for at, entry in enumerate(entries) if entry["kind"] == "User")
+    check("it opens at the first call of a user", browser.run("view.picked") == first, browser.run("view.picked"))
+    seen = browser.run("[find('list').scrollTop, rowOf(view.picked) * ROW, find('list').clientHeight]")
+    check("and that call is seen", seen[0] <= seen[1] <= seen[0] + seen[2], seen)
+    keys = browser.run("view.strips.filter(s => s.key).map(s => showKey(s.key))")
+    check("with the rows that changed", sorted(keys) == ["claim shop/cache", "volume pvc-eeab2ceb…"], keys)
+    check("and what is open in words", browser.run("find('detail').querySelector('h2').textContent") == "What is open at the end", "")
+    browser.run("find('unchanged').click()")
+    check("a box shows the others", browser.run("view.strips.filter(s => s.key).length") >= 20, browser.run("view.strips.length"))
+    check("a history without imports has no such box", (opened(browser, os.path.join(ROOT, "examples", "audits", "erase.history")), browser.run("find('unchanged').parentElement.hidden"))[1], "")
+
+
+def test_map(browser, zones):
+    """The overview fits the window, and its frame moves what is shown."""
+    opened(browser, zones)
+    browser.run("view.zoom = 8; layAll(); drawOver(); drawFrame()")
+    state = browser.run("({ width: find('map').clientWidth, picture: Number(find('map').firstElementChild.getAttribute('width')), whole: view.rows.length * view.width, frame: Number(find('frame').getAttribute('width')) })")
+    check("the whole history has the width of the window", state["picture"] == state["width"] < state["whole"], state)
+    check("the frame is the part that is shown", 4 <= state["frame"] < state["width"] / 2, state)
+    marks = browser.run("['user', 'write', 'device', 'bad'].map(name => (find('map').querySelector('.map-' + name).getAttribute('d').match(/M/g) || []).length)")
+    check("it has users' calls, writes, devices and refusals", all(marks), marks)
+    moved = browser.run("""(() => { const box = find('map').getBoundingClientRect(), send = (kind, x, buttons) => find('map')[kind]({ clientX: x, pointerId: 1, buttons });
+      find('map').setPointerCapture = () => {}; const places = []; for (const share of [0.9, 0.1, 0.5]) { send(share === 0.9 ? 'onpointerdown' : 'onpointermove', box.left + box.width * share, 1); drawFrame(); places.push([find('over').scrollLeft, find('list').scrollTop, Number(find('frame').getAttribute('x'))]); } return places; })()""")
+    check("the frame moves lanes and list", moved[0] > moved[2] > moved[1] and moved[0][1] > moved[1][1] and moved[0][2] > moved[1][2], moved)
+
+
+def test_red(browser, mounted, zones):
+    """Red is what was refused or lost, and nothing else; a lost answer is drawn above the others."""
+    for path in (mounted, zones):
+        opened(browser, path)
+        browser.run("find('level').value = 'all'; find('level').onchange({ target: find('level') }); view.zoom = 0.4; layAll(); drawOver()")
+        state = browser.run("""({ red: [...find('picture').querySelectorAll('[fill="var(--bad)"]')].length, lost: find('picture').querySelectorAll('.answer-lost').length,
+          refused: view.history.entries.filter(e => e.shape === 'refused' && e.told).length, unheard: view.history.entries.filter(e => !e.told).length,
+          reads: view.history.entries.filter(e => e.shape === 'refused' && e.verb === 'get').length, stroke: find('picture').querySelector('.answer-lost path')?.getAttribute('stroke'),
+          seen: view.rows.length * view.width <= find('over').clientWidth - LABEL })""")
+        name = os.path.basename(path)
+        check(f"{name}: red signs are the refused calls", state["red"] <= state["refused"] and (not state["seen"] or state["red"] == state["refused"]), state)
+        check(f"{name}: each lost answer is red", state["lost"] <= state["unheard"] and (state["unheard"] == 0 or state["stroke"] == "var(--bad)"), state)
+        check(f"{name}: a read that finds nothing is no refusal", state["reads"] == 0, state)
+    bars = browser.run("Object.values(STATE).map(s => s[0])")
+    reds = [one for one in bars if int(one[1:3], 16) > int(one[3:5], 16) + 50 and int(one[1:3], 16) > int(one[5:7], 16) + 50]
+    check("no bar is red", not reds, reds)
+
+
+def test_legend(browser, mounted):
+    """The legend's colours are those drawn."""
+    opened(browser, mounted)
+    state = browser.run("""(() => { const rows = [...find('legend').children].map(span => ({ text: span.textContent, fills: [...span.querySelectorAll('rect, path')].map(x => x.getAttribute('fill')), strokes: [...span.querySelectorAll('path')].map(x => x.getAttribute('stroke')) }));
+      const lost = (drawOver(), find('picture').querySelector('.answer-lost')); return { rows, state: STATE, colour: COLOUR, going: document.getElementById('going').firstElementChild.getAttribute('stroke'), lost: lost && [...lost.children].map(x => x.getAttribute('stroke')) }; })()""")
+    by_text = {row["text"]: row for row in state["rows"]}
+    for name in ("Pending", "Available", "Bound", "Released", "Failed"):
+        row = next(row for text, row in by_text.items() if text.startswith(name))
+        check(f"legend: {name}", row["fills"][0] == state["state"][name][0], row)
+    for text, form in (("a user’s write", "user"), ("a controller’s write", "write"), ("refused", "refused")):
+        check(f"legend: {text}", by_text[text]["fills"] == [state["colour"][form]], by_text[text])
+    going = by_text["brown stripes: to go"]
+    red, green, blue = (int(state["going"][at:at + 2], 16) for at in (1, 3, 5))
+    check("legend: brown is brown", "url(#going)" in going["fills"] and len(state["going"]) == 7 and red > green > blue and red - blue > 60, [going, state["going"]])
+    lost = next(row for text, row in by_text.items() if "lost" in text and "hollow" in text)
+    check("legend: a lost answer", lost["strokes"] == state["lost"] == [state["colour"]["lost"]] * 2, [lost, state["lost"]])
+
+
+def test_labels(browser):
+    """Labels that are cut keep what tells them apart."""
+    browser.open(PAGE)
+    sets = [["claim team-with-a-long-name/data-of-some-application-%d" % n for n in range(120)], ["volume pvc-of-a-very-long-name-%03d-in-the-second-zone" % n for n in range(200)],
+            ["claim a/%sx%s" % ("b" * n, "c" * (60 - n)) for n in range(50)], ["pod p", "pod q", "Agent of a-node-with-a-long-name-1 (7)", "Agent of a-node-with-a-long-name-2 (8)"]]
+    for names in sets:
+        shown = browser.run(f"[...labelsApart({json.dumps(names)}, MOST_LABEL).values()]")
+        check(f"{len(names)} labels as {shown[0]}", len(set(shown)) == len(names) and max(map(len, shown)) <= 26, sorted(shown)[:6])
+
+
+def test_causes(browser, program, folder):
+    """Why a claim is Pending, counted by cause, with the nearest volumes first."""
+    path = replayed(program, folder, "causes", made.causes_script())
+    opened(browser, path)
+    rows = browser.run("[...[...find('detail').querySelectorAll('.box')].find(b => b.textContent.startsWith('Why claim c is Pending')).querySelectorAll('tr')].map(r => r.textContent)")
+    volumes = [row for row in rows if row.startswith("volume")]
+    check("why: few rows for 40 volumes", len(volumes) <= 3 + 3, rows)
+    check("why: the volume of the claim's name is first", volumes and volumes[0].startswith("volume againis for another claim: claim c"), volumes[:1])
+    check("why: causes are counted", any("21 volumes: each has another class" in row for row in volumes) and any("volumes: each is too small" in row for row in volumes), volumes)
+
+
+def test_odd(browser, first):
+    """Words that JavaScript has in each object, values of thousands of levels, and lists of kubectl."""
+    lines = read(first).split("\n")
+    deep = lines[1].replace('"told":true', '"told":true,"x":' + "[" * 9000 + "]" * 9000)
+    entry = json.loads(lines[1])
+    refused = json.dumps({**entry, "reply": {"refused": "constructor"}})
+    for name, text, words in (("do valueOf", [lines[0], lines[1].replace('"do":"create"', '"do":"valueOf"')], "is no entry of a history"),
+                              ("do hasOwnProperty", [lines[0], lines[1].replace('"do":"create"', '"do":"hasOwnProperty"')], "is no entry of a history"),
+                              ("a value 9,000 deep", [lines[0], deep], "nests too deep"),
+                              ("a list of kubectl", json.dumps({"apiVersion": "v1", "kind": "List", "items": []}, indent=4).split("\n"), "tools/from-cluster < odd")):
+        browser.open(PAGE)
+        browser.run(f"open(new Blob([{json.dumps(chr(10).join(text))}]), 'odd')")
+        browser.until("find('error').textContent", 60)
+        check(f"{name} is an error line", words in browser.run("find('error').textContent"), browser.run("find('error').textContent"))
+    browser.open(PAGE)
+    browser.run(f"open(new Blob([{json.dumps(chr(10).join([lines[0], refused]))}]), 'odd')")
+    waited(browser, "odd")
+    browser.run("pick(0); takeVerdict('no: entry 1 valueOf', true)")
+    text = browser.run("find('detail').textContent")
+    check("an unknown refusal and an unknown rule are said as they are", "constructor" in text and "knows no rule of this name" in text and "[object" not in text, text[:300])
+
+
 SCROLL = """((what) => {
   const list = find('list'), over = find('over');
   for (let i = 0; i <= 20; i++) {
@@ -376,6 +488,13 @@ def run_all(browser, program, folder, extra):
     test_filter(browser, of["two-zones"])
     test_keys(browser, of["two-zones"])
     test_shapes(browser, of["mounted-claim"])
+    test_red(browser, of["mounted-claim"], of["two-zones"])
+    test_legend(browser, of["mounted-claim"])
+    test_labels(browser)
+    test_map(browser, of["two-zones"])
+    test_opening(browser, program, folder)
+    test_causes(browser, program, folder)
+    test_odd(browser, of["first"])
     erase = os.path.join(audits, "erase.history")
     test_saved(browser, folder, erase)
     test_compare(browser, folder, erase)
