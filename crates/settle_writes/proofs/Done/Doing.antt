@@ -134,6 +134,7 @@ use Rattle.safety_law.proofs.Invariant.StandsAt.{is_volume}
 use Rattle.safety_law.proofs.Invariant.StandsAt.{is_claim}
 pub use Rattle.safety_law.proofs.Invariant.StandsAt.{stands_it}
 pub use Rattle.safety_law.proofs.Invariant.Known.{told_one}
+use Rattle.model_laws.proofs.Identity.{key-marked as marked_key}
 
 -- ---- what was told, and stands at the version of the write
 
@@ -224,14 +225,6 @@ marked_differs (Node x) n moment staying e = true≢false (sym (ap is_marked e) 
 marked_differs (Volume x) n moment staying e = true≢false (sym (ap is_marked e) ∙ staying)
 marked_differs (Claim x) n moment staying e = true≢false (sym (ap is_marked e) ∙ staying)
 marked_differs (Pod x) n moment staying e = true≢false (sym (ap is_marked e) ∙ staying)
-
-marked_key : (old : Object) (n : ℕ) (moment : List ℕ) → key_of (marked_object old n moment) ≡ key_of old
-unfolding marked_object with_meta
-marked_key (Class x) n moment = refl
-marked_key (Node x) n moment = refl
-marked_key (Volume x) n moment = refl
-marked_key (Claim x) n moment = refl
-marked_key (Pod x) n moment = refl
 
 -- a volume does not leave at once
 stays_first : {X : Type 0} (old : Object) → kind_index (kind_of old) ≡ 2 → leaves_at_once old ≡ true → X

@@ -13,7 +13,7 @@ use Rattle.kube_objects.specs.declared.objects.Class.{Class as ClassData}
 use Rattle.kube_objects.specs.declared.objects.Claim.{Claim as ClaimData}
 use Rattle.kube_objects.specs.declared.objects.DataId.{DataId}
 use Rattle.kube_objects.specs.declared.objects.Object.{Object}
-use Rattle.kube_objects.specs.declared.objects.Object.TheVariants.{Class, Node, Volume, Claim, Pod}
+use Rattle.kube_objects.specs.declared.objects.Object.TheVariants.{Volume, Claim}
 use Rattle.kube_objects.specs.Keys.{key_of, row_at}
 use Rattle.kube_parts.specs.Uids.{uid_text}
 use Rattle.call_types.specs.declared.reply.Reply.TheVariants.{Done}
@@ -25,7 +25,7 @@ use Rattle.binder_model.specs.Devices.{device_answer}
 use Rattle.binder_model.specs.Fields.{create_fault, faulty, is_label, is_lower_or_digit, is_name_byte, is_subdomain, kind_fault, volume_fault}
 use Rattle.binder_model.specs.ObjectKeys.{volume_key}
 use Rattle.binder_model.specs.Provisioning.{data_name, provisioned_volume}
-use Rattle.binder_model.specs.Store.{admitted_object, class_name, created_object, default_class, lacks_node, with_meta, without_status}
+use Rattle.binder_model.specs.Store.{class_name, created_object, default_class, lacks_node}
 use Rattle.binder_model.specs.World.{World, effect, on_devices, reply_to}
 use Rattle.field_rules.specs.Faults.{ends_well}
 use Rattle.field_rules.proofs.Names.{label_by_ends}
@@ -33,16 +33,9 @@ use Rattle.settle_writes.specs.Writes.Lasting.{IsChanged, IsLastingWrite, Lasts}
 use Rattle.settle_writes.specs.Writes.Valid.{IsValid}
 use Rattle.settle_writes.proofs.Writes.Fitting.{claim_facts, refers_well}
 use Rattle.settle_writes.proofs.Writes.Making.{no_guard}
+use Rattle.model_laws.proofs.Identity.{key-created as created_key}
 
 -- a create over nothing
-
-created_key : (default : Option (List ℕ)) (o : Object) (version : ℕ) (moment : List ℕ) → key_of (created_object default o version moment) ≡ key_of o
-unfolding created_object admitted_object without_status with_meta
-created_key default (Class x) version moment = refl
-created_key default (Node x) version moment = refl
-created_key default (Volume x) version moment = refl
-created_key default (Claim x) version moment = refl
-created_key default (Pod x) version moment = refl
 
 module _ (setup : Setup) (w : World) (kind : SeatKind) (controller : is_user kind ≡ false) where
   abbrev created : Object → Object
