@@ -9,25 +9,19 @@ use Rattle.kube_objects.specs.Keys.{AreRows}
 use Rattle.kube_objects.specs.Sources.{data_id_of}
 use Rattle.call_types.specs.declared.request.Request.TheVariants.{Erase}
 use Rattle.call_types.specs.declared.setup.Setup.{Setup}
-use Rattle.binder_model.specs.Devices.{DeviceAnswer, Devices, data_after_erase, device_answer, has_data, has_id}
+use Rattle.binder_model.specs.Devices.{DeviceAnswer, data_after_erase, device_answer, has_data, has_id}
 use Rattle.binder_model.specs.World.{World}
-use Rattle.model_laws.proofs.Lists.{IsIn, one}
+use Rattle.model_laws.proofs.Lists.{IsIn}
 use Rattle.settle_measure.specs.Left.Lowers.{with_devices}
 use Rattle.settle_measure.specs.Left.Measure.{left_of, object_left, total, was_erased}
 use Rattle.settle_measure.proofs.Left.Others.{volume_less}
 use Rattle.settle_measure.proofs.Left.Sums.{Pays, falls, none_paid, none_pays, stands, total_sum}
 use Rattle.settle_measure.specs.Upkeep.Pays.{is_data_name}
-use Rattle.settle_measure.proofs.Upkeep.Erasing.{claim_up, data_kept, erase_stays, erased_kept, lost_by, one_more, pods_same, provision_up}
+use Rattle.settle_measure.proofs.Upkeep.Erasing.{IsErasure, claim_up, data_kept, erase_stays, erased_kept, erasure_is, lost_by, one_more, pods_same, provision_up}
 use Rattle.settle_measure.proofs.Upkeep.Provisions.{all_provision}
 use Rattle.settle_measure.proofs.Left.Aside.{devices_total}
 use Rattle.settle_pays.proofs.Actors.Erasing.{HaveOwnNames, owner}
 use Rattle.settle_pays.proofs.Actors.Ids.{AreFew, IsAlone, alone}
-use Rattle.settle_measure.proofs.Upkeep.Erasing.{erasure_is}
-
--- the data of the id were erased, or the call failed as planned
-record IsErasure (d : Devices) (id : DataId) (a : DeviceAnswer) : Type 0 where
-  stored : (a.devices.stored ≡ d.stored) ⊎ (a.devices.stored ≡ data_after_erase id d.stored)
-  mounts : a.devices.mounts ≡ d.mounts
 
 module _ (setup : Setup) (w : World) (id : DataId) (a : DeviceAnswer) (order : AreRows w.store.rows) (names : HaveOwnNames w.store.rows) where
   -- data of one name went
@@ -56,7 +50,7 @@ module _ (setup : Setup) (w : World) (id : DataId) (a : DeviceAnswer) (order : A
         omega (arith, sums, none, split, most)
 
   pub erase_costs : (most : ℕ) → most < 2 ^ 60 → AreFew most w.devices.stored → device_answer setup w.devices (Erase id) ≡ Some a → left_of (with_devices w a) ≤ left_of w + 1
-  erase_costs most short few e = by (has_id id w.devices.stored) refl (erasure_is setup w.devices id a e).stored
+  erase_costs most short few e = by (has_id id w.devices.stored) refl (erasure_is setup w.devices id a e).either
     where
       by : (b : Bool) → has_id id w.devices.stored ≡ b → (a.devices.stored ≡ w.devices.stored) ⊎ (a.devices.stored ≡ data_after_erase id w.devices.stored) → left_of (with_devices w a) ≤ left_of w + 1
       by false lacks x = let h = erase_stays setup w id a order lacks e in omega (arith, h)
