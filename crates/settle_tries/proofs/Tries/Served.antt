@@ -1,5 +1,5 @@
 -- What the devices can give on a node: a claim that is to lose its node is not served there, and so the shares of its pod cannot be given.
-use Rattle.std.proofs.Common.{◌≡◌, ◌∙◌, List, [], ◌∷◌, Bool, true, false, true≢false, Option, Some, None, refl, sym, ap, if◌then◌else◌}
+use Rattle.std.proofs.Common.{◌≡◌, ◌∙◌, ℕ, List, [], ◌∷◌, ◌++◌, Bool, true, false, true≢false, Option, Some, None, refl, sym, ap, if◌then◌else◌}
 use Rattle.std.specs.Prelude.{◌&&◌, not, is_none, ⊤}
 use Rattle.std.proofs.lemmas.Bool.{and_parts}
 use Rattle.plain_data.specs.Pairs.{value_at}
@@ -12,20 +12,24 @@ use Rattle.kube_objects.specs.declared.objects.Node.{Node as NodeData}
 use Rattle.kube_objects.specs.declared.objects.Object.{Object}
 use Rattle.kube_objects.specs.declared.objects.Object.TheVariants.{Class, Node, Volume, Claim, Pod}
 use Rattle.kube_objects.specs.Bindings.{class_of_claim, selected_node}
-use Rattle.kube_objects.specs.Keys.{row_at}
+use Rattle.kube_objects.specs.Keys.{key_of, row_at}
+use Rattle.volume_index.specs.VolumeIndex.{as_volume}
 use Rattle.call_types.specs.declared.setup.Setup.{Setup}
-use Rattle.binder_model.specs.Choice.{IsProvisioned, Share, TakesVolume}
+use Rattle.binder_model.specs.Choice.{AreShares, IsProvisioned, Share, TakesVolume}
 use Rattle.binder_model.specs.Due.{by_class_due, delayed_due, immediate_due, is_served, is_served_on, on_node_due, provision_due, provision_if_new, shares_are_served}
 use Rattle.binder_model.specs.Matching.{has_match}
 use Rattle.binder_model.specs.ObjectKeys.{class_key, node_key, volume_key}
 use Rattle.binder_model.specs.Provisioning.{data_name, is_wanting, provisions}
 use Rattle.binder_model.specs.World.{World}
+use Rattle.volume_match.specs.Volumes.{volume_at}
 use Rattle.model_laws.proofs.Lists.{none_some}
 use Rattle.settle_alike.proofs.Alike.Rows.{plain_node}
+use Rattle.delayed_binding.specs.Choices.{binds_of, pair_of}
 use Rattle.delayed_binding.proofs.Known.{Each}
 use Rattle.settle_alike.specs.Near.Near.{AreNear, rest_of}
 use Rattle.settle_alike.proofs.Near.Near.{one_rest, one_rest_claim}
 use Rattle.settle_alike.proofs.Near.Serving.{share_rest}
+use Rattle.settle_due.proofs.Scheduling.Choosing.{is_empty_list}
 
 -- ---- a claim on a node
 
@@ -92,6 +96,18 @@ abbrev pub AreProvisioned : List ClaimData → List Share → Type 0
 AreProvisioned [] [] = ⊤
 AreProvisioned (c ∷ cs) (IsProvisioned ∷ shares) = AreProvisioned cs shares
 AreProvisioned _ _ = ⊥
+
+-- so it is where no volume is taken
+pub all_provisioned : (rows : List Object) (n : NodeData) (cs : List ClaimData) (shares : List Share) (taken : List ℕ)
+    → AreShares rows n taken cs shares → binds_of rows cs shares ≡ [] → AreProvisioned cs shares
+all_provisioned rows n [] [] taken are none = tt
+all_provisioned rows n [] (TakesVolume place ∷ shares) taken are none = absurd are
+all_provisioned rows n [] (IsProvisioned ∷ shares) taken are none = absurd are
+all_provisioned rows n (c ∷ cs) [] taken are none = absurd are
+all_provisioned rows n (c ∷ cs) (TakesVolume place ∷ shares) taken are none =
+    let pair : pair_of c (volume_at rows place) ≡ (key_of (Claim c), key_of (Volume are.0.volume)) ∷ [] = ap (λ o. pair_of c (as_volume o)) are.0.candidate.there in
+    absurd (true≢false (sym (ap is_empty_list none) ∙ ap (λ ps. is_empty_list (ps ++ binds_of rows cs shares)) pair))
+all_provisioned rows n (c ∷ cs) (IsProvisioned ∷ shares) taken are none = all_provisioned rows n cs shares taken are.2 none
 
 pub each_served : (setup : Setup) (w : World) (n : NodeData) (cs : List ClaimData) (shares : List Share) → AreProvisioned cs shares
     → shares_are_served setup w n cs shares ≡ true → Each (λ c. IsServedOn setup w n c true) cs
