@@ -21,7 +21,7 @@ use Rattle.settle_progress.specs.Drains.Settling.{MayDrain}
 use Rattle.settle_progress.proofs.Drains.Drained.{drained_rounds_last}
 use Rattle.settle_progress.proofs.Drains.Held.{held_rounds_last}
 use Rattle.settle_budget.proofs.Drains.Selections.{static_drains_settle}
-use Rattle.settle_tries.proofs.Tries.Trying.{shared_drains_settle}
+use Rattle.settle_tries.proofs.Few.Trying.{shared_drains_settle}
 use Rattle.settle_round_calls.proofs.Rounds.Drains.{every_drained_round_is_short}
 use Rattle.settle_round_calls.proofs.Rounds.Sum.{every_round_is_short}
 use Rattle.worker_threads.specs.Settling.{DrainSettles, IsSettledBy, RoundIsShort, RoundLasts, RoundsOfDrainAreShort, RoundsOfDrainLast}

@@ -24,7 +24,7 @@ use Rattle.settle_budget.specs.Drains.Rounds.{AreNodesApart, MaySettle}
 use Rattle.settle_budget.specs.Drains.Measured.{SharesWell}
 use Rattle.settle_budget.specs.Drains.Selections.{HasBudget, NoneProvisionsLate}
 use Rattle.settle_budget.proofs.Drains.Selections.{static_drains_settle}
-use Rattle.settle_tries.proofs.Tries.Trying.{shared_drains_settle}
+use Rattle.settle_tries.proofs.Few.Trying.{shared_drains_settle}
 use Rattle.history_laws.specs.Runs.Laws.{IsGivenRun}
 use Rattle.replay_laws.proofs.Settles.Given.{given_imports_fit, given_runs_stay_in_order}
 use Rattle.script_text.specs.declared.script.Script.{Script}

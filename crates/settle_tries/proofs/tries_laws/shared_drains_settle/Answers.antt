@@ -1,4 +1,4 @@
-use Rattle.settle_tries.proofs.Tries.Trying.{shared_drains_settle}
+use Rattle.settle_tries.proofs.Few.Trying.{shared_drains_settle}
 use Rattle.settle_tries.proofs.tries_laws.shared_drains_settle.Goals as goal
 
 -- drains end settled

@@ -15,9 +15,9 @@ use Rattle.worker_core.specs.declared.task.Task.TheVariants as tasks
 use Rattle.worker_core.specs.Tasks.{IsPodFirst, task_call}
 use Rattle.settle_due.proofs.Scheduling.Firsts.{begun_writes}
 use Rattle.settle_tries.specs.Tries.Coming.{DecidedAreForPods, IsForPod}
-use Rattle.settle_tries.proofs.Tries.Assigning.{on_rows}
-use Rattle.settle_tries.proofs.Tries.Leading.{leads_keep}
-use Rattle.settle_tries.proofs.Tries.Choosing.{Schedules, among_writes, schedules_on}
+use Rattle.settle_tries.proofs.Quiet.Assigning.{on_rows}
+use Rattle.settle_tries.proofs.Slots.Leading.{leads_keep}
+use Rattle.settle_tries.proofs.Search.Choosing.{Schedules, among_writes, schedules_on}
 
 pub decided_are_for_pods : DecidedAreForPods
 decided_are_for_pods setup seat role h g u kind i = by_task i.first.task refl rows_say

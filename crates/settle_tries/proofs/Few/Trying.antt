@@ -49,16 +49,16 @@ use Rattle.settle_tries.specs.Tries.Quiet.{AreCached, IsQuietRound, OnlyPrepares
 use Rattle.settle_tries.specs.Tries.Waiting.{IsTried, WaitingAreTried, WasTried}
 use Rattle.settle_tries.specs.Tries.Going.{SearchesGoOn}
 use Rattle.settle_tries.specs.Tries.Trying.{QuietRoundsAreFew, SharedDrainsSettle}
-use Rattle.settle_tries.proofs.Tries.Waiting.{waiting_are_tried}
+use Rattle.settle_tries.proofs.Search.Waiting.{waiting_are_tried}
 use Rattle.settle_budget.proofs.Drains.Measured.{measured_drains_settle}
-use Rattle.settle_tries.proofs.Tries.Going.{searches_go_on}
-use Rattle.settle_tries.proofs.Tries.Caching.{rounds_cache}
-use Rattle.settle_tries.proofs.Tries.Counting.{at_most, few_nodes, one_tried, roles_have, tries_there, turn_length}
+use Rattle.settle_tries.proofs.Few.Going.{searches_go_on}
+use Rattle.settle_tries.proofs.Slots.Caching.{rounds_cache}
+use Rattle.settle_tries.proofs.Few.Counting.{at_most, few_nodes, one_tried, roles_have, tries_there, turn_length}
 use Rattle.settle_write_counts.proofs.Scheduler.Begun.{counted as mapped_length}
-use Rattle.settle_tries.proofs.Tries.Moving.{in_order_before}
-use Rattle.settle_tries.proofs.Tries.Points.{near_ahead, near_behind}
-use Rattle.settle_tries.proofs.Tries.Quiet.{quiet_rounds_end}
-use Rattle.settle_tries.proofs.Tries.Sharing.{rounds_share_well}
+use Rattle.settle_tries.proofs.Moves.Moving.{in_order_before}
+use Rattle.settle_tries.proofs.Moves.Points.{near_ahead, near_behind}
+use Rattle.settle_tries.proofs.Quiet.Quiet.{quiet_rounds_end}
+use Rattle.settle_tries.proofs.Moves.Sharing.{rounds_share_well}
 
 -- ---- nodes
 

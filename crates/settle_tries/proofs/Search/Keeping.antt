@@ -37,9 +37,9 @@ use Rattle.settle_pays.specs.Pays.Pays.{HavePaid}
 use Rattle.settle_budget.specs.Drains.Budget.{AreAlwaysInOrder}
 use Rattle.settle_budget.specs.Drains.Measured.{SharesWell}
 use Rattle.settle_tries.specs.Tries.Deciding.{IsWithin}
-use Rattle.settle_tries.proofs.Tries.Points.{near_behind, run_within}
-use Rattle.settle_tries.proofs.Tries.Calling.{IsBinding, IsPlacing, calls_are, decided_within, own_claim}
-use Rattle.settle_tries.proofs.Tries.Walking.{Calls, EntrySo, Reads}
+use Rattle.settle_tries.proofs.Moves.Points.{near_behind, run_within}
+use Rattle.settle_tries.proofs.Search.Calling.{IsBinding, IsPlacing, calls_are, decided_within, own_claim}
+use Rattle.settle_tries.proofs.Slots.Walking.{Calls, EntrySo, Reads}
 
 -- ---- an entry writes one row
 

@@ -36,8 +36,8 @@ use Rattle.pod_scheduler.specs.Tries.{is_refusal, node_selected_for, see_all, se
 use Rattle.pod_scheduler.specs.TryLaw.{Selecting}
 use Rattle.safety_law.specs.Invariant.Writes.{EffectOf, Writes}
 use Rattle.safety_law.proofs.Invariant.Effects.{effect_form}
-use Rattle.settle_tries.proofs.Tries.Memory.{Stands, all_stay, select_finds, select_stands, uid_same}
-use Rattle.settle_tries.proofs.Tries.Told.{IsPut, done_version, never_newer, row_step, stood_low}
+use Rattle.settle_tries.proofs.Memory.Memory.{Stands, all_stay, select_finds, select_stands, uid_same}
+use Rattle.settle_tries.proofs.Memory.Told.{IsPut, done_version, never_newer, row_step, stood_low}
 use Rattle.settle_budget.proofs.Drains.Static.{stood_still as stood_grows}
 use Rattle.settle_slot.proofs.Slot.Slots.{older as older_history}
 

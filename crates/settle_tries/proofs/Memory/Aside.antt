@@ -51,18 +51,18 @@ use Rattle.settle_tries.specs.Tries.Coming.{IsCallOf}
 use Rattle.settle_tries.specs.Tries.Deciding.{IsWithin}
 use Rattle.settle_tries.specs.Tries.Moving.{MovesBy, StoodSo}
 use Rattle.settle_tries.specs.Tries.Quiet.{AreCached, IsQuietRound, OnlyPrepares}
-use Rattle.settle_tries.proofs.Tries.Coming.{lasting_are_decided}
-use Rattle.settle_tries.proofs.Tries.Moving.{AreOfKind, entries_move_nodes, one_node_so, paid_split, stood_alike}
-use Rattle.settle_tries.proofs.Tries.Parts.{HasParts, rest_of_roles}
-use Rattle.settle_tries.proofs.Tries.Points.{IsQuietAt, near_ahead, order_within, quiet_at, run_kinds, run_within}
-use Rattle.settle_tries.proofs.Tries.Quiet.{all_paid, is_scheduler, scheduler_idle, stands_alike, stays_up}
-use Rattle.settle_tries.proofs.Tries.Calling.{IsPlacing, calls_are, decided_within}
-use Rattle.settle_tries.proofs.Tries.Open.{each_in, open_is_other}
+use Rattle.settle_tries.proofs.Slots.Coming.{lasting_are_decided}
+use Rattle.settle_tries.proofs.Moves.Moving.{AreOfKind, entries_move_nodes, one_node_so, paid_split, stood_alike}
+use Rattle.settle_tries.proofs.Moves.Parts.{HasParts, rest_of_roles}
+use Rattle.settle_tries.proofs.Moves.Points.{IsQuietAt, near_ahead, order_within, quiet_at, run_kinds, run_within}
+use Rattle.settle_tries.proofs.Quiet.Quiet.{all_paid, is_scheduler, scheduler_idle, stands_alike, stays_up}
+use Rattle.settle_tries.proofs.Search.Calling.{IsPlacing, calls_are, decided_within}
+use Rattle.settle_tries.proofs.Search.Open.{each_in, open_is_other}
 use Rattle.settle_tries.specs.Tries.Waiting.{IsSlotOf}
-use Rattle.settle_tries.proofs.Tries.Near.{other_near}
-use Rattle.settle_tries.proofs.Tries.Selected.{Updates, scheduler_updates}
-use Rattle.settle_tries.proofs.Tries.Slot.{first_kind, not_so, parts_with, slot_run, slot_within}
-use Rattle.settle_tries.proofs.Tries.Told.{IsPut, row_step}
+use Rattle.settle_tries.proofs.Moves.Near.{other_near}
+use Rattle.settle_tries.proofs.Memory.Selected.{Updates, scheduler_updates}
+use Rattle.settle_tries.proofs.Memory.Slot.{first_kind, not_so, parts_with, slot_run, slot_within}
+use Rattle.settle_tries.proofs.Memory.Told.{IsPut, row_step}
 
 -- ---- the kinds of those behind the scheduler
 

@@ -74,15 +74,15 @@ use Rattle.settle_alike.proofs.Near.Serving.{carrier_rest}
 use Rattle.settle_alike.proofs.Near.Steps.{is_searching}
 use Rattle.settle_progress.proofs.Drains.Rounds.{is_agent, not_agent}
 use Rattle.settle_tries.specs.Tries.Deciding.{IsWithin}
-use Rattle.settle_tries.proofs.Tries.Points.{near_behind, run_within}
-use Rattle.settle_tries.proofs.Tries.Calling.{IsChosen, is_chosen, pods_claims, pods_namespace, pods_waiting, takes_none}
-use Rattle.settle_tries.proofs.Tries.Choosing.{Binds, BindsPod, Chosen, IsSearched, TakesVolumes}
-use Rattle.settle_tries.proofs.Tries.Choosing.{Searches as SearchesOne}
-use Rattle.settle_tries.proofs.Tries.Keeping.{RowsStay, StayUpTo, keep, stay_here}
-use Rattle.settle_tries.proofs.Tries.Open.{HasOpen, IsNamed, all_at, named_in, open_is_other, open_of, open_waits, other_of}
-use Rattle.settle_tries.proofs.Tries.Walking.{Asked, EntrySo, IsDropped, IsTakenUp, OnRun, walks}
-use Rattle.settle_tries.proofs.Tries.Writing.{EndsAt, NodeAt, through}
-use Rattle.settle_tries.proofs.Tries.Deciding.{cached_waits}
+use Rattle.settle_tries.proofs.Moves.Points.{near_behind, run_within}
+use Rattle.settle_tries.proofs.Search.Calling.{IsChosen, is_chosen, pods_claims, pods_namespace, pods_waiting, takes_none}
+use Rattle.settle_tries.proofs.Search.Choosing.{Binds, BindsPod, Chosen, IsSearched, TakesVolumes}
+use Rattle.settle_tries.proofs.Search.Choosing.{Searches as SearchesOne}
+use Rattle.settle_tries.proofs.Search.Keeping.{RowsStay, StayUpTo, keep, stay_here}
+use Rattle.settle_tries.proofs.Search.Open.{HasOpen, IsNamed, all_at, named_in, open_is_other, open_of, open_waits, other_of}
+use Rattle.settle_tries.proofs.Slots.Walking.{Asked, EntrySo, IsDropped, IsTakenUp, OnRun, walks}
+use Rattle.settle_tries.proofs.Search.Writing.{EndsAt, NodeAt, through}
+use Rattle.settle_tries.proofs.Slots.Deciding.{cached_waits}
 
 -- ---- words that are the same in worlds that are near
 

@@ -33,13 +33,13 @@ use Rattle.settle_tries.specs.Tries.Deciding.{IsWithin}
 use Rattle.settle_tries.specs.Tries.Moving.{MovesNodes, StoodSo}
 use Rattle.settle_tries.specs.Tries.Quiet.{AreCached, IsQuietRound, OnlyPrepares}
 use Rattle.settle_tries.specs.Tries.Taking.{HasNone, IsGiven, IsWritten}
-use Rattle.settle_tries.proofs.Tries.Giving.{taken_were_given}
-use Rattle.settle_tries.proofs.Tries.Moving.{one_node_so}
-use Rattle.settle_tries.proofs.Tries.Points.{HaveKind, IsQuietAt, moves_behind, near_ahead, near_behind, order_within, quiet_at, run_kinds, run_within}
-use Rattle.settle_tries.proofs.Tries.Calling.{IsPlacing, calls_are, decided_within, own_claim, pods_claims, pods_namespace, pods_waiting}
-use Rattle.settle_tries.proofs.Tries.Keeping.{bind_keeps, place_keeps}
-use Rattle.settle_tries.proofs.Tries.Open.{HasOpen, open_of, open_waits}
-use Rattle.settle_tries.proofs.Tries.Searching.{carrier_near, completed_near, due_open, named_there}
+use Rattle.settle_tries.proofs.Quiet.Giving.{taken_were_given}
+use Rattle.settle_tries.proofs.Moves.Moving.{one_node_so}
+use Rattle.settle_tries.proofs.Moves.Points.{HaveKind, IsQuietAt, moves_behind, near_ahead, near_behind, order_within, quiet_at, run_kinds, run_within}
+use Rattle.settle_tries.proofs.Search.Calling.{IsPlacing, calls_are, decided_within, own_claim, pods_claims, pods_namespace, pods_waiting}
+use Rattle.settle_tries.proofs.Search.Keeping.{bind_keeps, place_keeps}
+use Rattle.settle_tries.proofs.Search.Open.{HasOpen, open_of, open_waits}
+use Rattle.settle_tries.proofs.Search.Searching.{carrier_near, completed_near, due_open, named_there}
 
 -- ---- a claim that has no node behind some writes of the scheduler had none before
 

@@ -57,12 +57,12 @@ use Rattle.settle_alike.proofs.Near.Near.{ClaimNear, PodNear, claim_near, one_re
 use Rattle.settle_alike.proofs.Near.Rows.{delayed_at_rest}
 use Rattle.settle_tries.specs.Tries.Coming.{IsDecidedIn}
 use Rattle.settle_tries.specs.Tries.Deciding.{IsWithin}
-use Rattle.settle_tries.proofs.Tries.Assigning.{begins_schedule}
-use Rattle.settle_tries.proofs.Tries.ForPods.{decided_are_for_pods}
-use Rattle.settle_tries.proofs.Tries.Leading.{leads_keep, leads_more}
-use Rattle.settle_tries.proofs.Tries.Points.{run_within, worth_none}
-use Rattle.settle_tries.proofs.Tries.Choosing.{Binds, Chosen, IsSearched, Schedules, Searches, TakesVolumes, among_writes, begun_first, chosen, first_write, schedules_on}
-use Rattle.settle_tries.proofs.Tries.Open.{IsNamed, each_in, others_named}
+use Rattle.settle_tries.proofs.Quiet.Assigning.{begins_schedule}
+use Rattle.settle_tries.proofs.Slots.ForPods.{decided_are_for_pods}
+use Rattle.settle_tries.proofs.Slots.Leading.{leads_keep, leads_more}
+use Rattle.settle_tries.proofs.Moves.Points.{run_within, worth_none}
+use Rattle.settle_tries.proofs.Search.Choosing.{Binds, Chosen, IsSearched, Schedules, Searches, TakesVolumes, among_writes, begun_first, chosen, first_write, schedules_on}
+use Rattle.settle_tries.proofs.Search.Open.{IsNamed, each_in, others_named}
 
 -- ---- lists
 

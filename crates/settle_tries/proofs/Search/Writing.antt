@@ -31,7 +31,7 @@ use Rattle.settle_pays.proofs.Actors.Standing.{none_has_left}
 use Rattle.settle_slot.specs.Slot.Slots.{own_entry}
 use Rattle.settle_due.specs.Scheduling.Writes.{placing}
 use Rattle.settle_due.proofs.Scheduling.Placing.{AreFrom, at_from, at_place, comes_to, goes_on, later_from, others_stay, placed, staying, still_stand}
-use Rattle.settle_tries.proofs.Tries.Walking.{Asked, OnRun, asked_next}
+use Rattle.settle_tries.proofs.Slots.Walking.{Asked, OnRun, asked_next}
 
 module _ (setup : Setup) (seat : ℕ) (role : Role) (kind : role.kind ≡ seats.Scheduler) (key : Key) (pass : ImportsPass setup.imports) (name : List ℕ) where
   -- the claim stands there with the node

@@ -57,12 +57,12 @@ use Rattle.settle_tries.specs.Tries.Coming.{IsCallOf}
 use Rattle.settle_tries.specs.Tries.Deciding.{IsWithin}
 use Rattle.settle_tries.specs.Tries.Moving.{MovesNodes, StoodSo}
 use Rattle.settle_tries.specs.Tries.Taking.{TakenWereDue}
-use Rattle.settle_tries.proofs.Tries.Coming.{lasting_are_decided}
-use Rattle.settle_tries.proofs.Tries.Leading.{HasMore, goes_on, leads_keep, leads_more}
-use Rattle.settle_tries.proofs.Tries.Moving.{one_node_so}
-use Rattle.settle_tries.proofs.Tries.Ops.{ErasesIt, ProvidesFor, begins_for, begins_on, decides_on, erases_it, erases_on, erases_worth, others_stay, provides_on, provides_worth}
-use Rattle.settle_tries.proofs.Tries.Points.{HaveKind, moves_behind, near_ahead, order_within, run_kinds, run_within, worth_none}
-use Rattle.settle_tries.proofs.Tries.Quiet.{stands_alike}
+use Rattle.settle_tries.proofs.Slots.Coming.{lasting_are_decided}
+use Rattle.settle_tries.proofs.Slots.Leading.{HasMore, goes_on, leads_keep, leads_more}
+use Rattle.settle_tries.proofs.Moves.Moving.{one_node_so}
+use Rattle.settle_tries.proofs.Quiet.Ops.{ErasesIt, ProvidesFor, begins_for, begins_on, decides_on, erases_it, erases_on, erases_worth, others_stay, provides_on, provides_worth}
+use Rattle.settle_tries.proofs.Moves.Points.{HaveKind, moves_behind, near_ahead, order_within, run_kinds, run_within, worth_none}
+use Rattle.settle_tries.proofs.Quiet.Quiet.{stands_alike}
 
 -- ---- no node is taken back once data were given
 

@@ -42,7 +42,7 @@ use Rattle.pod_scheduler.specs.Decisions.{is_tried_for}
 use Rattle.pod_scheduler.specs.Tries.{is_other_node, is_refusal, is_try_of, node_selected_for, see_all, tried_of, tries_after, tries_of}
 use Rattle.pod_scheduler.specs.TryLaw.{HasNode, Selecting, Selects}
 use Rattle.pod_scheduler.proofs.Tried.{selected_were_selected}
-use Rattle.settle_tries.proofs.Tries.Memory.{Holds, Spares, all_keeps, all_spare, found_for, select_finds, tells_hold}
+use Rattle.settle_tries.proofs.Memory.Memory.{Holds, Spares, all_keeps, all_spare, found_for, select_finds, tells_hold}
 
 -- ---- what stood under a key is no newer than what stands there
 

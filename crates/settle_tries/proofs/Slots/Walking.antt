@@ -47,7 +47,7 @@ use Rattle.settle_writes.proofs.Done.Doing.{write_asked}
 use Rattle.settle_write_counts.proofs.Rounds.Slots.{ComesTo, Leaves, Wrote, comes_to}
 use Rattle.settle_slot.specs.Slot.Would.{Here}
 use Rattle.settle_tries.specs.Tries.Coming.{IsCallOf, IsDecidedIn}
-use Rattle.settle_tries.proofs.Tries.Coming.{leads_on}
+use Rattle.settle_tries.proofs.Slots.Coming.{leads_on}
 
 -- ---- the calls of a slot of the scheduler, by the key for which they are made
 

@@ -73,7 +73,7 @@ use Rattle.settle_calls.specs.Passes.Passes.{KindsHaveReached}
 use Rattle.informer_cache.specs.Cache.{watch_from}
 use Rattle.model_laws.proofs.Uids.{rises}
 use Rattle.model_laws.proofs.Truths.{entry_stood}
-use Rattle.settle_tries.proofs.Tries.Moving.{one_node_so}
+use Rattle.settle_tries.proofs.Moves.Moving.{one_node_so}
 use Rattle.std.proofs.lemmas.List.{append_cancel_right}
 use Rattle.std.proofs.lemmas.Slice.Eq.{bytes_eq-Decides}
 use Rattle.settle_writes.specs.Writes.Lasting.{content_of}
@@ -85,15 +85,15 @@ use Rattle.settle_progress.proofs.Drains.Rounds.{is_agent, not_agent}
 use Rattle.settle_tries.specs.Tries.Deciding.{IsWithin}
 use Rattle.settle_tries.specs.Tries.Quiet.{AreCached, IsQuietRound, OnlyPrepares}
 use Rattle.settle_tries.specs.Tries.Waiting.{IsSlotOf, WasTried}
-use Rattle.settle_tries.proofs.Tries.Open.{HasOpen, open_is_other, open_of}
+use Rattle.settle_tries.proofs.Search.Open.{HasOpen, open_is_other, open_of}
 use Rattle.settle_tries.specs.Tries.Going.{SearchesGoOn}
-use Rattle.settle_tries.proofs.Tries.Memory.{Holds, Stands}
-use Rattle.settle_tries.proofs.Tries.Aside.{keeps, slot_so}
-use Rattle.settle_tries.proofs.Tries.Near.{other_near}
-use Rattle.settle_tries.proofs.Tries.Reaching.{AllLate, HaveLate, TellsLate, late_at, slot_late, slot_reaches}
-use Rattle.settle_tries.proofs.Tries.Slot.{first_kind, own_same, point_run, slot_ahead, slot_behind, slot_run, slot_stands, slot_told, slot_within}
+use Rattle.settle_tries.proofs.Memory.Memory.{Holds, Stands}
+use Rattle.settle_tries.proofs.Memory.Aside.{keeps, slot_so}
+use Rattle.settle_tries.proofs.Moves.Near.{other_near}
+use Rattle.settle_tries.proofs.Memory.Reaching.{AllLate, HaveLate, TellsLate, late_at, slot_late, slot_reaches}
+use Rattle.settle_tries.proofs.Memory.Slot.{first_kind, own_same, point_run, slot_ahead, slot_behind, slot_run, slot_stands, slot_told, slot_within}
 use Rattle.settle_slot.proofs.Slot.Slots.{older as older_history}
-use Rattle.settle_tries.proofs.Tries.Told.{Passes, done_version, run_holds, sees_node, stood_where, tried_back}
+use Rattle.settle_tries.proofs.Memory.Told.{Passes, done_version, run_holds, sees_node, stood_where, tried_back}
 use Rattle.settle_budget.proofs.Drains.Static.{stood_still as stood_grows}
 use Rattle.delayed_binding.proofs.Known.{claim_of_row as row_of_claim}
 use Rattle.safety_law.proofs.Invariant.Tests.{uid_is as uid_found}

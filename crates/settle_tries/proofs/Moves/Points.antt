@@ -21,7 +21,7 @@ use Rattle.settle_budget.specs.Drains.Budget.{AreAlwaysInOrder}
 use Rattle.settle_alike.specs.Near.Near.{AreNear}
 use Rattle.settle_tries.specs.Tries.Deciding.{IsWithin}
 use Rattle.settle_tries.specs.Tries.Moving.{MovesBy}
-use Rattle.settle_tries.proofs.Tries.Moving.{AreOfKind, in_order_before, kind_moves, paid_leave_near, paid_split, worth_falls}
+use Rattle.settle_tries.proofs.Moves.Moving.{AreOfKind, in_order_before, kind_moves, paid_leave_near, paid_split, worth_falls}
 use Rattle.std.proofs.lemmas.List.{append_cancel_right}
 use Rattle.worker_core.specs.declared.role.Role.{Role}
 

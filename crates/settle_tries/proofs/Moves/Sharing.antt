@@ -71,8 +71,8 @@ use Rattle.settle_write_counts.proofs.Rounds.Runs.{IsCalled, run_moves}
 use Rattle.settle_write_counts.proofs.Rounds.Slots.{ComesTo, Leaves, Wrote, comes_to}
 use Rattle.settle_budget.specs.Drains.Measured.{SharesWell, WaitingPodNames, is_immediate}
 use Rattle.settle_tries.specs.Tries.Sharing.{KeepsSharing, RoundsShareWell, StoodOpen, WaitedSo}
-use Rattle.settle_tries.proofs.Tries.Moving.{Rewrites, rewrites}
-use Rattle.settle_tries.proofs.Tries.Standing.{creates, makes}
+use Rattle.settle_tries.proofs.Moves.Moving.{Rewrites, rewrites}
+use Rattle.settle_tries.proofs.Moves.Standing.{creates, makes}
 use Rattle.settle_write_counts.proofs.Rounds.Made.{no_edit}
 use Rattle.settle_writes.specs.Writes.Valid.{IsValid}
 use Rattle.binder_model.specs.Fields.{create_fault, faulty, kind_fault}

@@ -34,11 +34,11 @@ use Rattle.settle_alike.proofs.Near.Near.{claim_near, near_provisions}
 use Rattle.settle_tries.specs.Tries.Deciding.{IsWithin}
 use Rattle.settle_tries.specs.Tries.Quiet.{AreCached, IsQuietRound, OnlyPrepares}
 use Rattle.settle_tries.specs.Tries.Taking.{HasNone, IsGiven, IsWritten, TakenWereGiven}
-use Rattle.settle_tries.proofs.Tries.Coming.{lasting_are_decided}
-use Rattle.settle_tries.proofs.Tries.Moving.{one_node_so}
-use Rattle.settle_tries.proofs.Tries.Parts.{HasParts, parts_of}
-use Rattle.settle_tries.proofs.Tries.Points.{near_ahead, order_within, run_within}
-use Rattle.settle_tries.proofs.Tries.Quiet.{
+use Rattle.settle_tries.proofs.Slots.Coming.{lasting_are_decided}
+use Rattle.settle_tries.proofs.Moves.Moving.{one_node_so}
+use Rattle.settle_tries.proofs.Moves.Parts.{HasParts, parts_of}
+use Rattle.settle_tries.proofs.Moves.Points.{near_ahead, order_within, run_within}
+use Rattle.settle_tries.proofs.Quiet.Quiet.{
   all_paid,
   at_first,
   at_second,
@@ -55,7 +55,7 @@ use Rattle.settle_tries.proofs.Tries.Quiet.{
   stays_up,
   tail_alike,
 }
-use Rattle.settle_tries.proofs.Tries.Taking.{StandsThere, claim_in, taken_were_due}
+use Rattle.settle_tries.proofs.Quiet.Taking.{StandsThere, claim_in, taken_were_due}
 
 -- ---- the entry that changes a claim
 

@@ -44,16 +44,16 @@ use Rattle.settle_progress.proofs.Drains.Rounds.{is_agent, not_agent}
 use Rattle.settle_budget.proofs.Drains.Counting.{settles_next}
 use Rattle.settle_tries.specs.Tries.Deciding.{IsWithin}
 use Rattle.settle_tries.specs.Tries.Quiet.{AreCached, IsQuietRound, OnlyPrepares}
-use Rattle.settle_tries.proofs.Tries.Caching.{sees_at_end}
-use Rattle.settle_tries.proofs.Tries.Moving.{AreOfKind, one_node_so}
-use Rattle.settle_tries.proofs.Tries.Parts.{HasParts, HasSlot, IsAny, rest_of_roles, role_or, roles_behind}
-use Rattle.settle_tries.proofs.Tries.Points.{near_ahead, near_behind, run_kinds, run_within}
-use Rattle.settle_tries.proofs.Tries.Quiet.{all_paid, at_first, at_second, near_first, ops_idle, ops_paid, ops_stays, second_order, second_run, stands_alike, stays_up, tail_alike}
-use Rattle.settle_tries.proofs.Tries.Giving.{none_due}
-use Rattle.settle_tries.proofs.Tries.Taking.{taken_were_due}
+use Rattle.settle_tries.proofs.Slots.Caching.{sees_at_end}
+use Rattle.settle_tries.proofs.Moves.Moving.{AreOfKind, one_node_so}
+use Rattle.settle_tries.proofs.Moves.Parts.{HasParts, HasSlot, IsAny, rest_of_roles, role_or, roles_behind}
+use Rattle.settle_tries.proofs.Moves.Points.{near_ahead, near_behind, run_kinds, run_within}
+use Rattle.settle_tries.proofs.Quiet.Quiet.{all_paid, at_first, at_second, near_first, ops_idle, ops_paid, ops_stays, second_order, second_run, stands_alike, stays_up, tail_alike}
+use Rattle.settle_tries.proofs.Quiet.Giving.{none_due}
+use Rattle.settle_tries.proofs.Quiet.Taking.{taken_were_due}
 use Rattle.settle_tries.specs.Tries.Waiting.{IsSlotOf}
-use Rattle.settle_tries.proofs.Tries.Memory.{Stands}
-use Rattle.settle_tries.proofs.Tries.Selected.{WasPut, stands_selected, was_put}
+use Rattle.settle_tries.proofs.Memory.Memory.{Stands}
+use Rattle.settle_tries.proofs.Memory.Selected.{WasPut, stands_selected, was_put}
 
 -- ---- the parts of a round whose first slot is known
 

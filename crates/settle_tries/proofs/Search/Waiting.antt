@@ -44,10 +44,10 @@ use Rattle.settle_alike.proofs.Near.Near.{ClaimNear, back_near, claim_near, stan
 use Rattle.settle_alike.proofs.Near.Serving.{IsNode, node_back}
 use Rattle.settle_tries.specs.Tries.Deciding.{IsWithin}
 use Rattle.settle_tries.specs.Tries.Quiet.{AreCached, IsQuietRound, OnlyPrepares, decides_kind}
-use Rattle.settle_tries.proofs.Tries.Moving.{one_node_so}
-use Rattle.settle_tries.proofs.Tries.Parts.{HasParts, parts_of}
-use Rattle.settle_tries.proofs.Tries.Points.{IsQuietAt, near_ahead, order_within, run_within}
-use Rattle.settle_tries.proofs.Tries.Quiet.{
+use Rattle.settle_tries.proofs.Moves.Moving.{one_node_so}
+use Rattle.settle_tries.proofs.Moves.Parts.{HasParts, parts_of}
+use Rattle.settle_tries.proofs.Moves.Points.{IsQuietAt, near_ahead, order_within, run_within}
+use Rattle.settle_tries.proofs.Quiet.Quiet.{
   all_paid,
   at_first,
   at_second,
@@ -64,13 +64,13 @@ use Rattle.settle_tries.proofs.Tries.Quiet.{
   stays_up,
   tail_alike,
 }
-use Rattle.settle_tries.proofs.Tries.Taking.{taken_were_due}
+use Rattle.settle_tries.proofs.Quiet.Taking.{taken_were_due}
 use Rattle.settle_tries.specs.Tries.Waiting.{IsTried, WaitingAreTried, WasTried}
-use Rattle.settle_tries.proofs.Tries.Open.{IsNamed, open_is_other, other_of}
-use Rattle.settle_tries.proofs.Tries.Searching.{HasSearched, carrier_near, completed_near, has_searched}
-use Rattle.settle_tries.proofs.Tries.Served.{IsServedOn, each_served, served_near, unserved}
-use Rattle.settle_tries.proofs.Tries.Starting.{HasWaited, has_waited}
-use Rattle.settle_tries.proofs.Tries.Calling.{pods_claims, pods_namespace}
+use Rattle.settle_tries.proofs.Search.Open.{IsNamed, open_is_other, other_of}
+use Rattle.settle_tries.proofs.Search.Searching.{HasSearched, carrier_near, completed_near, has_searched}
+use Rattle.settle_tries.proofs.Search.Served.{IsServedOn, each_served, served_near, unserved}
+use Rattle.settle_tries.proofs.Search.Starting.{HasWaited, has_waited}
+use Rattle.settle_tries.proofs.Search.Calling.{pods_claims, pods_namespace}
 
 -- a claim that needs a volume is neither completed nor carried
 other_parts : (rows : List Object) (c : ClaimData) → is_other rows c ≡ true → (is_completed c ≡ false) × (has_carrier rows c ≡ false)

@@ -67,11 +67,11 @@ use Rattle.settle_alike.proofs.Near.Annotations.{class_rest}
 use Rattle.settle_alike.proofs.Near.Near.{ClassNear, back_near, claim_near, class_near, near_immediates, near_provisions, one_rest_claim, rest_content, volume_near}
 use Rattle.settle_tries.specs.Tries.Deciding.{IsActedOn, IsWithin}
 use Rattle.settle_tries.specs.Tries.Moving.{MovesNodes, StoodSo}
-use Rattle.settle_tries.proofs.Tries.Deciding.{cached_are_decided}
-use Rattle.settle_tries.proofs.Tries.Moving.{one_node_so}
-use Rattle.settle_tries.proofs.Tries.Points.{HaveKind, moves_ahead, order_within, run_kinds, run_within, worth_none}
+use Rattle.settle_tries.proofs.Slots.Deciding.{cached_are_decided}
+use Rattle.settle_tries.proofs.Moves.Moving.{one_node_so}
+use Rattle.settle_tries.proofs.Moves.Points.{HaveKind, moves_ahead, order_within, run_kinds, run_within, worth_none}
 use Rattle.reclaim_ops.specs.Provisions.{unselected}
-use Rattle.settle_tries.proofs.Tries.Moving.{clears, node_is}
+use Rattle.settle_tries.proofs.Moves.Moving.{clears, node_is}
 use Rattle.model_laws.proofs.Identity.{key-updated}
 use Rattle.binder_model.specs.Told.{own}
 use Rattle.binder_model.specs.Licence.{Licensed}
@@ -89,7 +89,7 @@ use Rattle.binder_model.specs.World.{reply_to, world_after}
 use Rattle.worker_core.specs.declared.role.Role.{Role}
 use Rattle.std.specs.Prelude.{⊤}
 use Rattle.settle_progress.proofs.Drains.Rounds.{is_agent, not_agent}
-use Rattle.settle_tries.proofs.Tries.Leading.{HasMore, goes_on, leads_keep, leads_more}
+use Rattle.settle_tries.proofs.Slots.Leading.{HasMore, goes_on, leads_keep, leads_more}
 use Rattle.settle_budget.proofs.Drains.Entries.{moves_by}
 
 -- ---- of a claim

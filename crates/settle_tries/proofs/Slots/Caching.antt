@@ -26,8 +26,8 @@ use Rattle.actor_rounds.proofs.RunFacts.{turn_memory, turned_whole}
 use Rattle.worker_core.proofs.Answered.{turn_role}
 use Rattle.settle_slot.specs.Slot.Slots.{SeesStore}
 use Rattle.settle_slot.proofs.Slot.Slots.{passed_see_the_store}
-use Rattle.settle_tries.proofs.Tries.Standing.{MakeNone, StandsIn, makes, round_stood, slot_stood}
-use Rattle.settle_tries.proofs.Tries.Parts.{HasParts, parts_of, roles_behind}
+use Rattle.settle_tries.proofs.Moves.Standing.{MakeNone, StandsIn, makes, round_stood, slot_stood}
+use Rattle.settle_tries.proofs.Moves.Parts.{HasParts, parts_of, roles_behind}
 use Rattle.settle_tries.specs.Tries.Quiet.{RoundsCache, decides_kind}
 use Rattle.settle_alike.proofs.Alike.Rows.{get_mapped}
 use Rattle.settle_progress.proofs.Epochs.Silent.{older_run}

@@ -67,12 +67,12 @@ use Rattle.settle_alike.specs.Near.Near.{AreNear}
 use Rattle.settle_alike.proofs.Near.Near.{back_near, near_assigns, pod_near, stands_near, waiting_due}
 use Rattle.settle_tries.specs.Tries.Deciding.{IsWithin}
 use Rattle.settle_tries.specs.Tries.Quiet.{AreCached, IsQuietRound, OnlyPrepares, PreparesPod, QuietRoundsEnd, QuietRoundsLeaveNear, decides_kind}
-use Rattle.settle_tries.proofs.Tries.Behind.{IsBehind, due_behind}
-use Rattle.settle_tries.proofs.Tries.Moving.{AreOfKind, paid_leave_near, paid_split}
-use Rattle.settle_tries.proofs.Tries.Ops.{no_provision, no_reclaim}
-use Rattle.settle_tries.proofs.Tries.Parts.{HasParts, parts_of, roles_behind}
-use Rattle.settle_tries.proofs.Tries.Points.{order_within, quiet_at, run_kinds, run_within}
-use Rattle.settle_tries.proofs.Tries.Points.{near_behind}
+use Rattle.settle_tries.proofs.Quiet.Behind.{IsBehind, due_behind}
+use Rattle.settle_tries.proofs.Moves.Moving.{AreOfKind, paid_leave_near, paid_split}
+use Rattle.settle_tries.proofs.Quiet.Ops.{no_provision, no_reclaim}
+use Rattle.settle_tries.proofs.Moves.Parts.{HasParts, parts_of, roles_behind}
+use Rattle.settle_tries.proofs.Moves.Points.{order_within, quiet_at, run_kinds, run_within}
+use Rattle.settle_tries.proofs.Moves.Points.{near_behind}
 use Rattle.settle_progress.specs.Epochs.Awake.{IsAwake}
 use Rattle.settle_budget.specs.Nodes.Nodes.{WasGiven}
 use Rattle.binder_model.specs.Told.{own}
@@ -80,8 +80,8 @@ use Rattle.actor_rounds.specs.Drainers.{IsStanding}
 use Rattle.settle_slot.proofs.Slot.Slots.{memory_awake}
 use Rattle.std.specs.Prelude.{map}
 use Rattle.std.proofs.Common.{if◌then◌else◌}
-use Rattle.settle_tries.proofs.Tries.Points.{IsQuietAt, near_ahead}
-use Rattle.settle_tries.proofs.Tries.Assigning.{no_assign}
+use Rattle.settle_tries.proofs.Moves.Points.{IsQuietAt, near_ahead}
+use Rattle.settle_tries.proofs.Quiet.Assigning.{no_assign}
 use Rattle.settle_progress.proofs.Drains.Drained.{no_agent as not_agents}
 
 -- ---- the entries behind ops are worth something where they last

@@ -57,9 +57,9 @@ use Rattle.settle_budget.specs.Drains.Budget.{AreAlwaysInOrder}
 use Rattle.settle_alike.proofs.Near.Near.{PodNear, back_near, near_assigns, pod_near}
 use Rattle.settle_progress.proofs.Drains.Rounds.{is_agent, not_agent}
 use Rattle.settle_tries.specs.Tries.Deciding.{IsActedOn, IsWithin}
-use Rattle.settle_tries.proofs.Tries.Deciding.{cached_are_decided}
-use Rattle.settle_tries.proofs.Tries.Leading.{goes_on, leads_keep, leads_more}
-use Rattle.settle_tries.proofs.Tries.Points.{near_ahead, worth_none}
+use Rattle.settle_tries.proofs.Slots.Deciding.{cached_are_decided}
+use Rattle.settle_tries.proofs.Slots.Leading.{goes_on, leads_keep, leads_more}
+use Rattle.settle_tries.proofs.Moves.Points.{near_ahead, worth_none}
 
 -- ---- what the scheduler begins for a pod that no node runs
 

@@ -27,8 +27,8 @@ use Rattle.worker_core.specs.Tasks.{task_moved, under_after}
 use Rattle.settle_due.specs.Scheduling.Writes.{AreWritesOn, Places, Takes, placing}
 use Rattle.settle_due.proofs.Scheduling.Choosing.{IsSearch, TakesFirst, are_writes, is_assign, search_of, takes_first}
 use Rattle.settle_due.proofs.Scheduling.Firsts.{begun_writes}
-use Rattle.settle_tries.proofs.Tries.Leading.{goes_on}
-use Rattle.settle_tries.proofs.Tries.Served.{AreProvisioned, all_provisioned}
+use Rattle.settle_tries.proofs.Slots.Leading.{goes_on}
+use Rattle.settle_tries.proofs.Search.Served.{AreProvisioned, all_provisioned}
 
 -- ---- the writes of a choice
 

@@ -1,0 +1,6 @@
+pub mod Assigning
+pub mod Behind
+pub mod Giving
+pub mod Ops
+pub mod Quiet
+pub mod Taking

@@ -1,0 +1,9 @@
+pub mod Calling
+pub mod Choosing
+pub mod Keeping
+pub mod Open
+pub mod Searching
+pub mod Served
+pub mod Starting
+pub mod Waiting
+pub mod Writing
