@@ -1,4 +1,5 @@
 pub mod Alike
+pub mod Begun
 pub mod Dues
 pub mod Following
 pub mod Kept

@@ -1,3 +1,4 @@
+pub mod Begun
 pub mod Diligence
 pub mod Played
 pub mod Queues
