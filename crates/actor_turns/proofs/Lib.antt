@@ -1,4 +1,5 @@
 pub mod Calling
+pub mod Diligent
 pub mod Held
 pub mod Lived
 pub mod Lives

@@ -1,4 +1,4 @@
--- The lives of an actor as it is played: each that has ended is diligent, and each of its calls was needed.
+-- The lives of an actor: each that has ended was played by it, as the one that goes on.
 use Rattle.std.proofs.Common.{◌≡◌, ◌≢◌, ◌⊎◌, ℕ, zero, suc, ◌<◌, ◌≤◌, ◌+◌, List, [], ◌∷◌, ◌++◌, map, Bool, true, false, Some, inl, inr, refl, sym, ◌∙◌, ap, subst, arith}
 use Rattle.std.specs.Prelude.{◌==◌, ◌&&◌, is_some, nat_lt, not}
 use Rattle.std.proofs.lemmas.Bool.Decides.{Decides-eqb, nat_tests}
@@ -6,13 +6,13 @@ use Rattle.kube_objects.specs.Keys.{AreRows}
 use Rattle.call_types.specs.declared.entry.Entry.{Entry}
 use Rattle.call_types.specs.declared.request.Request.{Request}
 use Rattle.binder_model.specs.Told.{own}
-use Rattle.attention_law.specs.Diligence.{Call, IsDiligent, entries}
+use Rattle.attention_law.specs.Diligence.{Call, entries}
 use Rattle.attention_law.specs.Played.{IsPlayed, Turns}
-use Rattle.attention_law.specs.Resting.{Resumes, Starts, WasToldStale}
-use Rattle.attention_law.proofs.Following.{played_is_diligent, same_role, stands_now}
-use Rattle.attention_law.proofs.Needed.{played_is_needed, played_on}
-use Rattle.attention_law.proofs.Resting.{idle_is_done}
-use Rattle.attention_law.proofs.Silent.{played_is_silent}
+use Rattle.attention_law.specs.Begun.{begun_as}
+use Rattle.attention_law.specs.Resting.{Resumes, Starts}
+use Rattle.attention_law.proofs.Begun.{begun_new, begun_stands}
+use Rattle.attention_law.proofs.Following.{same_role, stands_now}
+use Rattle.attention_law.proofs.Needed.{played_on}
 use Rattle.informer_cache.specs.All.{all_objects}
 use Rattle.worker_core.specs.declared.role.Role.{Role}
 use Rattle.worker_core.specs.declared.turn.Next.TheVariants as nexts
@@ -26,9 +26,9 @@ use Rattle.actor_turns.specs.declared.part.Part.{Part}
 use Rattle.actor_turns.specs.Fates.{fate_of}
 use Rattle.actor_turns.specs.Parts.{lives_of}
 use Rattle.actor_turns.specs.declared.player.Player.{Player}
-use Rattle.actor_turns.specs.Calls.{AreNeededLives, AreOfLife, IsNeededLife, and_idle, is_held, leaves_entry, left_by, restarts_before, seat_at}
-use Rattle.actor_turns.specs.Diligent.{IsDiligentLife}
-use Rattle.actor_turns.specs.Steps.Living.{GoesOn, HasLasted, HasStood, LivedAll, LivedFewer, Lives, LivesIdle, Living, NeededSoFar}
+use Rattle.actor_turns.specs.Calls.{AreOfLife, and_idle, is_held, leaves_entry, left_by, restarts_before, seat_at}
+use Rattle.actor_turns.specs.Lives.{ArePlayedLives, IsPlayedLife}
+use Rattle.actor_turns.specs.Steps.Living.{GoesOn, LivedAll, LivedFewer, Lives, LivesIdle, Living, PlayedSoFar}
 use Rattle.actor_turns.specs.Steps.Playing.{AgreeTo, IsLife, IsNewPlayer, Plays, and_held}
 use Rattle.actor_turns.proofs.Lives.{seat_more, seat_within}
 use Rattle.actor_turns.proofs.Held.{agree_more, held_own, left_agree}
@@ -66,71 +66,42 @@ left_other held part seat n differs = let step : suc n ≡ n + 1 = omega arith i
 
 -- ---- lives that have ended
 
-no_calls : (later rest : List Call) (call : Call) → [] ≡ later ++ call ∷ rest → ⊥
-no_calls [] rest call is = absurd (cc)
-no_calls (x ∷ later) rest call is = absurd (cc)
-
-none_diligent : (role : Role) → IsDiligent role []
-none_diligent role kind first fourth earlier between later is four key due = absurd (no_calls later (between ++ Some first ∷ earlier) (Some fourth) is)
-
 -- a life without calls
 no_life : (held : List ℕ) (part : Part) (seat made : ℕ) (past : List Entry) → own seat past ≡ [] → seat_at part made < seat → AreOfLife held part seat made past []
 no_life held part seat made past none before = record { of_seat = sym none; left = sym (left_none held part seat made before) }
 
-needed_life : (held : List ℕ) (role : Role) (part : Part) (seat made : ℕ) (past : List Entry) (earlier : List Call) (s : ActorState)
-    → Living held role part seat made past earlier s → IsNeededLife held role part seat made past earlier
-needed_life held role part seat made past earlier s living = record {
-  since = living.since;
-  are = living.are;
-  needed = played_is_needed role s earlier living.since living.played;
-  silent = played_is_silent role s (living.since ++ earlier) (played_on role s earlier living.since living.played);
-}
-
 ended_life : (held : List ℕ) (role : Role) (part : Part) (seat made : ℕ) (past : List Entry) (earlier : List Call) (s : ActorState)
-    → IsBuiltKind role.kind → Living held role part seat made past earlier s → HasLasted held role part seat made past earlier
-ended_life held role part seat made past earlier s built living = record {
-  diligent = record { calls = living.since ++ earlier; are = living.are; diligent = played_is_diligent role s (living.since ++ earlier) built (played_on role s earlier living.since living.played) };
-  needed = needed_life held role part seat made past earlier s living;
-  stood = inr (record { actor = s; of = same_role role s (living.since ++ earlier) played; stands = subst (StandsFor s) living.are.of_seat (stands_now role s (living.since ++ earlier) played) });
-}
-  where
-    played : IsPlayed role s (living.since ++ earlier)
-    played = played_on role s earlier living.since living.played
+    → Living held role part seat made past earlier s → IsPlayedLife held role part seat made past earlier
+ended_life held role part seat made past earlier s living = record { since = living.since; are = living.are; state = s; played = living.played }
 
 -- what others do leaves it
-kept_life : (held then_held : List ℕ) (role : Role) (part : Part) (seat made then_made : ℕ) (past later : List Entry) (earlier : List Call)
+pub kept_life : (held then_held : List ℕ) (role : Role) (part : Part) (seat made then_made : ℕ) (past later : List Entry) (earlier : List Call)
     → own seat later ≡ own seat past → left_by then_held part seat then_made ≡ left_by held part seat made
-    → HasLasted held role part seat made past earlier → HasLasted then_held role part seat then_made later earlier
+    → IsPlayedLife held role part seat made past earlier → IsPlayedLife then_held role part seat then_made later earlier
 kept_life held then_held role part seat made then_made past later earlier same left life = record {
-  diligent = record {
-    calls = life.diligent.calls;
-    are = record { of_seat = life.diligent.are.of_seat ∙ sym same; left = life.diligent.are.left ∙ sym left };
-    diligent = life.diligent.diligent;
-  };
-  needed = record {
-    since = life.needed.since;
-    are = record { of_seat = life.needed.are.of_seat ∙ sym same; left = life.needed.are.left ∙ sym left };
-    needed = life.needed.needed;
-    silent = life.needed.silent;
-  };
-  stood = subst (λ mine. (mine ≡ []) ⊎ HasStood role mine) (sym same) life.stood;
+  since = life.since;
+  are = record { of_seat = life.are.of_seat ∙ sym same; left = life.are.left ∙ sym left };
+  state = life.state;
+  played = life.played;
 }
 
 -- a life that no call has reached
 unborn_life : (held : List ℕ) (role : Role) (part : Part) (seat made : ℕ) (past : List Entry) (earlier : List Call) → own seat past ≡ []
-    → seat_at part made < seat → earlier ≡ [] → HasLasted held role part seat made past earlier
-unborn_life held role part seat made past earlier none before first = record {
-  diligent = record { calls = []; are = no_life held part seat made past none before; diligent = none_diligent role };
-  needed = subst (IsNeededLife held role part seat made past) (sym first) (record { since = []; are = no_life held part seat made past none before; needed = tt; silent = tt });
-  stood = inl none;
-}
+    → seat_at part made < seat → earlier ≡ [] → IsPlayedLife held role part seat made past earlier
+unborn_life held role part seat made past earlier none before first =
+    subst (IsPlayedLife held role part seat made past) (sym first) (record {
+      since = [];
+      are = no_life held part seat made past none before;
+      state = begun_as role;
+      played = Starts refl refl (begun_new role) (begun_stands role);
+    })
 
 -- each life so far, and each later one
 pub each_lasted : (role : Role) (x : Player) (past : List Entry) (told : ℕ → List Entry) (idle : ℕ → List Call) → Plays x past told
-    → Lives role x past idle → (seat : ℕ) → x.part.first ≤ seat → seat < x.part.first + lives_of x.part → HasLasted x.held role x.part seat x.made past (idle seat)
+    → Lives role x past idle → (seat : ℕ) → x.part.first ≤ seat → seat < x.part.first + lives_of x.part → IsPlayedLife x.held role x.part seat x.made past (idle seat)
 each_lasted role x past told idle plays lives seat low high = by (nat_lt seat x.seat) (nat_lt x.seat seat) refl refl
   where
-    by : (b a : Bool) → nat_lt seat x.seat ≡ b → nat_lt x.seat seat ≡ a → HasLasted x.held role x.part seat x.made past (idle seat)
+    by : (b a : Bool) → nat_lt seat x.seat ≡ b → nat_lt x.seat seat ≡ a → IsPlayedLife x.held role x.part seat x.made past (idle seat)
     by true a eb ea = lives.ended seat low (grind (arith, nat_tests))
     by false true eb ea =
         let after : x.seat < seat = grind (arith, nat_tests) in
@@ -138,33 +109,29 @@ each_lasted role x past told idle plays lives seat low high = by (nat_lt seat x.
         unborn_life x.held role x.part seat x.made past (idle seat) (plays.unborn seat after high).0 (omega (arith, began, after)) (lives.unborn seat after high)
     by false false eb ea =
         let same : x.seat ≡ seat = grind (arith, nat_tests) in
-        subst (λ s. HasLasted x.held role x.part s x.made past (idle s)) same (ended_life x.held role x.part x.seat x.made past (idle x.seat) x.actor lives.built lives.living)
-
-pub each_life : (role : Role) (x : Player) (past : List Entry) (told : ℕ → List Entry) (idle : ℕ → List Call) → Plays x past told
-    → Lives role x past idle → (seat : ℕ) → x.part.first ≤ seat → seat < x.part.first + lives_of x.part → IsDiligentLife x.held role x.part seat x.made past
-each_life role x past told idle plays lives seat low high = (each_lasted role x past told idle plays lives seat low high).diligent
+        subst (λ s. IsPlayedLife x.held role x.part s x.made past (idle s)) same (ended_life x.held role x.part x.seat x.made past (idle x.seat) x.actor lives.living)
 
 -- those up to the player's
-needed_so_far : (role : Role) (x : Player) (past : List Entry) (idle : ℕ → List Call) → Lives role x past idle → NeededSoFar role x past idle
-needed_so_far role x past idle lives seat low high = by (nat_lt seat x.seat) refl
+played_so_far : (role : Role) (x : Player) (past : List Entry) (idle : ℕ → List Call) → Lives role x past idle → PlayedSoFar role x past idle
+played_so_far role x past idle lives seat low high = by (nat_lt seat x.seat) refl
   where
-    by : (b : Bool) → nat_lt seat x.seat ≡ b → IsNeededLife x.held role x.part seat x.made past (idle seat)
-    by true e = (lives.ended seat low (grind (arith, nat_tests))).needed
+    by : (b : Bool) → nat_lt seat x.seat ≡ b → IsPlayedLife x.held role x.part seat x.made past (idle seat)
+    by true e = lives.ended seat low (grind (arith, nat_tests))
     by false e =
         let same : x.seat ≡ seat = grind (arith, nat_tests) in
-        subst (λ s. IsNeededLife x.held role x.part s x.made past (idle s)) same (needed_life x.held role x.part x.seat x.made past (idle x.seat) x.actor lives.living)
+        subst (λ s. IsPlayedLife x.held role x.part s x.made past (idle s)) same (ended_life x.held role x.part x.seat x.made past (idle x.seat) x.actor lives.living)
 
 -- and all
-pub all_needed : (role : Role) (x : Player) (past : List Entry) (idle : ℕ → List Call) → seat_at x.part x.made ≤ x.seat
-    → ((seat : ℕ) → x.seat < seat → seat < x.part.first + lives_of x.part → (own seat past ≡ []) × (idle seat ≡ [])) → NeededSoFar role x past idle → AreNeededLives x.held role x.part x.made past idle
-all_needed role x past idle began unborn so_far seat low high = by (nat_lt x.seat seat) refl
+pub all_played : (role : Role) (x : Player) (past : List Entry) (idle : ℕ → List Call) → seat_at x.part x.made ≤ x.seat
+    → ((seat : ℕ) → x.seat < seat → seat < x.part.first + lives_of x.part → (own seat past ≡ []) × (idle seat ≡ [])) → PlayedSoFar role x past idle → ArePlayedLives x.held role x.part x.made past idle
+all_played role x past idle began unborn so_far seat low high = by (nat_lt x.seat seat) refl
   where
-    by : (b : Bool) → nat_lt x.seat seat ≡ b → IsNeededLife x.held role x.part seat x.made past (idle seat)
+    by : (b : Bool) → nat_lt x.seat seat ≡ b → IsPlayedLife x.held role x.part seat x.made past (idle seat)
     by false e = so_far seat low (grind (arith, nat_tests))
     by true e =
         let after : x.seat < seat = grind (arith, nat_tests) in
         let none = unborn seat after high in
-        (unborn_life x.held role x.part seat x.made past (idle seat) none.0 (omega (arith, began, after)) none.1).needed
+        unborn_life x.held role x.part seat x.made past (idle seat) none.0 (omega (arith, began, after)) none.1
 
 -- ---- steps
 
@@ -261,10 +228,9 @@ pub woken_lives : (role : Role) (calls : ℕ) (old p : Player) (actor : ActorSta
     → LivedFewer role calls past idle old (record p { actor = actor })
 woken_lives role calls old p actor past idle few is keeps was = record {
   few = few;
-  needed = needed_so_far role (record p { actor = was.before }) past idle was.lives;
+  played = played_so_far role (record p { actor = was.before }) past idle was.lives;
   since = living.since;
-  are = living.are;
-  done = λ unstale. idle_is_done role was.before p.actor (idle p.seat) living.since was.lives.built living.played turns (λ told. unstale (subst (WasToldStale role.kind) living.are.of_seat told));
+  idle_is = record { are = living.are; state = was.before; played = living.played; turned = p.actor; turns = was.turns };
   lives = record {
     built = was.lives.built;
     began = was.lives.began;
@@ -273,7 +239,7 @@ woken_lives role calls old p actor past idle few is keeps was = record {
       are = living.are;
       played = Resumes was.before p.actor (idle p.seat) living.since living.played refl refl turns is (keeps (entries made) turns.stands);
     });
-    ended = λ s low below. subst (HasLasted p.held role p.part s p.made past) (sym (at_other p.seat s made idle (λ e. absurd (omega (arith, e, below))))) (was.lives.ended s low below);
+    ended = λ s low below. subst (IsPlayedLife p.held role p.part s p.made past) (sym (at_other p.seat s made idle (λ e. absurd (omega (arith, e, below))))) (was.lives.ended s low below);
     unborn = λ s after below. at_other p.seat s made idle (λ e. absurd (omega (arith, e, after))) ∙ was.lives.unborn s after below;
   };
 }
@@ -289,7 +255,7 @@ woken_lives role calls old p actor past idle few is keeps was = record {
 
 -- a turn in which all calls were made
 pub lived_all : (role : Role) (calls : ℕ) (old p : Player) (past : List Entry) (idle : ℕ → List Call) → p.made ≡ old.made + calls → Lives role p past idle → LivedAll role calls past idle old p
-lived_all role calls old p past idle made lives = record { made = made; needed = needed_so_far role p past idle lives; lives = lives }
+lived_all role calls old p past idle made lives = record { made = made; played = played_so_far role p past idle lives; lives = lives }
 
 -- entries of other seats leave the lives
 pub lives_on : (role : Role) (x : Player) (h later : List Entry) (idle then_idle : ℕ → List Call) → IsLife x.part x.seat
@@ -302,7 +268,7 @@ lives_on role x h later idle then_idle at same same_idle lives = record {
   ended = λ seat low below.
       let high = at.1 in
       let life : IsLife x.part seat = (low, omega (arith, below, high)) in
-      subst (HasLasted x.held role x.part seat x.made later) (sym (same_idle seat life))
+      subst (IsPlayedLife x.held role x.part seat x.made later) (sym (same_idle seat life))
       (kept_life x.held x.held role x.part seat x.made x.made h later (idle seat) (same seat life) refl (lives.ended seat low below));
   unborn = λ seat after below. same_idle seat (let a = at.0 in omega (arith, a, after), below) ∙ lives.unborn seat after below;
 }

@@ -94,7 +94,7 @@ with_actor mid new past idle taken made held role since plays = record {
 }
 
 -- the actor is idle: it has no news, or is an agent that was told that its epoch is stale
-may_end : (s new : ActorState) (earlier mine : List Entry) → IsBuiltKind s.role.kind → StandsSince s earlier mine → IsTurn s new nexts.Idle → MayEnd s.role.kind earlier mine
+pub may_end : (s new : ActorState) (earlier mine : List Entry) → IsBuiltKind s.role.kind → StandsSince s earlier mine → IsTurn s new nexts.Idle → MayEnd s.role.kind earlier mine
 may_end s new earlier mine built since turn = by s.memory.stale refl
   where
     by : (stale : Bool) → s.memory.stale ≡ stale → MayEnd s.role.kind earlier mine

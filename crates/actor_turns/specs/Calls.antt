@@ -11,15 +11,13 @@ use Rattle.binder_model.specs.Licence.{Licensed}
 use Rattle.binder_model.specs.Reading.{follows}
 use Rattle.binder_model.specs.Told.{own}
 use Rattle.attention_law.specs.Diligence.{Call, entries}
-use Rattle.attention_law.specs.Resting.{AreNeeded, IsSilentOnceStale, WasToldStale}
-use Rattle.worker_core.specs.declared.role.Role.{Role}
+use Rattle.attention_law.specs.Resting.{WasToldStale}
 use Rattle.worker_core.specs.Stands.{HasNoNews}
 use Rattle.actor_rounds.specs.Answers.Answered.{Lets}
 use Rattle.actor_turns.specs.declared.loss.Fate.{Fate}
 use Rattle.actor_turns.specs.declared.loss.Fate.TheVariants.{Told, LostBefore, LostAfter}
 use Rattle.actor_turns.specs.Fates.{fate_of}
 use Rattle.actor_turns.specs.declared.part.Part.{Part}
-use Rattle.actor_turns.specs.Parts.{lives_of}
 
 -- how many of the restarts come before the call of this number: a restart comes after so many calls
 abbrev pub restarts_before : ℕ → List ℕ → ℕ
@@ -103,18 +101,6 @@ left_by held part seat (suc n) = if seat_at part (suc n) == seat then (not (is_h
 pub record AreOfLife (held : List ℕ) (part : Part) (seat made : ℕ) (past : List Entry) (calls : List Call) : Type 0 where
   pub of_seat : entries calls ≡ own seat past
   pub left : map is_some calls ≡ left_by held part seat made
-
--- the life has made some calls since those `before`, after which a turn last gave it fewer, and each of them was needed. An
--- agent that was told that its epoch is stale has asked nothing after that
-pub record IsNeededLife (held : List ℕ) (role : Role) (part : Part) (seat made : ℕ) (past : List Entry) (before : List Call) : Type 0 where
-  pub since : List Call
-  pub are : AreOfLife held part seat made past (since ++ before)
-  pub needed : AreNeeded role.kind since
-  pub silent : IsSilentOnceStale role.kind (since ++ before)
-
--- each life of the actor is so
-abbrev pub AreNeededLives : List ℕ → Role → Part → ℕ → List Entry → (ℕ → List Call) → Type 0
-AreNeededLives held role part made past idle = (seat : ℕ) → part.first ≤ seat → seat < part.first + lives_of part → IsNeededLife held role part seat made past (idle seat)
 
 -- the calls of each life when a turn last gave it fewer than it was to make; those of the seat are these now
 abbrev pub and_idle : {X : Type 0} → ℕ → X → (ℕ → X) → ℕ → X

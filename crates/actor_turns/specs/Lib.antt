@@ -1,5 +1,6 @@
 pub mod Fates
 pub mod Parts
 pub mod Calls
+pub mod Lives
 pub mod Diligent
 pub mod Steps

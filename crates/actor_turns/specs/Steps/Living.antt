@@ -6,17 +6,16 @@ use Rattle.call_types.specs.declared.request.Request.{Request}
 use Rattle.binder_model.specs.Told.{own}
 use Rattle.attention_law.specs.Diligence.{Call, entries}
 use Rattle.attention_law.specs.Played.{Turns}
-use Rattle.attention_law.specs.Resting.{IsDone, IsPlayedSince, WasToldStale}
+use Rattle.attention_law.specs.Resting.{IsPlayedSince}
 use Rattle.worker_core.specs.declared.role.Role.{Role}
 use Rattle.worker_core.specs.declared.turn.Next.TheVariants as nexts
 use Rattle.worker_core.specs.Roles.{IsBuiltKind}
-use Rattle.worker_core.specs.Stands.{StandsFor}
 use Rattle.worker_core.specs.States.{ActorState}
 use Rattle.actor_turns.specs.declared.loss.Fate.{Fate}
 use Rattle.actor_turns.specs.declared.part.Part.{Part}
 use Rattle.actor_turns.specs.declared.player.Player.{Player}
-use Rattle.actor_turns.specs.Calls.{AreOfLife, IsNeededLife, and_idle, leaves_entry, seat_at}
-use Rattle.actor_turns.specs.Diligent.{IsDiligentLife}
+use Rattle.actor_turns.specs.Calls.{AreOfLife, and_idle, leaves_entry, seat_at}
+use Rattle.actor_turns.specs.Lives.{IsIdleLife, IsPlayedLife}
 use Rattle.actor_turns.specs.Parts.{lives_of}
 
 -- ---- a call
@@ -42,24 +41,12 @@ pub record Living (held : List ℕ) (role : Role) (part : Part) (seat made : ℕ
   pub are : AreOfLife held part seat made past (since ++ earlier)
   pub played : IsPlayedSince role s earlier since
 
--- some actor of the role stands for the entries
-pub record HasStood (role : Role) (mine : List Entry) : Type 0 where
-  pub actor : ActorState
-  pub of : actor.role ≡ role
-  pub stands : StandsFor actor mine
-
--- a life to which no call will come
-pub record HasLasted (held : List ℕ) (role : Role) (part : Part) (seat made : ℕ) (past : List Entry) (earlier : List Call) : Type 0 where
-  pub diligent : IsDiligentLife held role part seat made past
-  pub needed : IsNeededLife held role part seat made past earlier
-  pub stood : (own seat past ≡ []) ⊎ HasStood role (own seat past)
-
 -- the life of the player, and those before it; later ones have made no calls
 pub record Lives (role : Role) (p : Player) (past : List Entry) (idle : ℕ → List Call) : Type 0 where
   pub built : IsBuiltKind role.kind
   pub began : seat_at p.part p.made ≤ p.seat
   pub living : Living p.held role p.part p.seat p.made past (idle p.seat) p.actor
-  pub ended : (seat : ℕ) → p.part.first ≤ seat → seat < p.seat → HasLasted p.held role p.part seat p.made past (idle seat)
+  pub ended : (seat : ℕ) → p.part.first ≤ seat → seat < p.seat → IsPlayedLife p.held role p.part seat p.made past (idle seat)
   pub unborn : (seat : ℕ) → p.seat < seat → seat < p.part.first + lives_of p.part → idle seat ≡ []
 
 -- the turn of the player has given no call
@@ -75,22 +62,21 @@ HasLived role past idle p false = LivesIdle role p past idle
 
 -- ---- a turn
 
--- the lives up to that of the player are needed ones
-abbrev pub NeededSoFar : Role → Player → List Entry → (ℕ → List Call) → Type 0
-NeededSoFar role p past idle = (seat : ℕ) → p.part.first ≤ seat → seat ≤ p.seat → IsNeededLife p.held role p.part seat p.made past (idle seat)
+-- the lives up to that of the player were played so
+abbrev pub PlayedSoFar : Role → Player → List Entry → (ℕ → List Call) → Type 0
+PlayedSoFar role p past idle = (seat : ℕ) → p.part.first ≤ seat → seat ≤ p.seat → IsPlayedLife p.held role p.part seat p.made past (idle seat)
 
 pub record LivedAll (role : Role) (calls : ℕ) (past : List Entry) (idle : ℕ → List Call) (old new : Player) : Type 0 where
   pub made : new.made ≡ old.made + calls
-  pub needed : NeededSoFar role new past idle
+  pub played : PlayedSoFar role new past idle
   pub lives : Lives role new past idle
 
 -- the player's life was idle, and the actor was woken
 pub record LivedFewer (role : Role) (calls : ℕ) (past : List Entry) (idle : ℕ → List Call) (old new : Player) : Type 0 where
   pub few : new.made < old.made + calls
-  pub needed : NeededSoFar role new past idle
+  pub played : PlayedSoFar role new past idle
   pub since : List Call
-  pub are : AreOfLife new.held new.part new.seat new.made past (since ++ idle new.seat)
-  pub done : (WasToldStale role.kind (own new.seat past) → ⊥) → IsDone role (idle new.seat) since
+  pub idle_is : IsIdleLife new.held role new.part new.seat new.made past (idle new.seat) since
   pub lives : Lives role new past (and_idle new.seat (since ++ idle new.seat) idle)
 
 -- after so many calls of a turn, or fewer
