@@ -1,5 +1,5 @@
 -- What an actor left of its seats, in a history that has its seats so.
-use Rattle.std.proofs.Common.{◌≡◌, ◌⊎◌, inl, inr, sym, ◌∙◌, ap, subst, arith, ℕ, zero, suc, ◌+◌, ◌-◌, ◌<◌, ◌≤◌, List, [], ◌∷◌, map}
+use Rattle.std.proofs.Common.{◌≡◌, ◌⊎◌, inl, inr, refl, sym, ap, subst, arith, ℕ, zero, suc, ◌+◌, ◌-◌, ◌<◌, ◌≤◌, List, [], ◌∷◌, map}
 use Rattle.attention_law.specs.Resting.{WasToldStale}
 use Rattle.call_types.specs.declared.entry.Entry.{Entry}
 use Rattle.binder_model.specs.Told.{own}
@@ -7,11 +7,12 @@ use Rattle.actor_work.proofs.Lives.Seats.{actors_by_seats}
 use Rattle.size_law.specs.Calls.Calls.{AreByActors}
 use Rattle.worker_core.specs.declared.role.Role.{Role}
 use Rattle.actor_turns.specs.declared.part.Part.{Part}
-use Rattle.actor_turns.specs.Calls.{AreOfLife, seat_at}
+use Rattle.actor_turns.specs.Calls.{seat_at}
 use Rattle.actor_turns.specs.Parts.{lives_of}
-use Rattle.actor_turns.specs.Steps.Living.{HasStood}
+use Rattle.actor_turns.specs.Lives.{WasPlayed}
+use Rattle.actor_turns.proofs.Lived.{kept_life}
 use Rattle.actor_turns.proofs.Lives.{seat_within}
-use Rattle.actor_work.specs.Work.Working.{HasWorked, IsWorkedLife}
+use Rattle.actor_work.specs.Work.Working.{HasWorked}
 use Rattle.shared_work.specs.Crew.{numbers_from}
 use Rattle.actor_work.specs.Crew.Acting.{ActorsInHistories}
 
@@ -30,16 +31,9 @@ same_at f g first (suc many) zero is lt = subst (λ n. f n ≡ g n) (omega arith
 same_at f g first (suc many) (suc i) is lt = subst (λ n. f n ≡ g n) (omega arith) (same_at f g (first + 1) many i (ap after_first is) (omega (arith, lt)))
 
 -- what is said of a life is said of its seat's own entries
-module _ (held : List ℕ) (role : Role) (part : Part) (seat made : ℕ) (mine past : List Entry) (is : own seat past ≡ own seat mine) where
-  of_life : (calls : List _) → AreOfLife held part seat made mine calls → AreOfLife held part seat made past calls
-  of_life calls are = record { of_seat = are.of_seat ∙ sym is; left = are.left }
-
-  pub life_in : IsWorkedLife held role part seat made mine → IsWorkedLife held role part seat made past
-  life_in life = record {
-    diligent = record { calls = life.diligent.calls; are = of_life life.diligent.calls life.diligent.are; diligent = life.diligent.diligent };
-    silent = record { calls = life.silent.calls; are = of_life life.silent.calls life.silent.are; silent = life.silent.silent };
-    stood = subst (λ (es : List Entry). (es ≡ []) ⊎ HasStood role es) (sym is) life.stood;
-  }
+pub life_in : (held : List ℕ) (role : Role) (part : Part) (seat made : ℕ) (mine past : List Entry) → own seat past ≡ own seat mine
+    → WasPlayed held role part seat made mine → WasPlayed held role part seat made past
+life_in held role part seat made mine past is was = record { before = was.before; life = kept_life held held role part seat made made mine past was.before is refl was.life }
 
 pub actors_in_histories : ActorsInHistories
 actors_in_histories role part calls past named acted = record {

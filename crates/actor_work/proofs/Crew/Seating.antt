@@ -23,7 +23,8 @@ use Rattle.actor_turns.specs.declared.player.Player.{Player}
 use Rattle.actor_turns.specs.Calls.{AreCalls}
 use Rattle.actor_turns.specs.Parts.{lives_of}
 use Rattle.actor_turns.specs.Steps.Living.{Lives}
-use Rattle.actor_work.specs.Work.Working.{AreWorkedLives, HasWorked, IsWorkedLife}
+use Rattle.actor_turns.specs.Lives.{WasPlayed}
+use Rattle.actor_work.specs.Work.Working.{AreWorkedLives, HasWorked}
 use Rattle.shared_work.specs.Crew.{numbers_from}
 use Rattle.shared_work.specs.Seats.{AreKept, lasting, seat_of, seats_at, seats_of}
 use Rattle.actor_work.specs.Crew.Acting.{HasActed, MayAct}
@@ -130,12 +131,12 @@ module _ {k : Ghosts Kept Ask Reply Setup} (shared : SharedWorld) (made : ℕ) w
         subst (λ (n : ℕ). HasWorked x.part n y.made (past_of after)) end whole
 
     lives_from : ((role : Role) (idle : ℕ → List Call) → Lives role x (past_of before) idle → AreWorkedLives role y (past_of after)) → (seat : ℕ)
-        → x.part.first ≤ seat → seat < x.part.first + lives_of x.part → IsWorkedLife [] x.actor.role x.part seat y.made (past_of after)
+        → x.part.first ≤ seat → seat < x.part.first + lives_of x.part → WasPlayed [] x.actor.role x.part seat y.made (past_of after)
     lives_from each seat low high =
         let all = each x.actor.role may.lives.idle (subst (λ (es : List Entry). Lives x.actor.role x es may.lives.idle) (sym unused_are.none) may.lives.lives) in
         let life = all seat (subst (λ (p : Part). p.first ≤ seat) (sym part) low) (subst (λ (p : Part). seat < p.first + lives_of p) (sym part) high) in
-        subst (λ (h : List ℕ). IsWorkedLife h x.actor.role x.part seat y.made (past_of after)) (held ∙ may.held)
-        (subst (λ (p : Part). IsWorkedLife y.held x.actor.role p seat y.made (past_of after)) part life)
+        subst (λ (h : List ℕ). WasPlayed h x.actor.role x.part seat y.made (past_of after)) (held ∙ may.held)
+        (subst (λ (p : Part). WasPlayed y.held x.actor.role p seat y.made (past_of after)) part life)
 
     pub has_acted : AreCalls all_pass x.held x.part (past_of after) (x.made + 1) (y.made - x.made) (past_of before) → HasWorked x.part (x.made + calls) y.made (past_of after)
         → ((role : Role) (idle : ℕ → List Call) → Lives role x (past_of before) idle → AreWorkedLives role y (past_of after))

@@ -164,10 +164,4 @@ some_lives role calls before after old new on some = by (on role some.idle some.
     by (inr few) = record { idle = _; lives = few.lives }
 
 pub worked_lives : (role : Role) (x : Player) (past : List Entry) (told : ℕ → List Entry) → Plays x past told → SomeLives role x past → AreWorkedLives role x past
-worked_lives role x past told plays some seat low high =
-    let life = each_lasted role x past told some.idle plays some.lives seat low high in
-    record {
-      diligent = life.diligent;
-      silent = record { calls = life.needed.since ++ some.idle seat; are = life.needed.are; silent = life.needed.silent };
-      stood = life.stood;
-    }
+worked_lives role x past told plays some seat low high = record { before = some.idle seat; life = each_lasted role x past told some.idle plays some.lives seat low high }

@@ -9,9 +9,10 @@ use Rattle.actor_rounds.specs.Answers.Answered.{all_pass}
 use Rattle.actor_turns.specs.declared.part.Part.{Part}
 use Rattle.actor_turns.specs.declared.player.Player.{Player}
 use Rattle.actor_turns.specs.Calls.{AreCalls}
+use Rattle.actor_turns.specs.Lives.{WasPlayed}
 use Rattle.actor_turns.specs.Parts.{lives_of}
 use Rattle.actor_turns.specs.Steps.Playing.{SomePlays}
-use Rattle.actor_work.specs.Work.Working.{HasWorked, IsWorkedLife, SomeLives}
+use Rattle.actor_work.specs.Work.Working.{HasWorked, SomeLives}
 use Rattle.shared_work.specs.Crew.{numbers_from}
 use Rattle.shared_work.specs.Seats.{seats_at}
 
@@ -32,8 +33,8 @@ pub record MayAct (x : Player) (calls : ℕ) (before : List (ℕ × List Entry))
 
 -- What an actor that was to make so many calls has left of its seats. They have its calls in order, and nothing else: `mine` are
 -- the entries of its lives together, those of a later life newer. It made all the calls, or fewer where the life that would
--- make the next one was told that its epoch is stale. Each life is diligent, silent once its epoch is stale, and an actor
--- stands for its entries; and each request of a binder and of a scheduler was given by an actor
+-- make the next one was told that its epoch is stale. Each life is one that its actor played; and each request
+-- of a binder and of a scheduler was given by an actor
 pub record HasActed (role : Role) (part : Part) (calls : ℕ) (after : List (ℕ × List Entry)) : Type 0 where
   pub made : ℕ
   pub mine : List Entry
@@ -41,7 +42,7 @@ pub record HasActed (role : Role) (part : Part) (calls : ℕ) (after : List (ℕ
   pub alone : (seat : ℕ) → (seat < part.first) ⊎ (part.first + lives_of part ≤ seat) → own seat mine ≡ []
   pub calls_are : AreCalls all_pass [] part mine 1 made []
   pub whole : HasWorked part calls made mine
-  pub lives : (seat : ℕ) → part.first ≤ seat → seat < part.first + lives_of part → IsWorkedLife [] role part seat made mine
+  pub lives : (seat : ℕ) → part.first ≤ seat → seat < part.first + lives_of part → WasPlayed [] role part seat made mine
   pub actors : AreByActors mine
 
 -- What an actor that was to make so many calls has left in a history. At the seats of its lives the history has the entries
@@ -53,7 +54,7 @@ pub record HasActedIn (role : Role) (part : Part) (calls : ℕ) (past : List Ent
   pub alone : (seat : ℕ) → (seat < part.first) ⊎ (part.first + lives_of part ≤ seat) → own seat mine ≡ []
   pub calls_are : AreCalls all_pass [] part mine 1 made []
   pub whole : HasWorked part calls made past
-  pub lives : (seat : ℕ) → part.first ≤ seat → seat < part.first + lives_of part → IsWorkedLife [] role part seat made past
+  pub lives : (seat : ℕ) → part.first ≤ seat → seat < part.first + lives_of part → WasPlayed [] role part seat made past
   pub actors : (seat : ℕ) → part.first ≤ seat → seat < part.first + lives_of part → AreByActors (own seat past)
 
 -- what an actor left of its seats holds of a whole history that has its seats so
