@@ -52,23 +52,22 @@ use Rattle.actor_turns.specs.declared.part.Part.{Part}
 use Rattle.actor_turns.specs.declared.player.Player.{Player}
 use Rattle.script_runs.specs.declared.stage.Stage.{Stage}
 use Rattle.attention_law.specs.Diligence.{Call, entries}
-use Rattle.attention_law.specs.Resting.{WasToldStale}
-use Rattle.actor_turns.specs.Calls.{AreCalls, AreNeededLives, AreOfLife, seat_at}
+use Rattle.actor_turns.specs.Calls.{AreCalls, seat_at}
+use Rattle.actor_turns.specs.Lives.{ArePlayedLives, IsIdleLife}
 use Rattle.script_runs.specs.Budget.{raised}
 use Rattle.script_runs.specs.Limits.{NamesAreInOrder as NamesInOrder}
 use Rattle.actor_turns.specs.Parts.{lives_of}
-use Rattle.script_runs.specs.Parts.{all_actors, all_lives, drain_seat, drain_seats, seat_kind_of, part_of, role_of}
+use Rattle.script_runs.specs.Parts.{all_actors, all_lives, drain_seat, drain_seats, part_of, role_of}
 use Rattle.script_lines.specs.declared.actors.Actor.{Actor}
-use Rattle.script_lines.specs.declared.actors.Actor.TheVariants.{Worker, Agent}
 use Rattle.worker_core.specs.declared.role.Role.{Role}
 use Rattle.actor_turns.specs.Calls.{and_idle}
 use Rattle.script_runs.specs.Replays.{IsDrain, IsTurnLine, IsUserCall, Progress, and_made}
-use Rattle.actor_turns.specs.Steps.Living.{HasLivedOn, LivedAll, LivedFewer, Lives}
+use Rattle.actor_turns.specs.Steps.Living.{HasLivedOn, LivedAll, LivedFewer, Lives, PlayedSoFar}
 use Rattle.actor_turns.specs.Steps.Playing.{HasMadeAll, HasMadeFewer, HasTurned, IsLife, Plays, StandsSince}
 use Rattle.script_runs.specs.Steps.Settled.{IsNoted}
 use Rattle.script_runs.specs.Steps.Standing.{HasMoved, IsBudget, Leads, StageStands, actors_for, all_parts, parts_in, seat_of_drains}
 use Rattle.script_runs.proofs.Casting.{in_order, names_differ, names_in}
-use Rattle.actor_turns.proofs.Lived.{all_needed, lives_on}
+use Rattle.actor_turns.proofs.Lived.{all_played, lives_on}
 use Rattle.actor_turns.proofs.Lives.{seat_within}
 use Rattle.script_runs.proofs.Draining.{drains_keep_drainers, same_drainers}
 use Rattle.script_runs.proofs.Staying.{IsGrown, calls_grow, stays_noted}
@@ -312,12 +311,18 @@ module _ (script : Script) (option : Option ℕ) (old new : Stage) (place : ℕ)
 
   module _ (role : Role) (calls : ℕ) (each : (actor : Actor) → slice_get (actors_for script.node_names) place ≡ Some actor → role_of actor ≡ role) where
     -- the counts and the parts as the move has them
-    needed_at : (count : ℕ) → after.made ≡ x.made + count → AreNeededLives after.held role after.part after.made new.world.past p.idle
-        → AreNeededLives [] role x.part (p.made x.part.name + count) new.world.past p.idle
-    needed_at count more needed =
-        subst (λ n. AreNeededLives [] role x.part n new.world.past p.idle) (more ∙ ap (λ n. n + count) (stands.made place x played.there))
-        (subst (λ (q : Part). AreNeededLives [] role q after.made new.world.past p.idle) played.part
-        (subst (λ held. AreNeededLives held role after.part after.made new.world.past p.idle) none_held needed))
+    at_counts : (P : List ℕ → Part → ℕ → Type 0) (count : ℕ) → after.made ≡ x.made + count → P after.held after.part after.made → P [] x.part (p.made x.part.name + count)
+    at_counts P count more h =
+        subst (λ n. P [] x.part n) (more ∙ ap (λ n. n + count) (stands.made place x played.there))
+        (subst (λ (q : Part). P [] q after.made) played.part (subst (λ held. P held after.part after.made) none_held h))
+
+    -- the lives, where those that no call has reached have no calls
+    lives_at : (count : ℕ) → after.made ≡ x.made + count → seat_at after.part after.made ≤ after.seat
+        → ((seat : ℕ) → after.seat < seat → seat < after.part.first + lives_of after.part → (own seat new.world.past ≡ []) × (p.idle seat ≡ []))
+        → PlayedSoFar role after new.world.past p.idle → ArePlayedLives [] role x.part (p.made x.part.name + count) new.world.past p.idle
+    lives_at count more began unborn so_far =
+        at_counts (λ held q made. ArePlayedLives held role q made new.world.past p.idle) count more
+        (all_played role after new.world.past p.idle began unborn so_far)
 
     of_actor : (idle : ℕ → List Call) → Lives role after new.world.past idle → (actor : Actor)
         → slice_get (actors_for script.node_names) place ≡ Some actor → Lives (role_of actor) after new.world.past idle
@@ -330,8 +335,7 @@ module _ (script : Script) (option : Option ℕ) (old new : Stage) (place : ℕ)
       move = inl (record {
         past = new.world.past;
         made = calls_at calls all.calls_are;
-        needed = needed_at calls all.made (all_needed role after new.world.past p.idle lived.lives.began
-            (λ s later below. (((all.plays).unborn s later below).0, lived.lives.unborn s later below)) lived.needed);
+        lives = lives_at calls all.made lived.lives.began (λ s later below. (((all.plays).unborn s later below).0, lived.lives.unborn s later below)) lived.played;
         is = refl;
       });
       stands = stands_on calls p.idle all.made
@@ -339,25 +343,20 @@ module _ (script : Script) (option : Option ℕ) (old new : Stage) (place : ℕ)
     }
 
     fewer_turned : HasMadeFewer all_pass calls (told_at p.idle) old.world.past new.world.past x after
-        → LivedFewer role calls new.world.past p.idle x after → role.kind ≡ x.part.kind
+        → LivedFewer role calls new.world.past p.idle x after
         → HasTurned all_pass calls (told_at p.idle) old.world.past new.world.past x after → Leads script option (IsTurnLine all_pass [] role x.part calls) p new
-    fewer_turned few lived kind t = record {
+    fewer_turned few lived t = record {
       after = record p { past = new.world.past; made = and_made x.part.name few.count p.made; idle = then_idle };
       move = inr (record {
         count = few.count;
         few = few.few;
         past = new.world.past;
         made = calls_at few.count few.calls_are;
-        needed = needed_at few.count few.made (all_needed role after new.world.past p.idle lived.lives.began not_yet lived.needed);
+        lives = lives_at few.count few.made lived.lives.began not_yet lived.played;
         seat = after.seat;
         life = few.life ∙ ap (λ m. seat_at x.part (m + few.count + 1)) (stands.made place x played.there);
         since = lived.since;
-        are =
-            subst (λ n. AreOfLife [] x.part after.seat n new.world.past (lived.since ++ p.idle after.seat)) (few.made ∙ ap (λ n. n + few.count) (stands.made place x played.there))
-            (subst (λ (q : Part). AreOfLife [] q after.seat after.made new.world.past (lived.since ++ p.idle after.seat)) played.part
-            (subst (λ held. AreOfLife held after.part after.seat after.made new.world.past (lived.since ++ p.idle after.seat)) none_held lived.are));
-        ends = few.ends;
-        done = λ unstale. lived.done (λ told. unstale (subst (λ k. WasToldStale k (own after.seat new.world.past)) kind told));
+        ends = at_counts (λ held q made. IsIdleLife held role q after.seat made new.world.past (p.idle after.seat) lived.since) few.count few.made lived.idle_is;
         is = refl;
       });
       stands = stands_on few.count then_idle few.made
@@ -389,7 +388,7 @@ module _ (script : Script) (option : Option ℕ) (old new : Stage) (place : ℕ)
         same_told seat = by (seat == after.seat)
           where
             by : (b : Bool) → entries (if b then lived.since ++ p.idle after.seat else p.idle seat) ≡ (if b then own after.seat new.world.past else told_at p.idle seat)
-            by true = lived.are.of_seat
+            by true = lived.idle_is.are.of_seat
             by false = refl
 
         plays : Plays after new.world.past (told_at then_idle)
@@ -397,22 +396,17 @@ module _ (script : Script) (option : Option ℕ) (old new : Stage) (place : ℕ)
             (λ seat life. refl) (λ seat life. same_told seat) few.plays
 
     turned : HasTurned all_pass calls (told_at p.idle) old.world.past new.world.past x after → LivedAll role calls new.world.past p.idle x after
-        ⊎ LivedFewer role calls new.world.past p.idle x after → role.kind ≡ x.part.kind → Leads script option (IsTurnLine all_pass [] role x.part calls) p new
-    turned t lived kind = by t.made lived
+        ⊎ LivedFewer role calls new.world.past p.idle x after → Leads script option (IsTurnLine all_pass [] role x.part calls) p new
+    turned t lived = by t.made lived
       where
         by : HasMadeAll all_pass calls (told_at p.idle) old.world.past new.world.past x after
             ⊎ HasMadeFewer all_pass calls (told_at p.idle) old.world.past new.world.past x after → LivedAll role calls new.world.past p.idle x after
             ⊎ LivedFewer role calls new.world.past p.idle x after
             → Leads script option (IsTurnLine all_pass [] role x.part calls) p new
         by (inl all) (inl lived_all) = all_turned all lived_all t
-        by (inr few) (inr lived_few) = fewer_turned few lived_few kind t
+        by (inr few) (inr lived_few) = fewer_turned few lived_few t
         by (inl all) (inr lived_few) = absurd (let a = all.made in let b = lived_few.few in omega (arith, a, b))
         by (inr few) (inl lived_all) = absurd (let a = few.made in let b = lived_all.made in let c = few.few in omega (arith, a, b, c))
-
--- the role of an actor is of the kind of its seats
-role_kind : (actor : Actor) → (role_of actor).kind ≡ seat_kind_of actor
-role_kind (Worker w) = refl
-role_kind (Agent node) = refl
 
 pub turn_moved : (script : Script) (option : Option ℕ) (calls : ℕ) (old new : Stage) (place : ℕ) (x after : Player) (actor : Actor)
     → NamesInOrder script.node_names → drain_seat script ≡ seat_of_drains script → slice_get (actors_for script.node_names) place ≡ Some actor
@@ -422,8 +416,7 @@ pub turn_moved : (script : Script) (option : Option ℕ) (calls : ℕ) (old new 
 turn_moved script option calls old new place x after actor order last there is played turns lives p stands =
     subst (λ q. Leads script option (IsTurnLine all_pass [] (role_of actor) q calls) p new) (sym is)
     (turned script option old new place x after order last played p stands (role_of actor) calls (λ other at. ap role_of (one other actor (sym at ∙ there)))
-    (turns (told_at p.idle) (stands.plays place x played.there played.named)) (lives (role_of actor) p.idle (stands.lives place actor x there played.there played.named))
-    (role_kind actor ∙ ap (λ (q : Part). q.kind) is))
+    (turns (told_at p.idle) (stands.plays place x played.there played.named)) (lives (role_of actor) p.idle (stands.lives place actor x there played.there played.named)))
 
 -- ---- a drain
 

@@ -6,10 +6,8 @@ use Rattle.call_types.specs.declared.request.Request.{Request}
 use Rattle.call_types.specs.declared.request.SeatKind.TheVariants as seats
 use Rattle.call_types.specs.declared.reply.Reply.{Reply}
 use Rattle.call_types.specs.declared.setup.Setup.{Setup}
-use Rattle.binder_model.specs.Told.{own}
 use Rattle.binder_model.specs.World.{world}
-use Rattle.attention_law.specs.Diligence.{Call as Calling, entries}
-use Rattle.attention_law.specs.Resting.{IsDone, WasToldStale}
+use Rattle.attention_law.specs.Diligence.{Call as Calling}
 use Rattle.worker_core.specs.declared.role.Role.{Role}
 use Rattle.world_core.specs.declared.drained.Drained.{Drained}
 use Rattle.world_core.specs.declared.drained.Drained.TheVariants.{Settled, Spent}
@@ -22,7 +20,8 @@ use Rattle.script_text.specs.declared.script.Line.TheVariants.{Call, Lose, Resta
 use Rattle.script_text.specs.declared.script.Script.{Script}
 use Rattle.actor_turns.specs.declared.part.Part.{Part}
 use Rattle.script_runs.specs.Budget.{first_budget, raised}
-use Rattle.actor_turns.specs.Calls.{AreCalls, AreNeededLives, AreOfLife, MayEnd, and_idle, seat_at}
+use Rattle.actor_turns.specs.Calls.{AreCalls, and_idle, seat_at}
+use Rattle.actor_turns.specs.Lives.{ArePlayedLives, IsIdleLife}
 use Rattle.script_runs.specs.Parts.{drain_seat, part_of, role_of}
 
 -- how far a replay has come
@@ -53,27 +52,24 @@ pub record IsUserCall (user : ℕ) (request : Request) (before after : Progress)
 abbrev pub and_made : List ℕ → ℕ → (List ℕ → ℕ) → List ℕ → ℕ
 and_made name count made other = if bytes_eq other name then made other + count else made other
 
--- as many calls as the line says, each of them needed
+-- as many calls as the line says, by lives that the actor played
 pub record MakesAll (lets : Lets) (held : List ℕ) (role : Role) (part : Part) (calls : ℕ) (before after : Progress) : Type 0 where
   pub past : List Entry
   pub made : AreCalls lets held part past (before.made part.name + 1) calls before.past
-  pub needed : AreNeededLives held role part (before.made part.name + calls) past before.idle
+  pub lives : ArePlayedLives held role part (before.made part.name + calls) past before.idle
   pub is : after ≡ record before { past = past; made = and_made part.name calls before.made }
 
--- fewer, each of them needed, as the life that would make the next one may end its turn
+-- fewer, by lives that the actor played, and the life that would make the next one is idle
 pub record MakesFewer (lets : Lets) (held : List ℕ) (role : Role) (part : Part) (calls : ℕ) (before after : Progress) : Type 0 where
   pub count : ℕ
   pub few : count < calls
   pub past : List Entry
   pub made : AreCalls lets held part past (before.made part.name + 1) count before.past
-  pub needed : AreNeededLives held role part (before.made part.name + count) past before.idle
+  pub lives : ArePlayedLives held role part (before.made part.name + count) past before.idle
   pub seat : ℕ
   pub life : seat ≡ seat_at part (before.made part.name + count + 1)
-  pub ends : MayEnd part.kind (entries (before.idle seat)) (own seat past)
-  -- the calls of the life since it was last given fewer leave nothing to be called for, unless an agent was told StaleEpoch
   pub since : List Calling
-  pub are : AreOfLife held part seat (before.made part.name + count) past (since ++ before.idle seat)
-  pub done : (WasToldStale part.kind (own seat past) → ⊥) → IsDone role (before.idle seat) since
+  pub ends : IsIdleLife held role part seat (before.made part.name + count) past (before.idle seat) since
   pub is : after ≡ record before { past = past; made = and_made part.name count before.made; idle = and_idle seat (since ++ before.idle seat) before.idle }
 
 -- where the actor's calls of these numbers were held back

@@ -3,7 +3,7 @@
 ghost use Rattle.std.specs.Prelude.{◌≡◌, IfOk};
 ghost use Rattle.script_runs.specs.Limits.{IsReadable};
 ghost use Rattle.size_law.specs.Calls.Calls.{AreByActors};
-ghost use Rattle.script_runs.specs.Diligent.{IsDiligentReplay};
+ghost use Rattle.script_runs.specs.Played.{IsPlayedReplay, PlayedAreDiligent};
 ghost use Rattle.script_runs.specs.Replays.{IsReplay};
 
 use crate::stage::begin;
@@ -32,7 +32,7 @@ impl Drop for Replayed {
 pub fn replay(alloc: Global, script: &Script, budget: Option<u64>) -> Result<Replayed, OutOfMemory>
     requires readable { IsReadable script.now }
     ensures replay { IfOk result (λ r. IsReplay script.now budget r.world.past r.ending) }
-    ensures diligent { IfOk result (λ r. IsDiligentReplay script.now budget r.world.past r.ending) }
+    ensures played { IfOk result (λ r. IsPlayedReplay script.now budget r.world.past r.ending) }
     ensures actors { IfOk result (λ r. AreByActors r.world.past) }
     ensures setup { IfOk result (λ r. r.world.setup ≡ script.now.setup) }
 {
@@ -46,3 +46,8 @@ pub fn replay(alloc: Global, script: &Script, budget: Option<u64>) -> Result<Rep
         ending,
     })
 }
+
+/// Where the lives of its actors were played by them, they were diligent. It does nothing.
+pub fn played_are_diligent()
+    ensures { PlayedAreDiligent }
+{}

@@ -1,12 +1,14 @@
 -- The examples compute.
-use Rattle.std.proofs.Common.{◌≡◌, ◌⊎◌, ℕ, zero, suc, ◌+◌, ◌<◌, ◌≤◌, Bool, List, [], ◌∷◌, ◌++◌, Some, None, inl, inr, refl, sym, ◌∙◌, ap, ne_eqb, arith}
+use Rattle.std.proofs.Common.{◌≡◌, ◌⊎◌, ℕ, zero, suc, ◌+◌, ◌<◌, ◌≤◌, Bool, List, [], ◌∷◌, None, inl, inr, refl, sym, ◌∙◌, ap, ne_eqb, arith}
 use Rattle.kube_parts.specs.declared.parts.Kind.TheVariants.{Node, Pod}
 use Rattle.call_types.specs.declared.entry.Entry.{Entry}
 use Rattle.call_types.specs.declared.request.Request.{Request}
 use Rattle.call_types.specs.declared.request.Request.TheVariants as requests
 use Rattle.call_types.specs.declared.request.SeatKind.{SeatKind}
 use Rattle.binder_model.specs.Told.{own}
-use Rattle.attention_law.specs.Diligence.{Call}
+use Rattle.attention_law.specs.Begun.{begun_as}
+use Rattle.attention_law.specs.Resting.{Starts}
+use Rattle.attention_law.proofs.Begun.{begun_new, begun_stands}
 use Rattle.actor_rounds.specs.Rounds.{all_pass}
 use Rattle.script_lines.specs.declared.actors.Actor.{Actor}
 use Rattle.actor_turns.specs.declared.part.Part.{Part}
@@ -18,6 +20,7 @@ use Rattle.script_lines.specs.declared.actors.WorkerNumber.TheVariants.{One}
 use Rattle.actor_work.specs.Work.Working.{HasWorked}
 use Rattle.script_runs.specs.Examples.{binder_1, claims_1, ops_1, scheduler_1, worker}
 use Rattle.script_threads.specs.Examples.{StartedExamples, WorkExamples, asks, two_lines}
+use Rattle.script_runs.specs.Parts.{role_of}
 use Rattle.script_threads.specs.Started.{started_part}
 use Rattle.script_threads.specs.Threads.{HasMadeCalls}
 
@@ -37,11 +40,6 @@ started = record {
 
 -- ---- actors that make no calls
 
--- one list is no longer than itself
-not_longer : (later : List Call) (x : Call) (earlier : List Call) → [] ≡ later ++ (x ∷ earlier) → ⊥
-not_longer [] x earlier e = absurd cc
-not_longer (y ∷ later) x earlier e = absurd cc
-
 no_calls : (past : List Entry) (actor : Actor) (part : Part) → ((seat : ℕ) → part.first ≤ seat → own seat past ≡ []) → HasMadeCalls 0 past actor part
 no_calls past actor part none = record {
   made = 0;
@@ -49,13 +47,15 @@ no_calls past actor part none = record {
   calls_are = NoCalls refl refl;
   own_are = λ seat life. none seat life.0;
   whole = inl refl;
-  diligent = λ seat life. record {
-    calls = [];
-    are = record { of_seat = sym (none seat life.0); left = refl };
-    diligent = λ kind first fourth earlier
-        between later is. absurd (not_longer later (Some fourth) (between ++ Some first ∷ earlier) is);
+  lives = λ seat life. record {
+    before = [];
+    life = record {
+      since = [];
+      are = record { of_seat = sym (none seat life.0); left = refl };
+      state = begun_as (role_of actor);
+      played = Starts refl refl (begun_new (role_of actor)) (begun_stands (role_of actor));
+    };
   };
-  silent = λ seat life. record { calls = []; are = record { of_seat = sym (none seat life.0); left = refl }; silent = tt };
 }
 
 -- it has no entry

@@ -4,7 +4,6 @@ use Rattle.call_types.specs.declared.entry.Entry.{Entry}
 use Rattle.binder_model.specs.Due.{IsFirstDue, IsSettled}
 use Rattle.binder_model.specs.Told.{own}
 use Rattle.binder_model.specs.World.{world}
-use Rattle.attention_law.specs.Diligence.{Call}
 use Rattle.attention_law.specs.Resting.{WasToldStale}
 use Rattle.world_core.specs.Kept.{History}
 use Rattle.world_core.specs.declared.drained.Drained.{Drained}
@@ -18,12 +17,13 @@ use Rattle.script_lines.specs.declared.actors.Actor.{Actor}
 use Rattle.script_text.specs.declared.script.Line.{Line}
 use Rattle.script_text.specs.declared.script.Script.{Script}
 use Rattle.actor_turns.specs.declared.part.Part.{Part}
-use Rattle.actor_turns.specs.Calls.{AreOfLife, seat_at}
+use Rattle.actor_turns.specs.Calls.{seat_at}
 use Rattle.actor_turns.proofs.Lives.{seat_within}
 use Rattle.actor_work.specs.Work.Working.{HasWorked}
+use Rattle.actor_work.proofs.Crew.Histories.{life_in}
 use Rattle.shared_work.specs.Lines.{AreOfLines}
 use Rattle.script_runs.specs.Budget.{first_budget, raised}
-use Rattle.script_runs.specs.Parts.{first_actor_seat}
+use Rattle.script_runs.specs.Parts.{first_actor_seat, role_of}
 use Rattle.script_runs.specs.Replays.{EndsAs, Progress}
 use Rattle.script_runs.proofs.Staging.{after_first}
 use Rattle.script_threads.specs.Runs.{IsRun, progress_after}
@@ -37,9 +37,6 @@ module _ (calls : ℕ) (h later : List Entry) (actor : Actor) (part : Part) (nam
   next_life : (n : ℕ) → IsOfLives part (seat_at part n)
   next_life n = (omega arith, seat_within part n named)
 
-  of_life : (seat made : ℕ) (mine : List Call) → IsOfLives part seat → AreOfLife [] part seat made h mine → AreOfLife [] part seat made later mine
-  of_life seat made mine life are = record { of_seat = are.of_seat ∙ sym (same seat life); left = are.left }
-
   worked_on : (made : ℕ) → HasWorked part calls made h → HasWorked part calls made later
   worked_on made (inl all) = inl all
   worked_on made (inr fewer) = inr (fewer.0, subst (WasToldStale part.kind) (sym (same (seat_at part (made + 1)) (next_life (made + 1)))) fewer.1)
@@ -51,8 +48,7 @@ module _ (calls : ℕ) (h later : List Entry) (actor : Actor) (part : Part) (nam
     calls_are = did.calls_are;
     own_are = λ seat life. same seat life ∙ did.own_are seat life;
     whole = worked_on did.made did.whole;
-    diligent = λ seat life. let l = did.diligent seat life in record { calls = l.calls; are = of_life seat did.made l.calls life l.are; diligent = l.diligent };
-    silent = λ seat life. let l = did.silent seat life in record { calls = l.calls; are = of_life seat did.made l.calls life l.are; silent = l.silent };
+    lives = λ seat life. life_in [] (role_of actor) part seat did.made h later (same seat life) (did.lives seat life);
   }
 
 -- ---- all of them

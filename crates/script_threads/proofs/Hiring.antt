@@ -77,8 +77,7 @@ made_calls calls past actor part acted = record {
   calls_are = acted.calls_are;
   own_are = λ seat life. acted.own_is seat life.0 life.1;
   whole = acted.whole;
-  diligent = λ seat life. (acted.lives seat life.0 life.1).diligent;
-  silent = λ seat life. (acted.lives seat life.0 life.1).silent;
+  lives = λ seat life. acted.lives seat life.0 life.1;
 }
 
 -- these actors have done their work, and each request of theirs that is a binder's or a scheduler's was given by an actor

@@ -8,9 +8,9 @@ use Rattle.script_lines.specs.declared.actors.Actor.{Actor}
 use Rattle.script_text.specs.declared.script.Script.{Script}
 use Rattle.actor_turns.specs.declared.part.Part.{Part}
 use Rattle.actor_turns.specs.Calls.{AreCalls}
-use Rattle.actor_turns.specs.Diligent.{IsDiligentLife}
+use Rattle.actor_turns.specs.Lives.{WasPlayed}
 use Rattle.actor_turns.specs.Parts.{lives_of}
-use Rattle.actor_work.specs.Work.Working.{HasWorked, IsSilentLife}
+use Rattle.actor_work.specs.Work.Working.{HasWorked}
 use Rattle.shared_work.specs.Lines.{AreOfLines}
 use Rattle.script_runs.specs.Parts.{role_of}
 use Rattle.script_threads.specs.Started.{EachActor, drain_seat}
@@ -30,9 +30,8 @@ pub record HasMadeCalls (calls : ℕ) (past : List Entry) (actor : Actor) (part 
   pub own_are : (seat : ℕ) → IsOfLives part seat → own seat past ≡ own seat mine
   -- they are all; or they are fewer, and the life that would make the next one was told StaleEpoch
   pub whole : HasWorked part calls made past
-  -- each life is diligent, and asks nothing more once it was told StaleEpoch
-  pub diligent : (seat : ℕ) → IsOfLives part seat → IsDiligentLife [] (role_of actor) part seat made past
-  pub silent : (seat : ℕ) → IsOfLives part seat → IsSilentLife [] (role_of actor) part seat made past
+  -- each life is one that the actor played: each call is the one that its turn gave, and where a turn gave none it was woken
+  pub lives : (seat : ℕ) → IsOfLives part seat → WasPlayed [] (role_of actor) part seat made past
 
 -- what users and actors have done
 pub record AreDone (script : Script) (workers calls : ℕ) (past : List Entry) : Type 0 where

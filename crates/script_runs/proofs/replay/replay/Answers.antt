@@ -3,7 +3,7 @@ use Rattle.size_law.specs.Calls.Calls.{AreByActors}
 use Rattle.world_core.specs.Kept.{History}
 use Rattle.script_runs.specs.Steps.Standing.{MadeAtMost}
 use Rattle.script_runs.proofs.Beginning.{replays, so_far_first, so_far_on}
-use Rattle.script_runs.proofs.Ending.{diligent_replay}
+use Rattle.script_runs.proofs.Ending.{played_replay}
 use Rattle.script_runs.proofs.Moving.{line_there, some_of}
 use Rattle.script_runs.proofs.replay.replay.Goals as goal
 
@@ -51,9 +51,9 @@ returns-clause-setup c =
 pub returns-clause-actors : goal.returns-clause-actors
 returns-clause-actors c = subst (λ (h : History). AreByActors h.past) (sym c.into_world.ensures) (c.in_ok-ending.ensures.actors c.loop-place.invariant.actors)
 
-pub returns-clause-diligent : goal.returns-clause-diligent
-returns-clause-diligent c =
+pub returns-clause-played : goal.returns-clause-played
+returns-clause-played c =
     let all = ap length c.as_slice-place-end.ensures in
-    diligent_replay c.args.script.now c.args.budget c.loop-place.place c.loop-place.stage c.end.new.self c.into_world.result.past
+    played_replay c.args.script.now c.args.budget c.loop-place.place c.loop-place.stage c.end.new.self c.into_world.result.past
     c.in_ok-ending.ending c.requires.readable (omega (arith, all, c.loop-place-test.false)) c.loop-place.invariant.so_far
     c.in_ok-ending.ensures.ended (ap (λ (h : History). h.past) c.into_world.ensures)
