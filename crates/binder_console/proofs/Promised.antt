@@ -16,7 +16,7 @@ use Rattle.script_text.specs.declared.script.Script.{Script}
 use Rattle.script_text.specs.Grammar.{script_of}
 use Rattle.script_laws.specs.Read.Scripts.{IsScript}
 use Rattle.script_laws.proofs.Read.TextsGive.{ScriptGiven, script_gives}
-use Rattle.script_runs.specs.Diligent.{IsDiligentReplay}
+use Rattle.script_runs.specs.Played.{IsPlayedReplay}
 use Rattle.script_runs.specs.Replays.{IsReplay}
 use Rattle.script_runs.proofs.Readable.{script_readable}
 use Rattle.script_threads.specs.Runs.{IsRun}
@@ -52,7 +52,7 @@ read_is_script bytes script e = by (script_of bytes) (script_gives bytes) e
 -- the facts of a replay that its call gives
 pub record IsPlayed (script : Script) (budget : Option ℕ) (setup : Setup) (past : List Entry) (ending : Drained) : Type 0 where
   pub calls : IsReplay script budget past ending
-  pub diligent : IsDiligentReplay script budget past ending
+  pub played : IsPlayedReplay script budget past ending
   pub actors : AreByActors past
   pub from : setup ≡ script.setup
   pub of : IsRunOf setup past
@@ -61,15 +61,15 @@ pub record IsPlayed (script : Script) (budget : Option ℕ) (setup : Setup) (pas
 
 promised : (script : Script) (budget : Option ℕ) (past : List Entry) (ending : Drained) → IsScript script → IsPlayed script budget script.setup past ending → IsPromised script budget past ending
 promised script budget past ending is p = record {
-  calls = p.diligent.calls;
-  diligent = p.diligent.diligent;
+  calls = p.played.calls;
+  played = p.played.played;
   run = p.run;
   safe = p.safe;
   enough = actors_give_enough script.setup past p.of p.actors;
-  lasting = replayed_drains_last script budget past ending (script_readable script is) p.of p.diligent.calls;
-  named = replayed_pods_are_on_named script budget past ending is.nodes p.run p.diligent.calls;
-  short = replayed_drains_are_short script budget past ending given.readable given.given p.diligent.calls;
-  settling = λ may. ap status_of (last_drains_settle script budget past ending given p.diligent.calls may).is;
+  lasting = replayed_drains_last script budget past ending (script_readable script is) p.of p.played.calls;
+  named = replayed_pods_are_on_named script budget past ending is.nodes p.run p.played.calls;
+  short = replayed_drains_are_short script budget past ending given.readable given.given p.played.calls;
+  settling = λ may. ap status_of (last_drains_settle script budget past ending given p.played.calls may).is;
 }
   where
     given : IsGivenScript script past

@@ -16,7 +16,7 @@ use Rattle.history_text.specs.Summaries.{summary_of, summary_lines}
 use Rattle.history_text.specs.Output.{final_lines, history_text, with_lines}
 use Rattle.script_text.specs.declared.script.Script.{Script}
 use Rattle.script_text.specs.Grammar.{script_of}
-use Rattle.script_runs.specs.Diligent.{AreDiligent}
+use Rattle.script_runs.specs.Played.{ArePlayed}
 use Rattle.script_runs.specs.Replays.{IsReplay}
 use Rattle.script_threads.specs.Runs.{IsRun}
 use Rattle.history_laws.specs.Runs.Laws.{HasOneHistory}
@@ -58,8 +58,8 @@ status_of (Spent made key due) = Unsettled
 pub record IsPromised (script : Script) (budget : Option ℕ) (past : List Entry) (ending : Drained) : Type 0 where
   -- it has the calls of the script's lines in order, and then those of a drain, which ended so
   pub calls : IsReplay script budget past ending
-  -- with these calls each actor that a turn line names was diligent in each of its lives
-  pub diligent : AreDiligent script calls.end
+  -- with these calls each life of each actor that a turn line names is one that its actor played
+  pub played : ArePlayed script calls.end
   -- each reply is the world's, and each controller asked only what it had been told allowed
   pub run : Run script.setup past
   -- at every point no completed claim lacks its volume, and nothing that is in use has left or was erased
@@ -101,8 +101,8 @@ pub record Generates (seed : ℕ) (budget : Option ℕ) (status : Status) (text 
 
 -- What is promised of the history of a script that was run on threads: no less than of a replay.
 pub record IsPromisedOfThreads (script : Script) (workers calls : ℕ) (budget : Option ℕ) (past : List Entry) (ending : Drained) : Type 0 where
-  -- each user's entries are its lines; so many workers of each kind, and an agent of each node, made so many calls each, and
-  -- were diligent in each of their lives; no other seat has an entry. Then comes a drain, which ended so
+  -- each user's entries are its lines; so many workers of each kind, and an agent of each node, made so many calls each, in
+  -- lives that they played; no other seat has an entry. Then comes a drain, by new actors, which ended so
   pub calls_are : IsRun script workers calls budget past ending
   pub run : Run script.setup past
   pub safe : Safe script.setup past

@@ -79,7 +79,7 @@ fn end_answer<K: Sink>(sink: &mut K, answer: Answer) -> Status
 /// Delete. A claim that was imported as Lost is covered from the point at which its volume carries it in phase Bound. No
 /// completed claim got a volume of fewer bytes or of another volume mode than it asked for, but where users bound both by
 /// hand (`enough`). The history has one entry for each call of a user, in order, and of each turn and each drain the calls
-/// that the script says; each actor that a turn line names is diligent in each of its lives. With status 0 nothing is due at its end; with 3 the
+/// that the script says; each actor that a turn line names played each of its lives. With status 0 nothing is due at its end; with 3 the
 /// calls of the drains are spent, and the last line names what is due first. Where the stated budget is left for the last
 /// drain of a small world, no two pods without a node share an open claim that waits for a pod, and no agent is stale, 3 does
 /// not come (`settling`). A round of a drain makes few calls, by what stands as it begins (`short`). The

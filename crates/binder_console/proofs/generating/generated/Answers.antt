@@ -12,7 +12,7 @@ returns c = λ input.
     let e = c.in_ok-replayed.ensures in
     let w = c.world.ensures in
     let played : IsPlayed c.in_ok-script.script c.args.budget r.world.setup r.world.past r.ending =
-    record { calls = e.replay; diligent = e.diligent; actors = e.actors; from = e.setup; of = w.of; run = w.run; safe = w.safe } in
+    record { calls = e.replay; played = e.played; actors = e.actors; from = e.setup; of = w.of; run = w.run; safe = w.safe } in
     let printed : c.in_ok-text.text ≡ summary_text r.world.setup r.world.past r.ending =
     c.in_ok-text.ensures ∙ ap (λ (h : History). summary_text h.setup h.past r.ending) w.value in
     subst (IsAnswer (Gen c.args.seed c.args.budget) input) (sym c.answer_ended.ensures)
