@@ -2,7 +2,7 @@
 
 ghost use Rattle.run_examples.specs.Replay.Calls.{CallExamples, EndExamples, SeatExamples};
 ghost use Rattle.run_examples.specs.Replay.Drains.{ActorExamples, AssignExamples, DrainExamples, KeptExamples, ReclaimExamples, RoundExamples, SpentExamples};
-ghost use Rattle.run_examples.specs.Replay.Lives.{LifeExamples};
+ghost use Rattle.run_examples.specs.Replay.Lives.{LifeExamples, PlayedExamples};
 ghost use Rattle.run_examples.specs.Replay.Replays.{EmptyExamples, FewerExamples, TurnExamples, UserExamples};
 ghost use Rattle.run_examples.specs.Replay.Runs.{HeldExamples, QueueExamples};
 ghost use Rattle.run_examples.specs.Replay.Turns.{LeftExamples, NeededExamples, StaleExamples};
@@ -20,6 +20,11 @@ pub fn call_examples()
 /// The calls of one life.
 pub fn life_examples()
     ensures { LifeExamples }
+{}
+
+/// A life whose calls its actor gave.
+pub fn played_examples()
+    ensures { PlayedExamples }
 {}
 
 /// How a turn may give fewer calls than its line says.

@@ -19,37 +19,8 @@ use Rattle.actor_rounds.proofs.NewFacts.{new_roles_for, new_seats_for, new_stand
 use Rattle.script_text.specs.declared.script.Script.{Script}
 use Rattle.script_runs.specs.Parts.{drain_roles, drain_seat, drain_seats}
 use Rattle.actor_rounds.proofs.Resting.{new_rest}
-use Rattle.run_examples.specs.Replay.Runs.{begun_as, knows_nothing, no_caches}
-
--- ---- caches that know nothing
-
-nothing_told : (kind : Kind) → CacheStandsFor (knows_nothing kind) []
-nothing_told kind = record { known = λ key own. refl; rows = λ key own. refl; from = refl }
-
-no_caches_stand : AllStandFor no_caches []
-no_caches_stand = record { kinds = kind_is; each = each; rows = λ key. refl }
-  where
-    kind_is : (kind : Kind) → kind_known (cache_of kind no_caches) ≡ kind
-    kind_is kinds.StorageClass = refl
-    kind_is kinds.Node = refl
-    kind_is kinds.PersistentVolume = refl
-    kind_is kinds.PersistentVolumeClaim = refl
-    kind_is kinds.Pod = refl
-
-    each : (kind : Kind) → CacheStandsFor (cache_of kind no_caches) []
-    each kinds.StorageClass = nothing_told kinds.StorageClass
-    each kinds.Node = nothing_told kinds.Node
-    each kinds.PersistentVolume = nothing_told kinds.PersistentVolume
-    each kinds.PersistentVolumeClaim = nothing_told kinds.PersistentVolumeClaim
-    each kinds.Pod = nothing_told kinds.Pod
-
--- ---- a new actor
-
-begun_new : (role : Role) → IsNew role (begun_as role)
-begun_new role = record { is = refl; caches = no_caches_stand; work = refl; pass = refl; memory = refl; under = refl; given = refl }
-
-begun_stands : (role : Role) → StandsFor (begun_as role) []
-begun_stands role = begins role (begun_as role) (begun_new role)
+use Rattle.attention_law.specs.Begun.{begun_as}
+use Rattle.attention_law.proofs.Begun.{begun_new, begun_stands}
 
 -- a wake leaves it standing
 woken_stands : (s : ActorState) (mine : List Entry) → StandsFor s mine → StandsFor (woken s) mine

@@ -105,7 +105,7 @@ never_now : (kind : Kind) (mine : List Entry) → NeverListed kind mine → foll
 never_now kind [] never = never
 never_now kind (e ∷ mine) never = never.0
 
-not_listed : (kind : Kind) (c : AllKnown) (mine : List Entry) → AllStandFor c mine → following_of mine kind ≡ Unlisted → is_listed c kind ≡ false
+pub not_listed : (kind : Kind) (c : AllKnown) (mine : List Entry) → AllStandFor c mine → following_of mine kind ≡ Unlisted → is_listed c kind ≡ false
 not_listed kind c mine stand none =
     ap is_some ((stand.each kind).from ∙ ap (λ k. watch_from (following_of mine k)) (stand.kinds kind) ∙ ap watch_from none)
 
@@ -138,7 +138,7 @@ lacking_from c (x ∷ ks) k e = by (is_listed c x) refl e (lacking_from c ks k)
     by false is h rest = subst (λ y. is_listed c y ≡ false) (one x k h) is
 
 -- a kind that is not listed is asked for by a list
-asked_list : (c : AllKnown) (k : Kind) → is_listed c k ≡ false → read_of_kind c k ≡ requests.List k None
+pub asked_list : (c : AllKnown) (k : Kind) → is_listed c k ≡ false → read_of_kind c k ≡ requests.List k None
 asked_list c k not = by (cache_of k c).from not
   where
     by : (from : Option ℕ) → is_some from ≡ false → read_request k (ask_from from) ≡ requests.List k None

@@ -1,72 +1,89 @@
--- The examples of lives compute.
-use Rattle.std.proofs.Common.{◌≡◌, ℕ, zero, suc, ◌<◌, ◌≤◌, ◌+◌, List, [], ◌∷◌, ◌++◌, length, length-append, map, Bool, true, false, true≢false, Some, None, refl, sym, ◌∙◌, ap, subst, arith}
-use Rattle.std.specs.Prelude.{is_some, slice_get}
+-- The examples of the calls of one life compute.
+use Rattle.std.proofs.Common.{◌≡◌, ℕ, zero, suc, List, [], ◌∷◌, Bool, true, false, true≢false, Some, None, refl, sym, ap, subst}
+use Rattle.std.specs.Prelude.{slice_get}
+use Rattle.kube_parts.specs.declared.parts.Kind.{Kind}
+use Rattle.kube_parts.specs.declared.parts.Kind.TheVariants as kinds
 use Rattle.call_types.specs.declared.entry.Entry.{Entry}
-use Rattle.attention_law.specs.Diligence.{Call, IsDiligent, entries}
+use Rattle.call_types.specs.declared.request.Request.{Request}
+use Rattle.call_types.specs.declared.request.Request.TheVariants as requests
+use Rattle.attention_law.specs.Diligence.{Call}
+use Rattle.attention_law.specs.Played.{IsPlayed}
+use Rattle.attention_law.specs.Resting.{IsPlayedSince}
+use Rattle.attention_law.proofs.Following.{same_role, stands_now}
+use Rattle.attention_law.proofs.Needed.{played_on}
 use Rattle.model_laws.proofs.Lists.{none_some, one}
-use Rattle.worker_core.specs.declared.role.Role.{Role}
+use Rattle.worker_core.specs.declared.turn.Next.TheVariants as nexts
+use Rattle.worker_core.specs.States.{ActorState, call_in}
 use Rattle.script_lines.specs.declared.actors.Actor.{Actor}
 use Rattle.script_text.specs.declared.script.Line.TheVariants as lines
 use Rattle.script_runs.specs.Examples.{binder_1}
-use Rattle.actor_turns.specs.Parts.{lives_of}
 use Rattle.script_runs.specs.Parts.{part_of, role_of}
-use Rattle.actor_turns.specs.Diligent.{IsDiligentLife}
-use Rattle.script_runs.specs.Replays.{Progress}
-use Rattle.run_examples.specs.Replay.Calls.{reads}
-use Rattle.run_examples.specs.Replay.Lives.{LifeExamples, told}
+use Rattle.actor_turns.specs.declared.part.Part.{Part}
+use Rattle.actor_turns.specs.Calls.{AreOfLife}
+use Rattle.actor_turns.specs.Lives.{ArePlayedLives, IsIdleLife}
+use Rattle.actor_turns.proofs.Diligent.{played_lives_are_diligent}
+use Rattle.run_examples.specs.Replay.Calls.{first_list, reads}
+use Rattle.run_examples.specs.Replay.Lives.{IsFirstPlayed, LifeExamples, PlayedExamples, lossy_part, sound_part}
 use Rattle.run_examples.specs.Replay.Replays.{turn_script}
-use Rattle.run_examples.proofs.Replay.Replayed.{turn_replay}
+use Rattle.run_examples.proofs.Replay.Played.{binder_listed, binder_lost, binder_untold, first_lists, list_volumes, lists_first, same_calls}
+use Rattle.run_examples.proofs.Replay.Replayed.{turn_replay, turned_lives}
 
--- one call has no four watches
-one_diligent : (role : Role) (call : Call) → IsDiligent role (call ∷ [])
-one_diligent role call kind first fourth earlier between later is four key due =
-    let all : 1 ≡ length (later ++ Some fourth ∷ (between ++ Some first ∷ earlier)) = ap length is in
-    let long = length-append later (Some fourth ∷ (between ++ Some first ∷ earlier)) in
-    let longer = length-append between (Some first ∷ earlier) in
-    absurd (omega (arith, all, long, longer))
+-- ---- a first life of one call
 
-its_life : (end : Progress) → end.made (part_of turn_script binder_1).name ≡ 1 → end.past ≡ reads 5 true ∷ [] → (seat : ℕ) → seat ≡ 5
-    → IsDiligentLife [] (role_of binder_1) (part_of turn_script binder_1) seat (end.made (part_of turn_script binder_1).name) end.past
-its_life end made past seat is =
-    subst (λ s. IsDiligentLife [] (role_of binder_1) (part_of turn_script binder_1) s (end.made (part_of turn_script binder_1).name) end.past) (sym is)
-    (subst (λ n. IsDiligentLife [] (role_of binder_1) (part_of turn_script binder_1) 5 n end.past) (sym made)
-    (subst (IsDiligentLife [] (role_of binder_1) (part_of turn_script binder_1) 5 1) (sym past)
-    (record { calls = told 5 ∷ []; are = record { of_seat = refl; left = refl }; diligent = one_diligent (role_of binder_1) (told 5) })))
+its_first : (p : Part) (past : List Entry) (s : ActorState) (call : Call) → AreOfLife [] p 5 1 past (call ∷ []) → IsPlayedSince (role_of binder_1) s [] (call ∷ []) → IsFirstPlayed p past
+its_first p past s call are played = record { since = call ∷ []; are = are; state = s; played = played }
+
+-- a first call that was told, or lost after its effect
+asked_first : (e : Entry) → IsFirstPlayed sound_part (e ∷ []) → AreOfLife [] sound_part 5 1 (e ∷ []) (Some e ∷ []) → e.request ≡ list_volumes
+asked_first e life are = first_lists sound_part 5 (e ∷ []) e are life
+
+-- tests that tell requests apart
+
+abbrev is_volumes : Kind → Bool
+is_volumes kinds.PersistentVolume = true
+is_volumes kind = false
+
+abbrev lists_volumes : Request → Bool
+lists_volumes (requests.List kind namespace) = is_volumes kind
+lists_volumes request = false
+
+-- the turn of a life that was told nothing gives a call
+never_idle : IsIdleLife [] (role_of binder_1) sound_part 5 0 [] [] [] → ⊥
+never_idle idle =
+    none_some (ap call_in (lists_first idle.state idle.turned nexts.Idle (same_role (role_of binder_1) idle.state [] played) (stands_now (role_of binder_1) idle.state [] played) idle.turns.turn))
+  where
+    played : IsPlayed (role_of binder_1) idle.state []
+    played = played_on (role_of binder_1) idle.state [] [] idle.played
 
 turned_actor : (actor : Actor) (calls : ℕ) → lines.Turn binder_1 1 ≡ lines.Turn actor calls → binder_1 ≡ actor
 turned_actor actor calls is = cc
 
-lives : (end : Progress) → end.made (part_of turn_script binder_1).name ≡ 1 → end.past ≡ reads 5 true ∷ [] → (place : ℕ) (actor : Actor) (calls : ℕ)
-    → slice_get turn_script.lines place ≡ Some (lines.Turn actor calls) → (seat : ℕ)
-    → (part_of turn_script actor).first ≤ seat → seat < (part_of turn_script actor).first + lives_of (part_of turn_script actor)
-    → IsDiligentLife [] (role_of actor) (part_of turn_script actor) seat (end.made (part_of turn_script actor).name) end.past
-lives end made past (suc place) actor calls at seat low high = none_some at
-lives end made past zero actor calls at seat low high =
-    let is = turned_actor actor calls (one (lines.Turn binder_1 1) (lines.Turn actor calls) at) in
-    let first : 5 ≤ seat = subst (λ a. (part_of turn_script a).first ≤ seat) (sym is) low in
-    let last : seat < 5 + 1 = subst (λ a. seat < (part_of turn_script a).first + lives_of (part_of turn_script a)) (sym is) high in
-    subst (λ a. IsDiligentLife [] (role_of a) (part_of turn_script a) seat (end.made (part_of turn_script a).name) end.past) is (its_life end made past seat (omega (arith, first, last)))
+-- the one turn line of the script is the binder's
+all_lives : (place : ℕ) (actor : Actor) (calls : ℕ) → slice_get turn_script.lines place ≡ Some (lines.Turn actor calls)
+    → ArePlayedLives [] (role_of actor) (part_of turn_script actor) (turn_replay.end.made (part_of turn_script actor).name) turn_replay.end.past turn_replay.end.idle
+all_lives (suc place) actor calls at = none_some at
+all_lives zero actor calls at =
+    subst (λ a. ArePlayedLives [] (role_of a) (part_of turn_script a) (turn_replay.end.made (part_of turn_script a).name) turn_replay.end.past turn_replay.end.idle)
+    (turned_actor actor calls (one (lines.Turn binder_1 1) (lines.Turn actor calls) at)) turned_lives
 
-abbrev head_of : List Bool → Bool
-head_of [] = true
-head_of (b ∷ bs) = b
+pub played_cases : PlayedExamples
+played_cases = record {
+  it_lists_the_volumes = its_first sound_part (first_list ∷ []) _ (Some first_list) (record { of_seat = refl; left = refl }) binder_listed;
+  not_a_read_of_one_object = λ life. absurd (true≢false (sym (ap lists_volumes (asked_first (reads 5 true) life (record { of_seat = refl; left = refl })))));
+  not_a_watch = λ life. absurd (true≢false
+      (sym (ap lists_volumes (asked_first (record first_list { request = requests.Watch kinds.PersistentVolume 0 }) life (record { of_seat = refl; left = refl })))));
+  not_a_list_of_another_kind = λ life. absurd (true≢false
+      (sym (ap lists_volumes (asked_first (record first_list { request = requests.List kinds.PersistentVolumeClaim None }) life (record { of_seat = refl; left = refl })))));
+  lost_before_its_effect = its_first (lossy_part false) [] _ None (record { of_seat = refl; left = refl }) binder_lost;
+  lost_after_it = its_first (lossy_part true) (record first_list { told = false } ∷ []) _ (Some (record first_list { told = false })) (record { of_seat = refl; left = refl }) binder_untold;
+  nor_a_lost_read_of_one_object = λ life. absurd (true≢false
+      (sym (ap lists_volumes (first_lists (lossy_part true) 5 (reads 5 false ∷ []) (reads 5 false) (record { of_seat = refl; left = refl }) life))));
+  not_idle_at_once = never_idle;
+  it_is_diligent = λ past life. played_lives_are_diligent [] (role_of binder_1) sound_part 5 1 past [] tt life;
+  a_turn_of_one_call = record { calls = turn_replay; played = all_lives };
+}
 
-abbrev tail_of : List Bool → List Bool
-tail_of [] = []
-tail_of (b ∷ bs) = bs
-
--- the entries and the places of the lost calls say all
-pub same_calls : (calls others : List Call) → entries calls ≡ entries others → map is_some calls ≡ map is_some others → calls ≡ others
-same_calls [] [] are left = refl
-same_calls [] (other ∷ others) are left = absurd (cc)
-same_calls (call ∷ calls) [] are left = absurd (cc)
-same_calls (None ∷ calls) (None ∷ others) are left = ap (λ xs. None ∷ xs) (same_calls calls others are (ap tail_of left))
-same_calls (None ∷ calls) (Some other ∷ others) are left = absurd (true≢false (sym (ap head_of left)))
-same_calls (Some call ∷ calls) (None ∷ others) are left = absurd (true≢false (ap head_of left))
-same_calls (Some call ∷ calls) (Some other ∷ others) are left =
-    let first : call ≡ other = cc in
-    let later : entries calls ≡ entries others = cc in
-    ap (λ x. Some x ∷ calls) first ∙ ap (λ xs. Some other ∷ xs) (same_calls calls others later (ap tail_of left))
+-- ---- the calls of a life
 
 abbrev third_told : List Entry → Bool
 third_told (first ∷ second ∷ third ∷ entries) = third.told
@@ -88,8 +105,4 @@ life_cases = record {
   one_held_back_beside_them = record { of_seat = refl; left = refl };
   not_where_it_was_not = λ h. let e : true ∷ false ∷ false ∷ true ∷ true ∷ [] ≡ true ∷ false ∷ true ∷ true ∷ true ∷ [] = h.left in absurd (cc);
   no_other_calls = λ p seat made past calls others own other. same_calls calls others (own.of_seat ∙ sym other.of_seat) (own.left ∙ sym other.left);
-  a_turn_of_one_call = record {
-    calls = turn_replay;
-    diligent = lives turn_replay.end refl refl;
-  };
 }

@@ -1,28 +1,27 @@
 -- The examples of turns compute.
-use Rattle.std.proofs.Common.{◌≡◌, ◌≤◌, ◌<◌, ℕ, ◌+◌, List, [], ◌∷◌, length, true≢false, None, inl, inr, refl, sym, ap, subst, arith}
+use Rattle.std.proofs.Common.{◌≡◌, ◌≤◌, ◌<◌, ℕ, ◌+◌, List, [], ◌∷◌, length, Bool, true, false, true≢false, Some, None, inl, inr, refl, sym, ap, subst, arith}
 use Rattle.call_types.specs.declared.entry.Entry.{Entry}
 use Rattle.call_types.specs.declared.request.SeatKind.{SeatKind}
 use Rattle.call_types.specs.declared.request.SeatKind.TheVariants as seats
-use Rattle.kube_parts.specs.declared.parts.Kind.{Kind}
-use Rattle.call_types.specs.declared.reply.Reply.TheVariants.{Events}
-use Rattle.call_types.specs.declared.request.Request.TheVariants.{Watch}
+use Rattle.call_types.specs.declared.request.Request.{Request}
+use Rattle.call_types.specs.declared.request.Request.TheVariants as requests
 use Rattle.kube_parts.specs.declared.parts.Kind.TheVariants as kinds
 use Rattle.attention_law.specs.Diligence.{entries}
-use Rattle.attention_law.specs.Resting.{IsDone}
-use Rattle.attention_law.proofs.Dues.{never_due}
 use Rattle.binder_model.specs.Told.{own}
 use Rattle.actor_turns.specs.declared.loss.Fate.{Fate}
 use Rattle.actor_turns.specs.declared.loss.Fate.TheVariants.{Told, LostBefore, LostAfter}
 use Rattle.actor_turns.specs.declared.part.Part.{Part}
 use Rattle.actor_turns.specs.Fates.{fate_of}
-use Rattle.actor_turns.specs.Calls.{AreCalls, IsCallWith, IsNeededLife, MayEnd, MoreCalls, NoCalls, seat_at}
+use Rattle.actor_turns.specs.Calls.{AreCalls, IsCallWith, MayEnd, MoreCalls, NoCalls, seat_at}
+use Rattle.actor_turns.specs.Lives.{IsPlayedLife}
+use Rattle.actor_turns.proofs.Diligent.{idle_lives_may_end}
 use Rattle.script_runs.specs.Examples.{binder_1}
 use Rattle.script_runs.specs.Parts.{role_of}
 use Rattle.script_runs.specs.Replays.{IsTurnLine, Progress, first_progress}
 use Rattle.run_examples.specs.Replay.Calls.{told_calls, watches, whole_pass}
 use Rattle.run_examples.specs.Replay.Replays.{FewerExamples, after_a_pass, plain_part}
 use Rattle.run_examples.proofs.Replay.Counted.{end_cases}
-use Rattle.run_examples.proofs.Replay.Brought.{brought_at, only_life, silent_binder, watch_brings_none}
+use Rattle.run_examples.proofs.Replay.Played.{last_lists}
 use Rattle.actor_rounds.specs.Answers.Answered.{all_pass}
 
 -- ---- calls leave entries
@@ -50,52 +49,21 @@ told_grows p new n count past fate some (MoreCalls rest middle is call more) =
 
 -- ---- turns
 
-three_calls : AreCalls all_pass [] plain_part whole_pass 1 3 []
-three_calls =
-    MoreCalls {n = 1} {past = []} 2 (watches kinds.PersistentVolume ∷ []) refl (watched kinds.PersistentVolume [])
-    (MoreCalls {n = 2} {past = watches kinds.PersistentVolume ∷ []} 1
-    (watches kinds.PersistentVolumeClaim ∷ watches kinds.PersistentVolume ∷ []) refl (watched kinds.PersistentVolumeClaim (watches kinds.PersistentVolume ∷ []))
-    (MoreCalls {n = 3} {past = watches kinds.PersistentVolumeClaim ∷ watches kinds.PersistentVolume ∷ []} 0 whole_pass refl
-    (watched kinds.StorageClass (watches kinds.PersistentVolumeClaim ∷ watches kinds.PersistentVolume ∷ []))
-    (NoCalls refl refl)))
-  where
-    watched : (kind : Kind) (past : List Entry) → IsCallWith all_pass Told 5 seats.Binder past (watches kind ∷ past)
-    watched kind past = record { request = Watch kind 3; reply = Events (record { events = []; upto = 3 }); passes = refl; is = refl }
+abbrev is_list : Request → Bool
+is_list (requests.List kind namespace) = true
+is_list request = false
 
-three_of_nine : IsTurnLine all_pass [] (role_of binder_1) plain_part 9 (first_progress None []) after_a_pass
-three_of_nine = inr (record {
-  count = 3;
-  few = omega arith;
-  past = whole_pass;
-  made = three_calls;
-  needed = λ seat low high. subst (λ s. IsNeededLife [] (role_of binder_1) plain_part s 3 whole_pass []) (only_life seat low high) three_needed;
-  seat = 5;
-  life = refl;
-  since = told_calls whole_pass;
-  are = record { of_seat = refl; left = refl };
-  ends = end_cases.after_a_whole_pass;
-  done = λ unstale. done_three;
-  is = refl;
-})
-  where
-    three_needed : IsNeededLife [] (role_of binder_1) plain_part 5 3 whole_pass []
-    three_needed = record {
-      since = told_calls whole_pass;
-      are = record { of_seat = refl; left = refl };
-      needed = (((tt, λ watch through. true≢false (sym through.whole)), λ watch through. true≢false (sym through.whole)), λ watch through. true≢false (sym through.whole));
-      silent = silent_binder (told_calls whole_pass);
-    }
-
-    done_three : IsDone (role_of binder_1) [] (told_calls whole_pass)
-    done_three = record {
-      passed = record { whole = refl; quiet = refl };
-      brought = λ key e later earlier at brings due. brought_at (role_of binder_1) [] [] (told_calls whole_pass) (
-        (λ key brings due. absurd (watch_brings_none kinds.StorageClass key brings)),
-        ((λ key brings due. absurd (watch_brings_none kinds.PersistentVolumeClaim key brings)), ((λ key brings due. absurd (watch_brings_none kinds.PersistentVolume key brings)), tt)),
-      )
-          key e later earlier at brings due;
-      due = λ key due. absurd (never_due (role_of binder_1) key tt due.1.1.1);
-    }
+-- its first call is not the watch of a kind that it did not list
+no_lists : IsTurnLine all_pass [] (role_of binder_1) plain_part 9 (first_progress None []) after_a_pass → ⊥
+no_lists (inl all) = let e : told_calls whole_pass ≡ [] = ap (λ (p : Progress). p.idle 5) all.is in absurd (cc)
+no_lists (inr fewer) =
+    let past : fewer.past ≡ whole_pass = sym (ap (λ (p : Progress). p.past) fewer.is) in
+    let made : 0 + fewer.count ≡ 3 = sym (ap (λ (p : Progress). p.made plain_part.name) fewer.is) in
+    let life : IsPlayedLife [] (role_of binder_1) plain_part 5 (0 + fewer.count) fewer.past [] = fewer.lives 5 (omega arith) (omega arith) in
+    let its : IsPlayedLife [] (role_of binder_1) plain_part 5 3 whole_pass [] =
+    subst (λ n. IsPlayedLife [] (role_of binder_1) plain_part 5 n whole_pass []) made (subst (λ h. IsPlayedLife [] (role_of binder_1) plain_part 5 (0 + fewer.count) h []) past life) in
+    absurd (true≢false (sym (ap is_list (last_lists plain_part 5 3 whole_pass
+    (Some (watches kinds.StorageClass) ∷ Some (watches kinds.PersistentVolumeClaim) ∷ []) [] (watches kinds.PersistentVolume) (record { of_seat = refl; left = refl }) its))))
 
 all_three : IsTurnLine all_pass [] (role_of binder_1) plain_part 3 (first_progress None []) after_a_pass → ⊥
 all_three (inl all) = let e : told_calls whole_pass ≡ [] = ap (λ (p : Progress). p.idle 5) all.is in absurd (cc)
@@ -112,9 +80,10 @@ no_call (inl all) =
 no_call (inr fewer) =
     let past : whole_pass ≡ fewer.past = ap (λ (p : Progress). p.past) fewer.is in
     let seat : fewer.seat ≡ 5 = fewer.life in
+    let may = idle_lives_may_end [] (role_of binder_1) plain_part fewer.seat (3 + fewer.count) fewer.past (after_a_pass.idle fewer.seat) fewer.since tt fewer.ends in
     let ends : MayEnd seats.Binder (entries (after_a_pass.idle fewer.seat)) (own fewer.seat whole_pass) =
-    subst (λ h. MayEnd seats.Binder (entries (after_a_pass.idle fewer.seat)) (own fewer.seat h)) (sym past) fewer.ends in
+    subst (λ h. MayEnd seats.Binder (entries (after_a_pass.idle fewer.seat)) (own fewer.seat h)) (sym past) may in
     absurd (end_cases.not_by_the_pass_of_an_earlier_turn (subst (λ s. MayEnd seats.Binder (entries (after_a_pass.idle s)) (own s whole_pass)) seat ends))
 
 pub fewer_cases : FewerExamples
-fewer_cases = record { fewer_after_a_whole_pass = three_of_nine; not_where_three_were_asked = all_three; the_next_begins_with_a_call = no_call }
+fewer_cases = record { not_without_its_lists = no_lists; not_where_three_were_asked = all_three; the_next_begins_with_a_call = no_call }

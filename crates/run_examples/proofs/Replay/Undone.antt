@@ -9,7 +9,6 @@ use Rattle.kube_objects.specs.declared.objects.Object.TheVariants.{Volume}
 use Rattle.kube_objects.specs.Keys.{row_at}
 use Rattle.call_types.specs.declared.entry.Entry.{Entry}
 use Rattle.call_types.specs.declared.request.SeatKind.TheVariants as seats
-use Rattle.binder_model.specs.Reading.{follows}
 use Rattle.binder_model.specs.Told.{listing, newest, object_of, own}
 use Rattle.volume_sync.specs.VolumeDecision.{volume_decision}
 use Rattle.binder_machines.specs.declared.machine.Machine.TheVariants.{Frees}
@@ -18,7 +17,6 @@ use Rattle.model_examples.specs.Samples.{key_a}
 use Rattle.worker_core.specs.declared.role.Role.{Role}
 use Rattle.worker_core.specs.declared.task.Task.TheVariants as tasks
 use Rattle.worker_core.specs.declared.task.Under.{Under}
-use Rattle.worker_core.specs.Stands.{HasNoNews}
 use Rattle.attention_law.specs.Diligence.{Call, IsKeyDue}
 use Rattle.attention_law.specs.Resting.{AreNeeded, Brings, IsDone, IsSilentOnceStale, WasCalledSince, WasToldStale}
 use Rattle.attention_law.proofs.Dues.{asked_no_read, never_due}
@@ -29,13 +27,16 @@ use Rattle.actor_turns.specs.declared.part.Part.{Part}
 use Rattle.actor_turns.specs.Fates.{fate_of}
 use Rattle.script_runs.specs.Examples.{binder_1}
 use Rattle.script_runs.specs.Parts.{role_of}
-use Rattle.actor_turns.specs.Calls.{AreCalls, AreNeededLives, AreOfLife, IsCallWith, IsNeededLife, MoreCalls, NoCalls, seat_at}
+use Rattle.actor_turns.specs.Calls.{AreCalls, AreOfLife, IsCallWith, MoreCalls, NoCalls, seat_at}
+use Rattle.actor_turns.specs.Diligent.{IsNeededLife}
+use Rattle.actor_turns.specs.Lives.{IsIdleLife, IsPlayedLife}
+use Rattle.actor_turns.proofs.Diligent.{idle_lives_are_done, played_lives_are_needed}
 use Rattle.script_runs.specs.Replays.{IsTurnLine, Progress, first_progress}
 use Rattle.run_examples.specs.Replay.Calls.{told_calls, watches}
 use Rattle.run_examples.specs.Replay.Replays.{plain_part}
 use Rattle.run_examples.specs.Replay.Turns.{LeftExamples, NeededExamples, StaleExamples, agent_n, agent_part, is_stale, lists, lost_node, made_all, made_fewer, only_watches, pending_a, six, takes}
-use Rattle.run_examples.proofs.Replay.Brought.{brought_at, no_binder_is_stale, only_life, silent_binder, watch_brings_none}
-use Rattle.run_examples.proofs.Replay.Lived.{same_calls}
+use Rattle.run_examples.proofs.Replay.Brought.{brought_at, no_binder_is_stale, only_life, watch_brings_none}
+use Rattle.run_examples.proofs.Replay.Played.{same_calls}
 use Rattle.actor_rounds.specs.Answers.Answered.{all_pass}
 
 -- ---- of an actor that loses no call
@@ -65,23 +66,6 @@ binder = role_of binder_1
 its_six : AreOfLife [] plain_part 5 6 six (told_calls six)
 its_six = record { of_seat = refl; left = refl }
 
-needed_six : AreNeeded seats.Binder (told_calls six)
-needed_six = (
-  (
-    (
-      (((tt, λ watch through. true≢false (sym watch)), λ watch through. true≢false (sym watch)), λ watch through. true≢false (sym watch)),
-      λ watch through. true≢false (sym through.whole),
-    ),
-    λ watch through. true≢false (sym through.whole),
-  ),
-  λ watch through. true≢false (sym through.whole),
-)
-
-needed_lives : AreNeededLives [] (role_of binder_1) plain_part 6 six (first_progress None []).idle
-needed_lives seat low high =
-    subst (λ s. IsNeededLife [] (role_of binder_1) plain_part s 6 six []) (only_life seat low high)
-    (record { since = told_calls six; are = its_six; needed = needed_six; silent = silent_binder (told_calls six) })
-
 six_calls : AreCalls all_pass [] plain_part six 1 6 []
 six_calls =
     MoreCalls {n = 1} {past = []} 5 (lists kinds.PersistentVolume [] ∷ []) refl (record { request = _; reply = _; passes = refl; is = refl })
@@ -104,7 +88,8 @@ one_more after at (inl all) =
     let past : all.past ≡ watches kinds.PersistentVolume ∷ six = sym (ap (λ (p : Progress). p.past) all.is) ∙ at in
     let low : 5 ≤ 5 = omega arith in
     let high : 5 < 5 + 1 = omega arith in
-    let life : IsNeededLife [] (role_of binder_1) plain_part 5 7 all.past [] = all.needed 5 low high in
+    let life : IsNeededLife [] (role_of binder_1) plain_part 5 7 all.past [] =
+    played_lives_are_needed [] (role_of binder_1) plain_part 5 7 all.past [] (all.lives 5 low high) in
     let since = told_life plain_part 5 7 all.past (watches kinds.PersistentVolume ∷ six) life.since [] life.are refl
     (subst (λ h. AreOfLife [] plain_part 5 7 h (told_calls (watches kinds.PersistentVolume ∷ six))) (sym past) (record { of_seat = refl; left = refl })) in
     (subst (AreNeeded seats.Binder) since life.needed).1 refl (record { whole = refl; quiet = refl })
@@ -116,7 +101,7 @@ one_more after at (inr fewer) =
 
 pub needed_cases : NeededExamples
 needed_cases = record {
-  as_many_as_it_needs = inl (record { past = six; made = six_calls; needed = needed_lives; is = refl });
+  as_many_as_its_actor_gives = λ lives. inl (record { past = six; made = six_calls; lives = lives; is = refl });
   not_one_more = one_more;
 }
 
@@ -220,7 +205,13 @@ left_told after at (inr fewer) =
     subst (λ h. AreOfLife [] plain_part fewer.seat (0 + fewer.count) h (told_calls only_watches)) (sym past)
     (subst (λ n. AreOfLife [] plain_part fewer.seat n only_watches (told_calls only_watches)) (sym made)
     (subst (λ s. AreOfLife [] plain_part s 6 only_watches (told_calls only_watches)) (sym seat) (record { of_seat = refl; left = refl }))) in
-    left_a fewer.since (told_life plain_part fewer.seat (0 + fewer.count) fewer.past only_watches fewer.since [] fewer.are refl its) (fewer.done (no_binder_is_stale (own fewer.seat fewer.past)))
+    left_a fewer.since (told_life plain_part fewer.seat (0 + fewer.count) fewer.past only_watches fewer.since [] fewer.ends.are refl its)
+    (idle_lives_are_done [] binder plain_part fewer.seat (0 + fewer.count) fewer.past [] fewer.since tt fewer.ends (no_binder_is_stale (own fewer.seat fewer.past)))
+
+left_life : (since : List Call) → IsIdleLife [] (role_of binder_1) plain_part 5 6 only_watches [] since → ⊥
+left_life since idle =
+    left_a since (told_life plain_part 5 6 only_watches only_watches since [] idle.are refl (record { of_seat = refl; left = refl }))
+    (idle_lives_are_done [] binder plain_part 5 6 only_watches [] since tt idle (no_binder_is_stale (own 5 only_watches)))
 
 -- ---- lives that are done
 
@@ -231,26 +222,6 @@ nothing_due key due = never_due binder key tt due
 abbrev lossy : List Call
 lossy = Some (watches kinds.StorageClass) ∷ Some (watches kinds.PersistentVolumeClaim) ∷ Some (watches kinds.PersistentVolume) ∷ None ∷ Some
     (lists kinds.StorageClass []) ∷ Some (lists kinds.PersistentVolumeClaim []) ∷ Some list_a ∷ []
-
-done_six : IsDone binder [] (told_calls six)
-done_six = record {
-  passed = record { whole = refl; quiet = refl };
-  brought = λ key e later earlier at brings due. brought_at binder [] [] (told_calls six) (
-    (λ key brings due. absurd (watch_brings_none kinds.StorageClass key brings)),
-    (
-      (λ key brings due. absurd (watch_brings_none kinds.PersistentVolumeClaim key brings)),
-      (
-        (λ key brings due. absurd (watch_brings_none kinds.PersistentVolume key brings)),
-        (
-          (λ key brings due. absurd (list_brings_none kinds.StorageClass key brings)),
-          ((λ key brings due. absurd (list_brings_none kinds.PersistentVolumeClaim key brings)), ((λ key brings due. absurd (list_brings_none kinds.PersistentVolume key brings)), tt)),
-        ),
-      ),
-    ),
-  )
-      key e later earlier at brings due;
-  due = λ key due. absurd (nothing_due key due.1.1.1.1.1.1);
-}
 
 done_lossy : IsDone binder [] lossy
 done_lossy = record {
@@ -272,32 +243,25 @@ done_lossy = record {
   due = λ key due. absurd (nothing_due key due.1.1.1.1.1.1.1);
 }
 
-six_end : IsTurnLine all_pass [] (role_of binder_1) plain_part 9 (first_progress None []) (made_fewer plain_part 6 six)
-six_end = inr (record {
+six_end : IsIdleLife [] (role_of binder_1) plain_part 5 6 six [] (told_calls six) → IsTurnLine all_pass [] (role_of binder_1) plain_part 9 (first_progress None []) (made_fewer plain_part 6 six)
+six_end idle = inr (record {
   count = 6;
   few = omega arith;
   past = six;
   made = six_calls;
-  needed = needed_lives;
+  lives = λ seat low high. subst (λ s. IsPlayedLife [] (role_of binder_1) plain_part s 6 six []) (only_life seat low high)
+      (record { since = told_calls six; are = idle.are; state = idle.state; played = idle.played });
   seat = 5;
   life = refl;
   since = told_calls six;
-  are = its_six;
-  ends = inl (record { recent = six; are = refl; quiet = quiet });
-  done = λ unstale. done_six;
+  ends = idle;
   is = refl;
 })
-  where
-    quiet : (k : Kind) → follows seats.Binder k ≡ true → HasNoNews k six
-    quiet kinds.PersistentVolume follows_it = refl
-    quiet kinds.PersistentVolumeClaim follows_it = refl
-    quiet kinds.StorageClass follows_it = refl
-    quiet kinds.Node follows_it = absurd (true≢false (sym follows_it))
-    quiet kinds.Pod follows_it = absurd (true≢false (sym follows_it))
 
 pub left_cases : LeftExamples
 left_cases = record {
-  where_nothing_is_due = six_end;
+  where_its_life_is_idle = six_end;
+  not_where_a_life_is_left = left_life;
   not_where_a_told_key_is_left = left_told;
   a_lost_call_counts_for_it = done_lossy;
   not_one_lost_before_it_was_told = lost_earlier;
@@ -308,25 +272,13 @@ left_cases = record {
 one_told : AreCalls all_pass [] agent_part (is_stale ∷ lost_node.past) 2 1 lost_node.past
 one_told = MoreCalls {n = 2} {past = lost_node.past} 0 (is_stale ∷ lost_node.past) refl (record { request = _; reply = _; passes = refl; is = refl }) (NoCalls refl refl)
 
--- what the agent was told before is nothing of its epoch
-not_told : (seat epoch : ℕ) → WasToldStale seats.Agent (takes seat epoch ∷ []) → ⊥
-not_told seat epoch told = elim told.1 [ inl tells ↦ true≢false (sym tells.1) | inr none ↦ none ]
-
-told_life_needed : AreNeededLives [] (role_of agent_n) agent_part 2 (is_stale ∷ lost_node.past) lost_node.idle
-told_life_needed seat low high =
-    subst (λ s. IsNeededLife [] (role_of agent_n) agent_part s 2 (is_stale ∷ lost_node.past) []) (only_life seat low high) (record {
-      since = told_calls (is_stale ∷ takes 5 1 ∷ []);
-      are = record { of_seat = refl; left = refl };
-      needed = ((tt, λ watch through. true≢false (sym watch)), λ watch through. true≢false (sym watch));
-      silent = ((tt, λ told. told.1), not_told 5 1);
-    })
-
 taken_back : (after : Progress) → after.past ≡ takes 5 3 ∷ is_stale ∷ lost_node.past → IsTurnLine all_pass [] (role_of agent_n) agent_part 2 lost_node after → ⊥
 taken_back after at (inl all) =
     let past : all.past ≡ takes 5 3 ∷ is_stale ∷ lost_node.past = sym (ap (λ (p : Progress). p.past) all.is) ∙ at in
     let low : 5 ≤ 5 = omega arith in
     let high : 5 < 5 + 1 = omega arith in
-    let life : IsNeededLife [] (role_of agent_n) agent_part 5 3 all.past [] = all.needed 5 low high in
+    let life : IsNeededLife [] (role_of agent_n) agent_part 5 3 all.past [] =
+    played_lives_are_needed [] (role_of agent_n) agent_part 5 3 all.past [] (all.lives 5 low high) in
     let since = told_life agent_part 5 3 all.past (takes 5 3 ∷ is_stale ∷ takes 5 1 ∷ []) life.since [] life.are refl
     (subst (λ h. AreOfLife [] agent_part 5 3 h (told_calls (takes 5 3 ∷ is_stale ∷ takes 5 1 ∷ []))) (sym past) (record { of_seat = refl; left = refl })) in
     let silent : IsSilentOnceStale seats.Agent (told_calls (takes 5 3 ∷ is_stale ∷ takes 5 1 ∷ [])) = subst (IsSilentOnceStale seats.Agent) (append-nil life.since ∙ since) life.silent in
@@ -339,6 +291,6 @@ taken_back after at (inr fewer) =
 
 pub stale_cases : StaleExamples
 stale_cases = record {
-  it_is_told_so = inl (record { past = is_stale ∷ lost_node.past; made = one_told; needed = told_life_needed; is = refl });
+  it_is_told_so = λ lives. inl (record { past = is_stale ∷ lost_node.past; made = one_told; lives = lives; is = refl });
   it_takes_no_node_back = taken_back;
 }

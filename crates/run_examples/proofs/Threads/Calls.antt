@@ -8,8 +8,15 @@ use Rattle.call_types.specs.declared.request.Request.TheVariants as requests
 use Rattle.call_types.specs.declared.request.SeatKind.{SeatKind}
 use Rattle.call_types.specs.declared.request.SeatKind.TheVariants as seats
 use Rattle.binder_model.specs.Told.{own}
-use Rattle.attention_law.specs.Diligence.{Call, IsDiligent, entries}
-use Rattle.worker_core.specs.declared.role.Role.{Role}
+use Rattle.attention_law.specs.Begun.{begun_as}
+use Rattle.attention_law.specs.Diligence.{Call}
+use Rattle.attention_law.specs.Resting.{IsPlayedSince}
+use Rattle.worker_core.specs.States.{ActorState}
+use Rattle.call_types.specs.declared.request.Request.{Request}
+use Rattle.actor_turns.specs.Lives.{WasPlayed}
+use Rattle.script_runs.specs.Parts.{role_of}
+use Rattle.run_examples.specs.Replay.Calls.{some_key}
+use Rattle.run_examples.proofs.Replay.Played.{begins, binder_listed, binder_lost, binder_untold, list_volumes, was_first}
 use Rattle.actor_rounds.specs.Rounds.{all_pass}
 use Rattle.script_text.specs.declared.script.Line.{Line}
 use Rattle.script_lines.specs.declared.actors.Actor.{Actor}
@@ -26,43 +33,29 @@ use Rattle.run_examples.specs.Threads.Works.{untold}
 
 -- ---- cases that hold
 
-not_longer : (later : List Call) (x : Call) (earlier : List Call) → [] ≡ later ++ (x ∷ earlier) → ⊥
-not_longer [] x earlier e = absurd cc
-not_longer (y ∷ later) x earlier e = absurd cc
-
-abbrev rest_of : List Call → List Call
-rest_of [] = []
-rest_of (c ∷ calls) = calls
-
--- one call is not two
-not_two : (c : Call) (later : List Call) (x y : Call) (between earlier : List Call) → c ∷ [] ≡ later ++ (x ∷ between ++ y ∷ earlier) → ⊥
-not_two c [] x y between earlier e = not_longer between y earlier (ap rest_of e)
-not_two c (z ∷ later) x y between earlier e = not_longer later x (between ++ y ∷ earlier) (ap rest_of e)
-
--- so a life of one call is diligent
-pub diligent_one : (role : Role) (c : Call) → IsDiligent role (c ∷ [])
-diligent_one role c kind first fourth earlier between later is = absurd (not_two c later (Some fourth) (Some first) between earlier is)
-
 -- an actor of one life that has made one call: its entries are those of its seat
-pub one_made : (past mine : List Entry) (actor : Actor) (part : Part) (c : Call) → lives_of part ≡ 1 → AreCalls all_pass [] part mine 1 1 []
-    → own part.first past ≡ own part.first mine → AreOfLife [] part part.first 1 past (c ∷ []) → HasMadeCalls 1 past actor part
-one_made past mine actor part c one calls own_are are = record {
+pub one_made : (past mine : List Entry) (actor : Actor) (part : Part) (c : Call) (s : ActorState) → lives_of part ≡ 1 → AreCalls all_pass [] part mine 1 1 []
+    → own part.first past ≡ own part.first mine → AreOfLife [] part part.first 1 past (c ∷ []) → IsPlayedSince (role_of actor) s [] (c ∷ []) → HasMadeCalls 1 past actor part
+one_made past mine actor part c s one calls own_are are played = record {
   made = 1;
   mine = mine;
   calls_are = calls;
   own_are = λ seat life. subst (λ s. own s past ≡ own s mine) (at seat life.0 life.1) own_are;
   whole = inl refl;
-  diligent = λ seat life. record { calls = c ∷ []; are = subst (λ s. AreOfLife [] part s 1 past (c ∷ [])) (at seat life.0 life.1) are; diligent = diligent_one _ c };
-  silent = λ seat life. record { calls = c ∷ []; are = subst (λ s. AreOfLife [] part s 1 past (c ∷ [])) (at seat life.0 life.1) are; silent = (tt, λ stale. stale.1) };
+  lives = λ seat life. record {
+    before = [];
+    life = record { since = c ∷ []; are = subst (λ n. AreOfLife [] part n 1 past (c ∷ [])) (at seat life.0 life.1) are; state = s; played = played };
+  };
 }
   where
     at : (seat : ℕ) → part.first ≤ seat → seat < part.first + lives_of part → part.first ≡ seat
     at seat low high = omega (arith, low, high, one)
 
 -- one whose call was let through, with this entry
-pub told_made : (past : List Entry) (actor : Actor) (part : Part) (e : Entry) → lives_of part ≡ 1 → IsCall all_pass [] part 1 [] (e ∷ [])
-    → own part.first past ≡ own part.first (e ∷ []) → AreOfLife [] part part.first 1 past (Some e ∷ []) → HasMadeCalls 1 past actor part
-told_made past actor part e one call own_are are = one_made past (e ∷ []) actor part (Some e) one (MoreCalls {n = 1} {past = []} 0 (e ∷ []) refl call (NoCalls refl refl)) own_are are
+pub told_made : (past : List Entry) (actor : Actor) (part : Part) (e : Entry) (s : ActorState) → lives_of part ≡ 1 → IsCall all_pass [] part 1 [] (e ∷ [])
+    → own part.first past ≡ own part.first (e ∷ []) → AreOfLife [] part part.first 1 past (Some e ∷ []) → IsPlayedSince (role_of actor) s [] (Some e ∷ []) → HasMadeCalls 1 past actor part
+told_made past actor part e s one call own_are are played =
+    one_made past (e ∷ []) actor part (Some e) s one (MoreCalls {n = 1} {past = []} 0 (e ∷ []) refl call (NoCalls refl refl)) own_are are played
 
 -- one that was to make none
 pub none_made : (past : List Entry) (actor : Actor) (part : Part) → ((seat : ℕ) → part.first ≤ seat → own seat past ≡ []) → HasMadeCalls 0 past actor part
@@ -72,13 +65,10 @@ none_made past actor part none = record {
   calls_are = NoCalls refl refl;
   own_are = λ seat life. none seat life.0;
   whole = inl refl;
-  diligent = λ seat life. record {
-    calls = [];
-    are = record { of_seat = sym (none seat life.0); left = refl };
-    diligent = λ kind first fourth earlier
-        between later is. absurd (not_longer later (Some fourth) (between ++ Some first ∷ earlier) is);
+  lives = λ seat life. record {
+    before = [];
+    life = record { since = []; are = record { of_seat = sym (none seat life.0); left = refl }; state = begun_as (role_of actor); played = begins (role_of actor) };
   };
-  silent = λ seat life. record { calls = []; are = record { of_seat = sym (none seat life.0); left = refl }; silent = tt };
 }
 
 -- ---- cases that do not
@@ -151,10 +141,31 @@ lost_none past did =
     let call : did.mine ≡ [] = its_call (loses_first false) past did in
     did.own_are 5 (omega arith, omega arith) ∙ ap (own 5) call
 
+-- its one call is the one with which a binder begins
+
+abbrev is_volumes : Kind → Bool
+is_volumes PersistentVolume = true
+is_volumes kind = false
+
+abbrev lists_volumes : Request → Bool
+lists_volumes (requests.List kind namespace) = is_volumes kind
+lists_volumes request = false
+
+asked_first : (e : Entry) → HasMadeOne [] (e ∷ []) → AreOfLife [] (started_part [] binder_1 5) 5 1 (e ∷ []) (Some e ∷ []) → e.request ≡ list_volumes
+asked_first e did are =
+    let was : WasPlayed [] (role_of binder_1) (started_part [] binder_1 5) 5 did.made (e ∷ []) = did.lives 5 (omega arith, omega arith) in
+    was_first (started_part [] binder_1 5) 5 (e ∷ []) e are (subst (λ n. WasPlayed [] (role_of binder_1) (started_part [] binder_1 5) 5 n (e ∷ [])) (all did.made did.whole) was)
+  where
+    all : (made : ℕ) → HasWorked (started_part [] binder_1 5) 1 made (e ∷ []) → made ≡ 1
+    all made (inl is) = is
+    all made (inr fewer) = let agent : seats.Binder ≡ seats.Agent = fewer.1.0 in absurd (cc)
+
 pub made_cases : MadeExamples
 made_cases = record {
-  one_call = told_made _ binder_1 (started_part [] binder_1 5) listed refl (record { request = _; reply = _; passes = refl; is = refl }) refl (record { of_seat = refl; left = refl });
-  others_call_between = told_made _ binder_1 (started_part [] binder_1 5) listed refl (record { request = _; reply = _; passes = refl; is = refl }) refl (record { of_seat = refl; left = refl });
+  one_call = told_made _ binder_1 (started_part [] binder_1 5) listed _ refl (record { request = _; reply = _; passes = refl; is = refl }) refl (record { of_seat = refl; left = refl }) binder_listed;
+  not_one_in_vain = λ did. absurd (true≢false (sym (ap lists_volumes (asked_first (record listed { request = requests.Get some_key }) did (record { of_seat = refl; left = refl })))));
+  not_a_list_of_another_kind = λ did. absurd (true≢false (sym (ap lists_volumes (asked_first (entry 5 seats.Binder Pod) did (record { of_seat = refl; left = refl })))));
+  others_call_between = told_made _ binder_1 (started_part [] binder_1 5) listed _ refl (record { request = _; reply = _; passes = refl; is = refl }) refl (record { of_seat = refl; left = refl }) binder_listed;
   none_is_too_few = λ did. let one : 0 ≡ 1 = (told_one [] did).one in absurd (omega (arith, one));
   two_are_too_many = λ did. let one : 2 ≡ 1 = (told_one (listed ∷ listed ∷ []) did).one in absurd (omega (arith, one));
   not_at_anothers_seat = λ did. let one : 0 ≡ 1 = (told_one (entry 6 seats.Binder PersistentVolume ∷ []) did).one in absurd (omega (arith, one));
@@ -164,15 +175,15 @@ made_cases = record {
 
 pub loss_cases : LossExamples
 loss_cases = record {
-  lost_before_it_leaves_none = one_made _ [] binder_1 (started_part (loses_first false) binder_1 5) None refl (MoreCalls {n = 1} {past = []} 0 []
-      refl refl (NoCalls refl refl)) refl (record { of_seat = refl; left = refl });
+  lost_before_it_leaves_none = one_made _ [] binder_1 (started_part (loses_first false) binder_1 5) None _ refl (MoreCalls {n = 1} {past = []} 0 []
+      refl refl (NoCalls refl refl)) refl (record { of_seat = refl; left = refl }) binder_lost;
   no_entry_then = λ did. let none : listed ∷ [] ≡ [] = lost_none (listed ∷ []) did in absurd (cc);
   not_an_untold_one = λ did. let none : untold listed ∷ [] ≡ [] = lost_none (untold listed ∷ []) did in absurd (cc);
-  lost_after_it_is_untold = told_made _ binder_1 (started_part (loses_first true) binder_1 5) (untold listed) refl (record
-      { request = _; reply = _; passes = refl; is = refl }) refl (record { of_seat = refl; left = refl });
+  lost_after_it_is_untold = told_made _ binder_1 (started_part (loses_first true) binder_1 5) (untold listed) _ refl (record
+      { request = _; reply = _; passes = refl; is = refl }) refl (record { of_seat = refl; left = refl }) binder_untold;
   not_told_then = λ did. absurd (true≢false (lost_one (listed ∷ []) did).was_told);
   not_without_an_entry = λ did. let one : 0 ≡ 1 = (lost_one [] did).one in absurd (omega (arith, one));
-  another_loses_its_own = told_made _ binder_1 (started_part (another_loses false) binder_1 5) listed refl (record
-      { request = _; reply = _; passes = refl; is = refl }) refl (record { of_seat = refl; left = refl });
+  another_loses_its_own = told_made _ binder_1 (started_part (another_loses false) binder_1 5) listed _ refl (record
+      { request = _; reply = _; passes = refl; is = refl }) refl (record { of_seat = refl; left = refl }) binder_listed;
   nothing_of_this_one = λ did. let one : 0 ≡ 1 = (told_beside [] did).one in absurd (omega (arith, one));
 }

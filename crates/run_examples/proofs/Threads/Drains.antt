@@ -89,7 +89,7 @@ no_call ending r =
     let comes = came (with_scheduler 13) ending r in
     let longer = comes.entries.longer in
     let worked : r.worked ≡ both = users_before longer.added r.worked (r.history ∙ longer.are) (r.work.others 13 (inr (omega arith)))
-        (subst (λ ss. AreToldOf ss longer.added) (its_seats (with_scheduler 13) ending r) longer.of_seats) in
+    (subst (λ ss. AreToldOf ss longer.added) (its_seats (with_scheduler 13) ending r) longer.of_seats) in
     let same : with_scheduler 13 ≡ both = r.history ∙ comes.none (subst (λ h. IsSettled small.setup (world small.setup h)) (sym worked) nothing_due) ∙ worked in
     let long : 3 ≡ 2 = ap length same in
     absurd (omega (arith, long))

@@ -7,7 +7,10 @@ use Rattle.call_types.specs.declared.request.SeatKind.{SeatKind}
 use Rattle.call_types.specs.declared.request.SeatKind.TheVariants as seats
 use Rattle.binder_model.specs.Told.{own}
 use Rattle.attention_law.specs.Diligence.{Call, entries}
-use Rattle.attention_law.specs.Resting.{IsSilentOnceStale, WasToldStale}
+use Rattle.attention_law.specs.Resting.{IsPlayedSince, IsSilentOnceStale, WasToldStale}
+use Rattle.worker_core.specs.States.{ActorState}
+use Rattle.actor_turns.specs.Lives.{WasPlayed}
+use Rattle.actor_turns.proofs.Diligent.{played_lives_are_needed}
 use Rattle.actor_rounds.specs.Rounds.{all_pass}
 use Rattle.script_lines.specs.declared.actors.Actor.{Actor}
 use Rattle.script_lines.specs.declared.actors.WorkerKind.TheVariants as workers
@@ -18,13 +21,14 @@ use Rattle.actor_turns.specs.Parts.{lives_of}
 use Rattle.actor_work.specs.Work.Working.{HasWorked}
 use Rattle.shared_work.specs.Lines.{AreOfLines}
 use Rattle.script_runs.specs.Examples.{agent_of, binder_1, claims_1, ops_1, scheduler_1, worker}
-use Rattle.script_runs.specs.Parts.{seat_kind_of}
+use Rattle.script_runs.specs.Parts.{role_of}
 use Rattle.script_threads.specs.Examples.{asks, entry}
 use Rattle.script_threads.specs.Started.{started_part}
 use Rattle.script_threads.specs.Threads.{HasMadeCalls}
-use Rattle.run_examples.specs.Threads.Calls.{HasServed, StaleExamples, WholeExamples, all_worked, listed, others_worked, refused}
+use Rattle.run_examples.specs.Threads.Calls.{HasServed, StaleExamples, WholeExamples, all_lose, all_worked, listed, others_worked, refused, taken}
 use Rattle.run_examples.specs.Threads.Works.{small}
-use Rattle.run_examples.proofs.Threads.Calls.{diligent_one, first_call, its_call, none_of_it, one_made, told_made}
+use Rattle.run_examples.proofs.Replay.Played.{agent_lost, binder_lost, claims_lost, ops_lost, scheduler_lost, volumes_lost}
+use Rattle.run_examples.proofs.Threads.Calls.{first_call, its_call, none_of_it, one_made}
 
 -- ---- an agent that is stale
 
@@ -37,28 +41,15 @@ node_part = started_part [] node 5
 first_life : (seat : ℕ) → 5 ≤ seat → seat < 6 → 5 ≡ seat
 first_life seat low high = omega (arith, low, high)
 
-of_life : AreOfLife [] node_part 5 1 (refused ∷ []) (Some refused ∷ [])
-of_life = record { of_seat = refl; left = refl }
-
-fewer : HasServed (refused ∷ [])
-fewer = record {
-  made = 1;
-  mine = refused ∷ [];
-  calls_are = MoreCalls {n = 1} {past = []} 0 (refused ∷ []) refl (record { request = _; reply = _; passes = refl; is = refl }) (NoCalls refl refl);
+fewer : WasPlayed [] (role_of node) node_part 5 2 (refused ∷ taken ∷ []) → HasServed (refused ∷ taken ∷ [])
+fewer was = record {
+  made = 2;
+  mine = refused ∷ taken ∷ [];
+  calls_are = MoreCalls {n = 1} {past = []} 1 (taken ∷ []) refl (record { request = _; reply = _; passes = refl; is = refl })
+      (MoreCalls {n = 2} {past = taken ∷ []} 0 (refused ∷ taken ∷ []) refl (record { request = _; reply = _; passes = refl; is = refl }) (NoCalls refl refl));
   own_are = λ seat life. refl;
   whole = inr (omega arith, (refl, inl (refl, refl)));
-  diligent = λ seat life. record {
-    calls = Some refused ∷ [];
-    are = subst (λ s. AreOfLife [] node_part s 1 (refused ∷ []) (Some refused ∷ []))
-        (first_life seat life.0 life.1) of_life;
-    diligent = diligent_one _ (Some refused);
-  };
-  silent = λ seat life. record {
-    calls = Some refused ∷ [];
-    are = subst (λ s. AreOfLife [] node_part s 1 (refused ∷ []) (Some refused ∷ []))
-        (first_life seat life.0 life.1) of_life;
-    silent = (tt, λ stale. stale.1);
-  };
+  lives = λ seat life. subst (λ s. WasPlayed [] (role_of node) node_part s 2 (refused ∷ taken ∷ [])) (first_life seat life.0 life.1) was;
 }
 
 abbrev rest_of : List Entry → List Entry
@@ -71,17 +62,25 @@ not_silent kind [] e earlier are stale silent = absurd (cc)
 not_silent kind (None ∷ calls) e earlier are stale silent = not_silent kind calls e earlier are stale silent.0
 not_silent kind (Some x ∷ calls) e earlier are stale silent = silent.1 (subst (WasToldStale kind) (sym (ap rest_of are)) stale)
 
+asks_no_more : (e : Entry) → HasServed (e ∷ refused ∷ taken ∷ []) → own 5 (e ∷ refused ∷ taken ∷ []) ≡ e ∷ refused ∷ taken ∷ [] → ⊥
+asks_no_more e did mine =
+    let was = did.lives 5 (omega arith, omega arith) in
+    let life = played_lives_are_needed [] (role_of node) node_part 5 did.made (e ∷ refused ∷ taken ∷ []) was.before was.life in
+    not_silent seats.Agent (life.since ++ was.before) e (refused ∷ taken ∷ []) (life.are.of_seat ∙ mine) (refl, inl (refl, refl)) life.silent
+
 pub stale_cases : StaleExamples
 stale_cases = record {
   fewer_where_an_agent_is_stale = fewer;
-  it_asks_nothing_more = λ did. let l = did.silent 5 (omega arith, omega arith) in not_silent seats.Agent l.calls refused (refused ∷ []) l.are.of_seat (refl, inl (refl, refl)) l.silent;
-  not_even_another_call = λ did. let l = did.silent 5 (omega arith, omega arith) in
-      not_silent seats.Agent l.calls (entry 5 seats.Agent Pod) (refused ∷ []) l.are.of_seat (refl, inl (refl, refl)) l.silent;
+  it_asks_nothing_more = λ did. asks_no_more refused did refl;
+  not_even_another_call = λ did. asks_no_more (entry 5 seats.Agent Pod) did refl;
 }
 
 -- ---- all that take part
 
-users_asked : (user : ℕ) → 0 < user → user < 5 → AreOfLines user small.lines (own user all_worked)
+abbrev users_only : List Entry
+users_only = asks 1 Pod ∷ asks 2 Node ∷ []
+
+users_asked : (user : ℕ) → 0 < user → user < 5 → AreOfLines user all_lose.lines (own user users_only)
 users_asked zero some few = absurd (omega (arith, some))
 users_asked (suc zero) some few = refl
 users_asked (suc (suc zero)) some few = refl
@@ -89,17 +88,8 @@ users_asked (suc (suc (suc zero))) some few = refl
 users_asked (suc (suc (suc (suc zero)))) some few = refl
 users_asked (suc (suc (suc (suc (suc n))))) some few = absurd (omega (arith, few))
 
-nobody_else : (seat : ℕ) → (seat ≡ 0) ⊎ (11 ≤ seat) → own seat all_worked ≡ []
-nobody_else seat out = rw (
-  ne_eqb 10 seat (not 10 (omega arith) (omega arith)),
-  ne_eqb 9 seat (not 9 (omega arith) (omega arith)),
-  ne_eqb 2 seat
-      (not 2 (omega arith) (omega arith)),
-  ne_eqb 8 seat (not 8 (omega arith) (omega arith)),
-  ne_eqb 6 seat (not 6 (omega arith) (omega arith)),
-  ne_eqb 1 seat (not 1 (omega arith) (omega arith)),
-  ne_eqb 7 seat (not 7 (omega arith) (omega arith)),
-) refl
+nobody_else : (seat : ℕ) → (seat ≡ 0) ⊎ (11 ≤ seat) → own seat users_only ≡ []
+nobody_else seat out = rw (ne_eqb 1 seat (not 1 (omega arith) (omega arith)), ne_eqb 2 seat (not 2 (omega arith) (omega arith))) refl
   where
     by : (n : ℕ) → 0 < n → n < 11 → n ≡ seat → (seat ≡ 0) ⊎ (11 ≤ seat) → ⊥
     by n some few is (inl z) = absurd (omega (arith, some, is, z))
@@ -107,6 +97,13 @@ nobody_else seat out = rw (
 
     not : (n : ℕ) → 0 < n → n < 11 → n ≡ seat → ⊥
     not n some few is = by n some few is out
+
+-- an actor whose one call was lost before its effect
+lost_made : (actor : Actor) (first : ℕ) (s : ActorState) → own first users_only ≡ [] → lives_of (started_part all_lose.lines actor first) ≡ 1
+    → IsCall all_pass [] (started_part all_lose.lines actor first) 1 [] [] → AreOfLife [] (started_part all_lose.lines actor first) first 1 users_only (None ∷ [])
+    → IsPlayedSince (role_of actor) s [] (None ∷ []) → HasMadeCalls 1 users_only actor (started_part all_lose.lines actor first)
+lost_made actor first s none one call are played =
+    one_made users_only [] actor (started_part all_lose.lines actor first) None s one (MoreCalls {n = 1} {past = []} 0 [] refl call (NoCalls refl refl)) none are played
 
 -- an agent that has made its call has an entry
 served : (past : List Entry) → HasMadeCalls 1 past node (started_part small.lines node 10) → own 10 past ≡ [] → ⊥
@@ -126,35 +123,22 @@ served past did none = by did.whole
 abbrev volumes_1 : Actor
 volumes_1 = worker workers.Volumes One
 
--- its first call, told
-abbrev told_once : (actor : Actor) (seat : ℕ) → Entry
-told_once actor seat = entry seat (seat_kind_of actor) Pod
-
 pub whole_cases : WholeExamples
 whole_cases = record {
   each_has_made_its_call = record {
     done = record {
       users = users_asked;
       actors = (
-        one_made all_worked [] binder_1 (started_part small.lines binder_1 5) None refl
-            (MoreCalls {n = 1} {past = []} 0 [] refl refl (NoCalls refl refl)) refl (record { of_seat = refl; left = refl }),
+        lost_made binder_1 5 _ refl refl refl (record { of_seat = refl; left = refl }) binder_lost,
         (
-          told_made all_worked ops_1 (started_part small.lines ops_1 6) (told_once ops_1 6) refl
-              (record { request = _; reply = _; passes = refl; is = refl }) refl (record { of_seat = refl; left = refl }),
+          lost_made ops_1 6 _ refl refl refl (record { of_seat = refl; left = refl }) ops_lost,
           (
-            told_made all_worked scheduler_1 (started_part small.lines scheduler_1 7) (told_once scheduler_1 7) refl
-                (record { request = _; reply = _; passes = refl; is = refl }) refl (record { of_seat = refl; left = refl }),
+            lost_made scheduler_1 7 _ refl refl refl (record { of_seat = refl; left = refl }) scheduler_lost,
             (
-              told_made all_worked claims_1 (started_part small.lines claims_1 8) (told_once claims_1 8) refl
-                  (record { request = _; reply = _; passes = refl; is = refl }) refl (record { of_seat = refl; left = refl }),
+              lost_made claims_1 8 _ refl refl refl (record { of_seat = refl; left = refl }) claims_lost,
               (
-                told_made all_worked volumes_1 (started_part small.lines volumes_1 9) (told_once volumes_1 9) refl
-                    (record { request = _; reply = _; passes = refl; is = refl }) refl (record { of_seat = refl; left = refl }),
-                (
-                  told_made all_worked node (started_part small.lines node 10) (told_once node 10) refl
-                      (record { request = _; reply = _; passes = refl; is = refl }) refl (record { of_seat = refl; left = refl }),
-                  tt,
-                ),
+                lost_made volumes_1 9 _ refl refl refl (record { of_seat = refl; left = refl }) volumes_lost,
+                (lost_made node 10 _ refl refl refl (record { of_seat = refl; left = refl }) (agent_lost (codes "n1")), tt),
               ),
             ),
           ),

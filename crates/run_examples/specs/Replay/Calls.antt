@@ -38,6 +38,10 @@ pub record SeatExamples : Type 0 where
 abbrev pub lists : Kind → Entry
 lists kind = record { seat = 5; kind = seats.Binder; request = requests.List kind None; reply = replies.Listed [] 3; told = true }
 
+-- the list of the volumes with which a binder's life begins, where there are none
+abbrev pub first_list : Entry
+first_list = record { seat = 5; kind = seats.Binder; request = requests.List kinds.PersistentVolume None; reply = replies.Listed [] 0; told = true }
+
 -- what lets no list through
 abbrev pub holds_lists : Lets
 holds_lists past (requests.List kind namespace) = false

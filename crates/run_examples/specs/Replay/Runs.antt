@@ -1,43 +1,21 @@
 -- The queue of an actor, and a call that is held back: cases that hold, and cases beside them that do not.
 -- A choice of this project.
-use Rattle.std.specs.Prelude.{ℕ, ◌≡◌, Bool, true, false, List, [], ◌∷◌, Some, None, codes, length}
+use Rattle.std.specs.Prelude.{ℕ, ◌≡◌, Bool, true, false, List, [], ◌∷◌, Some, None, codes}
 use Rattle.kube_objects.specs.declared.key.Key.{Key}
-use Rattle.kube_parts.specs.declared.parts.Kind.{Kind}
 use Rattle.kube_parts.specs.declared.parts.Kind.TheVariants as kinds
 use Rattle.call_types.specs.declared.entry.Entry.{Entry}
 use Rattle.call_types.specs.declared.request.Request.{Request}
 use Rattle.call_types.specs.declared.request.Request.TheVariants as requests
 use Rattle.call_types.specs.declared.request.SeatKind.TheVariants as seats
-use Rattle.informer_cache.specs.Cache.{Known}
-use Rattle.informer_cache.specs.All.{AllKnown}
 use Rattle.sync_queue.specs.Work.{Work, no_work}
-use Rattle.worker_core.specs.declared.role.Role.{Role}
 use Rattle.worker_core.specs.declared.turn.Given.TheVariants as givens
 use Rattle.worker_core.specs.declared.turn.Outcome.TheVariants.{Lost}
 use Rattle.worker_core.specs.Absorbs.{absorbed, woken}
-use Rattle.worker_core.specs.Memories.{no_memory}
-use Rattle.worker_core.specs.Roles.{kinds_of}
 use Rattle.worker_core.specs.States.{ActorState}
+use Rattle.attention_law.specs.Begun.{begun_as, no_caches}
 use Rattle.attention_law.specs.Queues.{QueueStands}
 use Rattle.actor_rounds.specs.Drainers.{of_kind}
 use Rattle.actor_rounds.specs.Rounds.{Lets, Runs, all_pass}
-
--- ---- an actor that was told nothing
-
-abbrev pub knows_nothing : Kind → Known
-knows_nothing kind = record { rows = record { kind = kind; marks = []; objects = [] }; lists = record { whole = None; spaces = [] }; from = None }
-
-abbrev pub no_caches : AllKnown
-no_caches = record {
-  classes = knows_nothing kinds.StorageClass;
-  nodes = knows_nothing kinds.Node;
-  volumes = knows_nothing kinds.PersistentVolume;
-  claims = knows_nothing kinds.PersistentVolumeClaim;
-  pods = knows_nothing kinds.Pod;
-}
-
-abbrev pub begun_as : Role → ActorState
-begun_as role = record { role = role; caches = no_caches; work = no_work; pass = record { behind = length (kinds_of role.kind); event = true }; memory = no_memory; under = None; given = None }
 
 -- ---- queues
 

@@ -14,6 +14,7 @@ use Rattle.call_types.specs.declared.request.SeatKind.TheVariants as seats
 use Rattle.call_types.specs.declared.reply.Refusal.TheVariants.{StaleEpoch}
 use Rattle.call_types.specs.declared.reply.Reply.{Reply}
 use Rattle.call_types.specs.declared.reply.Reply.TheVariants as replies
+use Rattle.attention_law.specs.Diligence.{Call}
 use Rattle.attention_law.specs.Resting.{IsDone}
 use Rattle.model_examples.specs.Samples.{a, in_phase}
 use Rattle.script_lines.specs.declared.actors.Actor.{Actor}
@@ -23,6 +24,7 @@ use Rattle.actor_turns.specs.declared.part.Part.{Part}
 use Rattle.script_runs.specs.Examples.{binder_1, script_of}
 use Rattle.script_runs.specs.Parts.{part_of, role_of}
 use Rattle.actor_turns.specs.Calls.{and_idle}
+use Rattle.actor_turns.specs.Lives.{ArePlayedLives, IsIdleLife}
 use Rattle.script_runs.specs.Replays.{IsTurnLine, Progress, and_made, first_progress}
 use Rattle.run_examples.specs.Replay.Calls.{told_calls, watches}
 use Rattle.run_examples.specs.Replay.Replays.{plain_part}
@@ -43,7 +45,8 @@ abbrev pub made_all : Part → ℕ → List Entry → Progress → Progress
 made_all part calls past before = record before { past = past; made = and_made part.name calls before.made }
 
 pub record NeededExamples : Type 0 where
-  pub as_many_as_it_needs : IsTurnLine all_pass [] (role_of binder_1) plain_part 6 (first_progress None []) (made_all plain_part 6 six (first_progress None []))
+  pub as_many_as_its_actor_gives : ArePlayedLives [] (role_of binder_1) plain_part 6 six (first_progress None []).idle
+      → IsTurnLine all_pass [] (role_of binder_1) plain_part 6 (first_progress None []) (made_all plain_part 6 six (first_progress None []))
   pub not_one_more : (after : Progress) → after.past ≡ watches kinds.PersistentVolume ∷ six → IsTurnLine all_pass [] (role_of binder_1) plain_part 7 (first_progress None []) after → ⊥
 
 -- ---- a turn that ends leaves no key that it was told, and that was due since, without a call
@@ -62,7 +65,9 @@ abbrev pub made_fewer : Part → ℕ → List Entry → Progress
 made_fewer part calls past = record (first_progress None []) { past = past; made = and_made part.name calls (first_progress None []).made; idle = and_idle 5 (told_calls past) (first_progress None []).idle }
 
 pub record LeftExamples : Type 0 where
-  pub where_nothing_is_due : IsTurnLine all_pass [] (role_of binder_1) plain_part 9 (first_progress None []) (made_fewer plain_part 6 six)
+  pub where_its_life_is_idle : IsIdleLife [] (role_of binder_1) plain_part 5 6 six [] (told_calls six)
+      → IsTurnLine all_pass [] (role_of binder_1) plain_part 9 (first_progress None []) (made_fewer plain_part 6 six)
+  pub not_where_a_life_is_left : (since : List Call) → IsIdleLife [] (role_of binder_1) plain_part 5 6 only_watches [] since → ⊥
   pub not_where_a_told_key_is_left : (after : Progress) → after.past ≡ only_watches → IsTurnLine all_pass [] (role_of binder_1) plain_part 50 (first_progress None []) after → ⊥
   -- the call that was lost may have been that of the key
   pub a_lost_call_counts_for_it : IsDone (role_of binder_1) []
@@ -94,5 +99,5 @@ abbrev pub lost_node : Progress
 lost_node = record (first_progress None []) { past = takes 9 2 ∷ takes 5 1 ∷ []; made = and_made agent_part.name 1 (first_progress None []).made }
 
 pub record StaleExamples : Type 0 where
-  pub it_is_told_so : IsTurnLine all_pass [] (role_of agent_n) agent_part 1 lost_node (made_all agent_part 1 (is_stale ∷ lost_node.past) lost_node)
+  pub it_is_told_so : ArePlayedLives [] (role_of agent_n) agent_part 2 (is_stale ∷ lost_node.past) lost_node.idle → IsTurnLine all_pass [] (role_of agent_n) agent_part 1 lost_node (made_all agent_part 1 (is_stale ∷ lost_node.past) lost_node)
   pub it_takes_no_node_back : (after : Progress) → after.past ≡ takes 5 3 ∷ is_stale ∷ lost_node.past → IsTurnLine all_pass [] (role_of agent_n) agent_part 2 lost_node after → ⊥
