@@ -73,7 +73,7 @@ turned_all lets made calls idle first after start new all count gone = record {
   });
 }
 
-at_seat : (seat : ℕ) (mine : List Entry) (idle : ℕ → List Entry) → and_idle seat mine idle seat ≡ mine
+pub at_seat : (seat : ℕ) (mine : List Entry) (idle : ℕ → List Entry) → and_idle seat mine idle seat ≡ mine
 at_seat seat mine idle = let same : (seat == seat) ≡ true = (Decides-eqb seat seat).1 refl in rw same refl
 
 at_other : (seat other : ℕ) (mine : List Entry) (idle : ℕ → List Entry) → seat < other → and_idle seat mine idle other ≡ idle other

@@ -5,6 +5,7 @@ use Rattle.actor_turns.specs.declared.loss.Fate.{Fate}
 use Rattle.actor_turns.specs.declared.loss.Fate.TheVariants.{Told, LostBefore, LostAfter}
 use Rattle.actor_turns.specs.declared.loss.Loss.{Loss}
 
+-- the fate of a call that is lost: after its effect, or before
 abbrev pub fate_by : Bool → Fate
 fate_by true = LostAfter
 fate_by false = LostBefore

@@ -1,13 +1,11 @@
 -- A claim for which a volume is sought gets a call on all rows that show the same as rows in order.
-use Rattle.std.proofs.Common.{◌≡◌, ℕ, zero, suc, List, [], ◌∷◌, Bool, true, false, true≢false, Some, None, inl, inr, refl, sym, ◌∙◌, ap, slice_get, is_some, if◌then◌else◌}
+use Rattle.std.proofs.Common.{◌≡◌, ℕ, zero, suc, List, [], ◌∷◌, Bool, true, false, Some, None, inl, inr, refl, ◌∙◌, ap, slice_get, is_some, if◌then◌else◌}
 use Rattle.std.specs.Prelude.{◌&&◌, ◌||◌, not, is_none, bytes_eq}
 use Rattle.std.specs.List.{list_any}
 use Rattle.std.specs.Ordering.{is_eq}
 use Rattle.std.proofs.lemmas.Bool.{and_parts, not-true, or_cases}
 use Rattle.kube_objects.specs.declared.key.Key.{Key}
 use Rattle.kube_parts.specs.declared.parts.Kind.{Kind}
-use Rattle.kube_parts.specs.declared.parts.VolumePhase.{VolumePhase}
-use Rattle.kube_parts.specs.declared.parts.VolumePhase.TheVariants as phases
 use Rattle.kube_objects.specs.declared.objects.Object.{Object}
 use Rattle.kube_objects.specs.declared.objects.Volume.{Volume as VolumeData}
 use Rattle.kube_objects.specs.declared.objects.Claim.{Claim as ClaimData}
@@ -18,6 +16,7 @@ use Rattle.binder_model.specs.BindWrites.{claim_write, next_write, shows_bound, 
 use Rattle.binder_model.specs.Matching.{eligible, fits, is_admitted_on, is_selected, may_serve}
 use Rattle.binder_machines.specs.Machines.{bind_call, may_bind}
 use Rattle.model_laws.proofs.Lists.{none_some, one}
+use Rattle.model_laws.proofs.References.{available_lives as live}
 
 -- lists of rows
 
@@ -52,10 +51,6 @@ placed_row kind i o (y ∷ ys) e = by (is_of_kind kind y) i e (λ j. placed_row 
     by false j f more = later (more j f) (is_eq (key_cmp (key_of y) (key_of o)))
 
 -- an eligible volume gives a write
-
-live : (p : VolumePhase) → is_available p ≡ true → is_ended p ≡ false
-live phases.Available e = refl
-live _ e = absurd (true≢false (sym e))
 
 pub record Serves (v : VolumeData) (c : ClaimData) : Type 0 where
   pub live : is_ended v.phase ≡ false

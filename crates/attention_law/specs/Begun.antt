@@ -16,6 +16,7 @@ use Rattle.worker_core.specs.States.{ActorState}
 abbrev pub knows_nothing : Kind → Known
 knows_nothing kind = record { rows = record { kind = kind; marks = []; objects = [] }; lists = record { whole = None; spaces = [] }; from = None }
 
+-- caches that know nothing
 abbrev pub no_caches : AllKnown
 no_caches = record {
   classes = knows_nothing kinds.StorageClass;
@@ -25,6 +26,7 @@ no_caches = record {
   pods = knows_nothing kinds.Pod;
 }
 
+-- the state in which a life of the role begins
 abbrev pub begun_as : Role → ActorState
 begun_as role = record { role = role; caches = no_caches; work = no_work; pass = record { behind = length (kinds_of role.kind); event = true }; memory = no_memory; under = None; given = None }
 

@@ -98,6 +98,7 @@ AreQuiet (Some e ∷ calls) = IsQuiet e × AreQuiet calls
 
 -- watches
 
+-- the request is a watch of this kind
 abbrev pub watches_kind : Kind → Request → Bool
 watches_kind kind (requests.Watch k from) = same_kind k kind
 watches_kind kind request = false

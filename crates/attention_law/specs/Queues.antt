@@ -15,12 +15,15 @@ use Rattle.worker_core.specs.Stands.{IsNew}
 use Rattle.worker_core.specs.States.{ActorState}
 use Rattle.worker_core.specs.Turns.{IsTurn}
 
+-- the key of a slot that is taken
 abbrev pub key_in : Taken → Key
 key_in t = t.key
 
+-- the keys that are taken
 abbrev pub taken_keys : Work → List Key
 taken_keys w = map key_in w.taken
 
+-- the key of what is under way, if anything is
 abbrev pub under_keys : Option Under → List Key
 under_keys None = []
 under_keys (Some u) = u.key ∷ []
@@ -37,14 +40,18 @@ pub record QueueStands (s : ActorState) : Type 0 where
 
 -- ---- a new actor's queue stands, and every step of an actor leaves it so
 
+-- the queue of a new actor stands
 abbrev pub NewQueuesStand : Type 0
 NewQueuesStand = (role : Role) (s : ActorState) → IsNew role s → QueueStands s
 
+-- a turn leaves a queue that stands so
 abbrev pub TurnsKeepQueues : Type 0
 TurnsKeepQueues = (s new : ActorState) (answer : Next) → IsTurn s new answer → QueueStands s → QueueStands new
 
+-- an answer leaves a queue that stands so
 abbrev pub AnswersKeepQueues : Type 0
 AnswersKeepQueues = (s : ActorState) (caches : AllKnown) (request : Request) (outcome : Outcome) → QueueStands s → QueueStands (absorbed s caches request outcome)
 
+-- a wake leaves a queue that stands so
 abbrev pub WakesKeepQueues : Type 0
 WakesKeepQueues = (s : ActorState) → QueueStands s → QueueStands (woken s)

@@ -41,6 +41,7 @@ is_whole kind pass = not (nat_lt pass.behind (length (kinds_of kind)))
 abbrev pub next_pass : SeatKind → Pass → Pass
 next_pass kind pass = if pass.event && is_whole kind pass then new_pass else pass
 
+-- the request is a watch
 abbrev pub is_watch : Request → Bool
 is_watch (requests.Watch kind from) = true
 is_watch request = false
@@ -62,6 +63,7 @@ pub record HasPassed (kind : SeatKind) (since : List Call) : Type 0 where
 
 -- each call was needed
 
+-- the call left an entry, and it is a watch
 abbrev pub watches_on : Call → Bool
 watches_on None = false
 watches_on (Some e) = is_watch e.request
@@ -73,6 +75,7 @@ AreNeeded kind (call ∷ since) = AreNeeded kind since × (watches_on call ≡ t
 
 -- stale agents
 
+-- the entry told its agent that another one has taken the node
 abbrev pub TellsStale : Entry → Type 0
 TellsStale e = (e.told ≡ true) × (is_stale_told e.reply ≡ true)
 
@@ -112,6 +115,7 @@ pub record IsDone (role : Role) (before since : List Call) : Type 0 where
 
 -- how a life is played: with the calls that it had made when it was last woken, none at first, and with those since
 
+-- the states in which an actor can be after the calls of its life since it was last idle
 pub data IsPlayedSince (role : Role) : ActorState → List Call → List Call → Type 0 where
   Starts : {s : ActorState} {before since : List Call} → before ≡ [] → since ≡ [] → IsNew role s → StandsFor s [] → IsPlayedSince role s before since
   Hears : {new : ActorState} {before since : List Call} (s : ActorState) (rest : List Call) (e : Entry) (request : Request) (reply : Reply)

@@ -27,13 +27,16 @@ unfoldable pub verdict_line : Verdict → ℕ → List ℕ
 verdict_line Yes count = codes "yes " ++ (decimal count ++ codes " entries")
 verdict_line (No number rule) count = codes "no: entry " ++ (decimal number ++ (codes " " ++ audit_word rule))
 
+-- what is printed of a verdict
 abbrev pub verdict_text : Verdict → ℕ → List ℕ
 verdict_text verdict count = with_line [] (verdict_line verdict count)
 
+-- the status of a verdict
 abbrev pub verdict_status : Verdict → Status
 verdict_status Yes = Done
 verdict_status (No number rule) = AuditNo
 
+-- what is printed of a history that is refused
 abbrev pub history_refusal_text : BadHistoryLine → List ℕ
 history_refusal_text bad = with_line [] (refusal_line bad)
 

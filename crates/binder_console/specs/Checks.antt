@@ -38,6 +38,7 @@ refusal_line e = codes "item " ++ (decimal e.item ++ (codes ": " ++ reason_text 
 abbrev pub check_text : List Object → List ℕ
 check_text objects = with_lines [] (map object_line objects)
 
+-- what is printed of manifests that are refused
 abbrev pub refusal_text : ListError → List ℕ
 refusal_text e = with_line [] (refusal_line e)
 

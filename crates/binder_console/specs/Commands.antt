@@ -20,6 +20,7 @@ task_named commands.Check options = Check
 task_named commands.Audit options = Audit
 task_named commands.Gen options = Gen options.seed options.budget
 
+-- what the words ask for
 abbrev pub task_by : CommandWords → Task
 task_by said = task_named said.command said.options
 

@@ -17,6 +17,7 @@ pub record IsWhole (most : ℕ) (left : Option (List ℕ)) (input : List ℕ) : 
   pub whole : IsLeft left input
   pub short : length input ≤ most
 
+-- the input was read to its end, within the limit
 abbrev pub IsInputOf : Option ℕ → Option (List ℕ) → List ℕ → Type 0
 IsInputOf (Some most) left input = IsWhole most left input
 IsInputOf None left input = input ≡ []
@@ -25,6 +26,7 @@ IsInputOf None left input = input ≡ []
 abbrev pub IsInput : Task → Option (List ℕ) → List ℕ → Type 0
 IsInput task left input = IsInputOf (most_input task) left input
 
+-- the input was read to its end or past the limit
 abbrev pub IsReadThroughOf : Option ℕ → Option (List ℕ) → Type 0
 IsReadThroughOf (Some most) left = IsLeft left []
 IsReadThroughOf None left = ⊤
@@ -33,6 +35,7 @@ IsReadThroughOf None left = ⊤
 abbrev pub IsReadThrough : Task → Option (List ℕ) → Type 0
 IsReadThrough task left = IsReadThroughOf (most_input task) left
 
+-- the input is longer than the limit
 abbrev pub IsTooLongOf : Option ℕ → Option (List ℕ) → Type 0
 IsTooLongOf (Some most) left = IsLongerThan most left
 IsTooLongOf None left = ⊥
@@ -41,6 +44,7 @@ IsTooLongOf None left = ⊥
 abbrev pub IsTooLong : Task → Option (List ℕ) → Type 0
 IsTooLong task left = IsTooLongOf (most_input task) left
 
+-- what was read is longer than the limit
 abbrev pub IsTooMuchOf : Option ℕ → List ℕ → Type 0
 IsTooMuchOf (Some most) bytes = most < length bytes
 IsTooMuchOf None bytes = ⊥
@@ -49,6 +53,7 @@ IsTooMuchOf None bytes = ⊥
 abbrev pub IsTooMuch : Task → List ℕ → Type 0
 IsTooMuch task bytes = IsTooMuchOf (most_input task) bytes
 
+-- the command reads no input
 abbrev pub ReadsNothing : Task → Type 0
 ReadsNothing task = most_input task ≡ None
 

@@ -33,12 +33,15 @@ status_number AuditNo = 7
 
 -- ---- what is written
 
+-- the text as a line
 abbrev pub line : List ℕ → List ℕ
 line text = text ++ 10 ∷ []
 
+-- what is printed where the words are wrong
 abbrev pub usage_text : List ℕ
 usage_text = line (codes "usage: pvbind replay|run|audit|check|gen [--workers N] [--seed N] [--calls N] [--budget N]")
 
+-- what is printed where the input is too long
 abbrev pub too_long_text : List ℕ
 too_long_text = line (codes "input: TooLong")
 
@@ -84,6 +87,7 @@ answer_status (answers.Unsettled text) = Unsettled
 answer_status (answers.No text) = AuditNo
 answer_status (answers.Refusal text) = Refused
 
+-- what is written
 abbrev pub answer_text : Answer → List ℕ
 answer_text (answers.Output text) = text
 answer_text (answers.Unsettled text) = text

@@ -31,6 +31,7 @@ use Rattle.binder_console.specs.declared.status.Status.TheVariants.{Done, Unsett
 
 -- ---- what is written
 
+-- the ending as the summary has it
 abbrev pub ending_of : Drained → Ending
 ending_of (Settled made) = endings.Settled
 ending_of (Spent made key due) = endings.Unsettled made key due

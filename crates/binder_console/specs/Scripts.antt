@@ -8,6 +8,7 @@ use Rattle.script_lines.specs.Refusals.{refusal_line}
 use Rattle.script_text.specs.Grammar.{script_of}
 use Rattle.history_text.specs.Output.{with_line}
 
+-- what is printed of a script that is refused
 abbrev pub script_refusal_text : BadLineData → List ℕ
 script_refusal_text bad = with_line [] (refusal_line bad)
 

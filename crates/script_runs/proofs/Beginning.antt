@@ -46,6 +46,7 @@ use Rattle.script_runs.specs.Steps.Standing.{
 use Rattle.actor_turns.proofs.Lived.{new_lives}
 use Rattle.actor_turns.proofs.Turning.{new_plays}
 use Rattle.script_runs.proofs.Draining.{new_ones_are_drainers}
+use Rattle.delayed_binding.proofs.Placing.{drop_at}
 
 -- ---- the beginning
 
@@ -63,11 +64,6 @@ pub new_ones : (script : Script) (first : ℕ) (ds : List Drainer) → AreNew fi
 new_ones script first ds new is = subst (λ n. AreNew n script.node_names ds) is new
 
 -- ---- the players
-
-drop_at : {X : Type 0} (xs : List X) (place : ℕ) (x : X) → slice_get xs place ≡ Some x → drop place xs ≡ x ∷ drop (place + 1) xs
-drop_at [] place x at = none_some at
-drop_at (y ∷ xs) zero x at = ap (λ z. z ∷ xs) (one y x at)
-drop_at (y ∷ xs) (suc place) x at = let e : suc (place + 1) ≡ suc place + 1 = omega arith in subst (λ n. drop (suc place) (y ∷ xs) ≡ x ∷ drop n (y ∷ xs)) e (drop_at xs place x at)
 
 parts_new : (lines : List Line) (actors : List Actor) (first : ℕ) (xs : List Player) → AreNewPlayers lines actors first xs → parts_in xs ≡ parts_from lines actors first
 parts_new lines [] first xs new = ap parts_in new

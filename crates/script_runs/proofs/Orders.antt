@@ -1,13 +1,13 @@
 -- Lists of parts in the order of their seats, with names of their own; and lists of players of which one has moved.
 use Rattle.std.proofs.Common.{◌≡◌, ◌≢◌, ℕ, ◌<◌, ◌≤◌, ◌+◌, zero, suc, List, [], ◌∷◌, ◌++◌, length, set, Bool, true, false, true≢false, if◌then◌else◌, Some, refl, sym, ◌∙◌, ap, subst, arith}
 use Rattle.std.specs.Prelude.{bytes_eq, slice_get}
-use Rattle.std.proofs.lemmas.Slice.Eq.{bytes_eq-Decides}
 use Rattle.model_laws.proofs.Lists.{none_some, one}
 use Rattle.actor_turns.specs.declared.part.Part.{Part}
 use Rattle.actor_turns.specs.declared.player.Player.{Player}
 use Rattle.actor_turns.specs.Steps.Playing.{IsLife}
 use Rattle.actor_turns.specs.Parts.{lives_of}
 use Rattle.script_runs.specs.Steps.Standing.{parts_in}
+use Rattle.settle_writes.proofs.Writes.Valid.{flipped}
 
 -- ---- the seats
 
@@ -95,14 +95,6 @@ all_more [] ys all apart later = later
 all_more (x ∷ xs) ys all apart later =
     let first = first_differs x xs all in
     rw (differs_more x xs ys first.0 (apart 0 x refl)) (all_more xs ys first.1 (λ i name at. apart (suc i) name at) later)
-
--- names that differ one way differ the other way
-pub flipped : (a b : List ℕ) → bytes_eq a b ≡ false → bytes_eq b a ≡ false
-flipped a b differs = by (bytes_eq b a) refl
-  where
-    by : (t : Bool) → bytes_eq b a ≡ t → bytes_eq b a ≡ false
-    by true e = absurd (true≢false (sym ((bytes_eq-Decides a b).1 (sym ((bytes_eq-Decides b a).0 e))) ∙ differs))
-    by false e = e
 
 pub other_name : (names : List (List ℕ)) (i j : ℕ) (a b : List ℕ) → all_differ names ≡ true → slice_get names i ≡ Some a → slice_get names j ≡ Some b → i ≢ j → bytes_eq a b ≡ false
 other_name [] i j a b all at there differs = none_some at

@@ -21,7 +21,6 @@ use Rattle.std.proofs.Common.{
   false,
   Option,
   Some,
-  None,
   inl,
   inr,
   refl,
@@ -122,7 +121,7 @@ drainers_on ds h later same stands = record {
 
 -- ---- the seats of the drains are the last ones
 
-seats_low : (low : ℕ) (nodes : List (List ℕ)) (seat : ℕ) → IsOneOf (seats_from low nodes) seat → low ≤ seat
+pub seats_low : (low : ℕ) (nodes : List (List ℕ)) (seat : ℕ) → IsOneOf (seats_from low nodes) seat → low ≤ seat
 seats_low low [] seat own = absurd own
 seats_low low (node ∷ nodes) seat (inl is) = omega (arith, is)
 seats_low low (node ∷ nodes) seat (inr later) = let rest = seats_low (low + 1) nodes seat later in omega (arith, rest)

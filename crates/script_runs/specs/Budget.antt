@@ -22,9 +22,11 @@ abbrev pub faults_ahead : ℕ → List ℕ → ℕ
 faults_ahead calls [] = 0
 faults_ahead calls (fault ∷ faults) = if nat_lt calls fault then 1 + faults_ahead calls faults else faults_ahead calls faults
 
+-- the most calls that drains may make where no budget is given: 133,120
 abbrev pub most_budget : ℕ
 most_budget = 133120
 
+-- the number, or the most where it is greater
 abbrev pub at_most : ℕ → ℕ → ℕ
 at_most most n = if nat_lt most n then most else n
 

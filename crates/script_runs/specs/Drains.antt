@@ -13,6 +13,7 @@ use Rattle.script_runs.specs.Replays.{AreMoves, IsDrain, IsMove, Progress}
 
 -- ---- what a drain comes to
 
+-- what a drain comes to
 pub record DrainComesTo (script : Script) (before after : Progress) : Type 0 where
   -- the entries are the earlier ones and then some of the seats of its actors, all told, no more than calls were made
   pub entries : GrowsWithin (seats_of before.drainers) (after.drained - before.drained) before.past after.past
@@ -26,6 +27,7 @@ pub record DrainComesTo (script : Script) (before after : Progress) : Type 0 whe
   -- where nothing is due it makes no call
   pub none : IsSettled script.setup (world script.setup before.past) → after.past ≡ before.past
 
+-- each drain comes to this
 abbrev pub DrainsComeTo : Type 0
 DrainsComeTo = (lets : Lets) (script : Script) (option : Option ℕ) (before after : Progress) → IsDrain lets script option before after → DrainComesTo script before after
 
@@ -59,6 +61,7 @@ LinesKeepDrainers =
     (script : Script) (first : ℕ) (option : Option ℕ) (line : Line) (before after : Progress) → IsMove script option line before after
     → AreDrainers script first option before → AreDrainers script first option after
 
+-- each line leaves the actors of drains as it should
 abbrev pub AllLinesKeepDrainers : Type 0
 AllLinesKeepDrainers =
     (script : Script) (first : ℕ) (option : Option ℕ) (end : Progress) (lines : List Line) (now : Progress) → AreMoves script option end lines now

@@ -25,38 +25,49 @@ use Rattle.script_runs.specs.Limits.{AreWithinLimits, IsReadable}
 use Rattle.actor_turns.specs.Parts.{lives_of}
 use Rattle.script_runs.specs.Parts.{drain_seats, seat_kind_of, part_of}
 
+-- a worker of this kind and number
 abbrev pub worker : WorkerKind → WorkerNumber → Actor
 worker kind number = Worker (record { kind = kind; number = number })
 
+-- the first binder
 abbrev pub binder_1 : Actor
 binder_1 = worker workers.Binder One
 
+-- the second binder
 abbrev pub binder_2 : Actor
 binder_2 = worker workers.Binder Two
 
+-- the third binder
 abbrev pub binder_3 : Actor
 binder_3 = worker workers.Binder Three
 
+-- the first of ops
 abbrev pub ops_1 : Actor
 ops_1 = worker workers.Ops One
 
+-- the first scheduler
 abbrev pub scheduler_1 : Actor
 scheduler_1 = worker workers.Scheduler One
 
+-- the first claim protection controller
 abbrev pub claims_1 : Actor
 claims_1 = worker workers.Claims One
 
+-- the fourth volume protection controller
 abbrev pub volumes_4 : Actor
 volumes_4 = worker workers.Volumes Four
 
+-- a script with these nodes and lines
 abbrev pub script_of : List (List ℕ) → List Line → Script
 script_of nodes ls = record { setup = record { pools = []; faults = []; imports = [] }; lines = ls; node_names = nodes; sizes = [] }
 
 -- ---- what becomes of calls
 
+-- two calls that are lost, one before its effect and one after
 abbrev pub two_losses : List Loss
 two_losses = record { call = 2; after = true } ∷ record { call = 4; after = false } ∷ []
 
+-- which fates calls have
 pub record FateExamples : Type 0 where
   pub told_before_them : fate_of two_losses 1 ≡ Told
   pub lost_after : fate_of two_losses 2 ≡ LostAfter
@@ -85,6 +96,7 @@ with_scheduler = script_of (codes "n1" ∷ []) (lines.Turn scheduler_1 1 ∷ lin
 abbrev pub with_protection : Script
 with_protection = script_of [] (lines.Turn volumes_4 1 ∷ lines.Restart claims_1 2 ∷ lines.Turn claims_1 5 ∷ lines.Turn binder_1 5 ∷ [])
 
+-- the agent of a node
 abbrev pub agent_of : List ℕ → Actor
 agent_of node = Agent node
 
@@ -94,6 +106,7 @@ with_agents = script_of (codes "n1" ∷ codes "n2" ∷ codes "n3" ∷ []) (
     lines.Turn (agent_of (codes "n2")) 5 ∷ lines.Restart (agent_of (codes "n1")) 6 ∷ lines.Lose (agent_of (codes "n1")) 6 true
     ∷ lines.Turn (agent_of (codes "n1")) 6 ∷ lines.Turn volumes_4 1 ∷ [])
 
+-- what lines say of an actor
 pub record PartExamples : Type 0 where
   pub the_first_begins_after_the_users : (part_of two_binders binder_1).first ≡ 5
   pub a_life_more_for_each_restart : lives_of (part_of two_binders binder_1) ≡ 3
@@ -126,6 +139,7 @@ pub record PartExamples : Type 0 where
   pub not_in_the_order_of_their_turns : (part_of with_agents (agent_of (codes "n2"))).first ≢ 6
   pub an_agent_without_turns_has_no_life : lives_of (part_of with_agents (agent_of (codes "n3"))) ≡ 0
 
+-- which seats lives and drains have
 pub record SeatExamples : Type 0 where
   pub drains_come_after_all_lives : drain_seats two_binders ≡ 12 ∷ 11 ∷ 10 ∷ 13 ∷ 14 ∷ 15 ∷ 16 ∷ []
   pub a_seat_for_each_node : drain_seats (script_of (codes "n1" ∷ []) []) ≡ 7 ∷ 6 ∷ 5 ∷ 8 ∷ 9 ∷ 10 ∷ []
@@ -135,21 +149,27 @@ pub record SeatExamples : Type 0 where
 
 -- ---- budgets
 
+-- the metadata of an object
 abbrev pub some_meta : Meta
 some_meta = record { namespace = []; name = codes "a"; uid = None; version = 0; created = []; deleted = None; labels = []; annotations = []; finalizers = [] }
 
+-- a node
 abbrev pub some_node : Object
 some_node = Node (record { meta = some_meta; extra = [] })
 
+-- a pod that names two claims
 abbrev pub two_claims : Object
 two_claims = Pod (record { meta = some_meta; claims = codes "x" ∷ codes "y" ∷ []; node = []; extra = [] })
 
+-- no entries
 abbrev pub no_entries : List Entry
 no_entries = []
 
+-- a script with planned faults
 abbrev pub with_faults : Script
 with_faults = record (script_of [] []) { setup = record { pools = []; faults = 1 ∷ 2 ∷ []; imports = [] } }
 
+-- how large budgets are
 pub record BudgetExamples : Type 0 where
   pub an_object_counts_one : size_of_all (some_node ∷ []) ≡ 1
   pub a_pod_counts_its_claims : size_of_all (some_node ∷ two_claims ∷ []) ≡ 4
@@ -169,6 +189,7 @@ pub record BudgetExamples : Type 0 where
 
 -- ---- the limits
 
+-- a line of a user
 abbrev pub user_line : ℕ → Line
 user_line user = lines.Call user (requests.List kinds.Pod None)
 
@@ -176,9 +197,11 @@ user_line user = lines.Call user (requests.List kinds.Pod None)
 abbrev pub imported_node : Object
 imported_node = Node (record { meta = record some_meta { uid = Some (uid_of_serial 7); version = 9 }; extra = [] })
 
+-- a script that imports an object
 abbrev pub importing : Object → Script
 importing object = record (script_of [] []) { setup = record { pools = []; faults = []; imports = object ∷ [] }; node_names = codes "a" ∷ [] }
 
+-- which scripts are within the limits
 pub record LimitExamples : Type 0 where
   pub within : IsReadable two_binders
   pub the_last_user_and_the_most_calls : AreWithinLimits (user_line 4 ∷ lines.Turn binder_1 1000 ∷ [])

@@ -20,6 +20,7 @@ IsWithinLimits (Call user request) = (0 < user) × (user < 5)
 IsWithinLimits (Turn actor calls) = calls ≤ 1000
 IsWithinLimits line = ⊤
 
+-- all lines are within the limits
 abbrev pub AreWithinLimits : List Line → Type 0
 AreWithinLimits [] = ⊤
 AreWithinLimits (line ∷ lines) = IsWithinLimits line × AreWithinLimits lines
@@ -37,6 +38,7 @@ NamesKnown nodes (Restart actor after) = IsKnown nodes actor
 NamesKnown nodes (Turn actor calls) = IsKnown nodes actor
 NamesKnown nodes Drain = ⊤
 
+-- all lines name known nodes alone
 abbrev pub NameKnown : List (List ℕ) → List Line → Type 0
 NameKnown nodes [] = ⊤
 NameKnown nodes (line ∷ lines) = NamesKnown nodes line × NameKnown nodes lines

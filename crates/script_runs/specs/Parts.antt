@@ -23,6 +23,7 @@ use Rattle.actor_turns.specs.Parts.{lives_by}
 
 -- the kind of the seats of an actor
 
+-- the kind of client that a worker is
 abbrev pub kind_of_worker : WorkerKind → SeatKind
 kind_of_worker workers.Binder = seats.Binder
 kind_of_worker workers.Ops = seats.Ops
@@ -30,6 +31,7 @@ kind_of_worker workers.Scheduler = seats.Scheduler
 kind_of_worker workers.Claims = seats.ClaimProtect
 kind_of_worker workers.Volumes = seats.VolumeProtect
 
+-- the kind of client that an actor of a line is
 abbrev pub seat_kind_of : Actor → SeatKind
 seat_kind_of (Worker w) = kind_of_worker w.kind
 seat_kind_of (Agent node) = seats.Agent
@@ -41,6 +43,7 @@ role_of (Agent node) = record { kind = seats.Agent; node = node }
 
 -- what lines say of the actor of a name
 
+-- the line is a turn of the actor of this name
 abbrev pub is_turn_of : List ℕ → Line → Bool
 is_turn_of name (Turn actor calls) = bytes_eq (actor_word actor) name
 is_turn_of name line = false
@@ -49,10 +52,12 @@ is_turn_of name line = false
 abbrev pub is_named : List ℕ → List Line → Bool
 is_named name lines = list_any (is_turn_of name) lines
 
+-- the loss of a call, where it is this actor's
 abbrev pub loss_by : Bool → ℕ → Bool → List Loss
 loss_by true call after = record { call = call; after = after } ∷ []
 loss_by false call after = []
 
+-- what the line says of lost calls of the actor of this name
 abbrev pub loss_in : List ℕ → Line → List Loss
 loss_in name (Lose actor call after) = loss_by (bytes_eq (actor_word actor) name) call after
 loss_in name line = []
@@ -110,8 +115,10 @@ drain_seat script = first_actor_seat + all_lives (all_actors script) script.line
 -- their seats and their roles, in the order of a round: the scheduler, ops, the binder, claim protection, volume protection, and
 -- the agents by the names of their nodes
 
+-- the seats of the actors of a replay's drains
 abbrev pub drain_seats : Script → List ℕ
 drain_seats script = seats_for (drain_seat script) script.node_names
 
+-- the roles of the actors of drains
 abbrev pub drain_roles : Script → List Role
 drain_roles script = roles_for script.node_names

@@ -43,12 +43,14 @@ first_progress option drainers = record { past = []; made = λ name. 0; idle = �
 
 -- ---- a user's line
 
+-- a user makes one call
 pub record IsUserCall (user : ℕ) (request : Request) (before after : Progress) : Type 0 where
   pub reply : Reply
   pub is : after ≡ record before { past = (record { seat = user; kind = seats.User; request = request; reply = reply; told = true }) ∷ before.past }
 
 -- ---- a turn line
 
+-- the numbers of calls made, with more for this name
 abbrev pub and_made : List ℕ → ℕ → (List ℕ → ℕ) → List ℕ → ℕ
 and_made name count made other = if bytes_eq other name then made other + count else made other
 
@@ -94,6 +96,7 @@ pub record IsDrain (lets : Lets) (script : Script) (option : Option ℕ) (before
 
 -- ---- the lines
 
+-- what a line does
 abbrev pub IsMove : Script → Option ℕ → Line → Progress → Progress → Type 0
 IsMove script option (Call user request) before after = IsUserCall user request before after
 IsMove script option (Lose actor call lost) before after = after ≡ before

@@ -40,7 +40,7 @@ started = record {
 
 -- ---- actors that make no calls
 
-no_calls : (past : List Entry) (actor : Actor) (part : Part) → ((seat : ℕ) → part.first ≤ seat → own seat past ≡ []) → HasMadeCalls 0 past actor part
+pub no_calls : (past : List Entry) (actor : Actor) (part : Part) → ((seat : ℕ) → part.first ≤ seat → own seat past ≡ []) → HasMadeCalls 0 past actor part
 no_calls past actor part none = record {
   made = 0;
   mine = [];
@@ -63,7 +63,7 @@ made_none : (new past : List Entry) (part : Part) (n count : ℕ) → count ≡ 
 made_none new past part n count none (NoCalls c is) = is
 made_none new past part n count none (MoreCalls rest middle c call calls) = absurd (omega (arith, none, c))
 
-none_of_it : (past : List Entry) (actor : Actor) (part : Part) (seat : ℕ) → part.first ≤ seat → seat < part.first + lives_of part → HasMadeCalls 0 past actor part → own seat past ≡ []
+pub none_of_it : (past : List Entry) (actor : Actor) (part : Part) (seat : ℕ) → part.first ≤ seat → seat < part.first + lives_of part → HasMadeCalls 0 past actor part → own seat past ≡ []
 none_of_it past actor part seat low high did = did.own_are seat (low, high) ∙ ap (own seat) (made_none did.mine [] part 1 did.made (by did.whole) did.calls_are)
   where
     by : {P : Type 0} → (did.made ≡ 0) ⊎ ((did.made < 0) × P) → did.made ≡ 0

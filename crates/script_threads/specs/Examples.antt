@@ -19,6 +19,7 @@ use Rattle.script_threads.specs.Threads.{IsThreadedWork}
 
 -- ---- which actors there are, and their parts
 
+-- which actors are started at which seats
 pub record StartedExamples : Type 0 where
   pub one_of_each : started_for 1 (codes "n1" ∷ []) ≡ binder_1 ∷ ops_1 ∷ scheduler_1 ∷ claims_1 ∷ worker workers.Volumes One ∷ agent_of (codes "n1") ∷ []
   pub kind_by_kind : started_for 2 [] ≡ binder_1 ∷ binder_2 ∷ ops_1 ∷ worker workers.Ops Two ∷ scheduler_1 ∷ worker workers.Scheduler Two ∷ claims_1
@@ -34,12 +35,15 @@ pub record StartedExamples : Type 0 where
 
 -- ---- whose calls a history has
 
+-- a user's line that lists a kind
 abbrev pub says : ℕ → Kind → Line
 says user kind = lines.Call user (requests.List kind None)
 
+-- an entry that lists a kind
 abbrev pub entry : ℕ → SeatKind → Kind → Entry
 entry seat kind of = record { seat = seat; kind = kind; request = requests.List of None; reply = replies.Listed [] 0; told = true }
 
+-- a user's entry that lists a kind
 abbrev pub asks : ℕ → Kind → Entry
 asks user kind = entry user seats.User kind
 
@@ -47,6 +51,7 @@ asks user kind = entry user seats.User kind
 abbrev pub two_lines : Script
 two_lines = script_of [] (says 1 Pod ∷ lines.Drain ∷ says 1 Node ∷ [])
 
+-- which histories are the work of threads
 pub record WorkExamples : Type 0 where
   pub in_order : IsThreadedWork two_lines 1 0 (asks 1 Node ∷ asks 1 Pod ∷ [])
   pub in_no_other : IsThreadedWork two_lines 1 0 (asks 1 Pod ∷ asks 1 Node ∷ []) → ⊥

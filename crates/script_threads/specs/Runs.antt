@@ -15,6 +15,7 @@ use Rattle.script_threads.specs.Threads.{AreDone, IsThreadedWork}
 abbrev pub progress_after : List Entry → Option ℕ → List Drainer → Progress
 progress_after worked option drainers = record (first_progress option drainers) { past = worked }
 
+-- a run on threads: the work of the threads, and then a drain
 pub record IsRun (script : Script) (workers calls : ℕ) (option : Option ℕ) (past : List Entry) (ending : Drained) : Type 0 where
   -- the threads leave these entries
   pub worked : List Entry

@@ -66,6 +66,7 @@ HasLived role past idle p false = LivesIdle role p past idle
 abbrev pub PlayedSoFar : Role → Player → List Entry → (ℕ → List Call) → Type 0
 PlayedSoFar role p past idle = (seat : ℕ) → p.part.first ≤ seat → seat ≤ p.seat → IsPlayedLife p.held role p.part seat p.made past (idle seat)
 
+-- a turn has made all its calls, and the lives go on
 pub record LivedAll (role : Role) (calls : ℕ) (past : List Entry) (idle : ℕ → List Call) (old new : Player) : Type 0 where
   pub made : new.made ≡ old.made + calls
   pub played : PlayedSoFar role new past idle

@@ -51,6 +51,7 @@ IsLife part seat = (part.first ≤ seat) × (seat < part.first + lives_of part)
 abbrev pub ServesLives : (ℕ → Type 0) → Part → Type 0
 ServesLives Serves part = (seat : ℕ) → IsLife part seat → Serves seat
 
+-- what is said of seats is said of the seats of the lives alone
 abbrev pub OrdersLives : (ℕ → Type 0) → Part → Type 0
 OrdersLives Orders part = (seat : ℕ) → Orders seat → IsLife part seat
 
@@ -67,10 +68,12 @@ and_held false n held = held
 abbrev pub KeepsOthers : Part → List Entry → List Entry → Type 0
 KeepsOthers part before after = (seat : ℕ) → (IsLife part seat → ⊥) → own seat after ≡ own seat before
 
+-- the player plays on, after some calls before which its lives were idle
 pub record SomePlays (p : Player) (past : List Entry) : Type 0 where
   pub idle : ℕ → List Entry
   pub plays : Plays p past idle
 
+-- a step made one call
 pub record HasMade (lets : Lets) (idle : ℕ → List Entry) (before after : List Entry) (old new : Player) : Type 0 where
   pub made : new.made ≡ old.made + 1
   pub call : IsCall lets new.held old.part (old.made + 1) before after
@@ -78,6 +81,7 @@ pub record HasMade (lets : Lets) (idle : ℕ → List Entry) (before after : Lis
   pub plays : Plays new after idle
   pub others : KeepsOthers old.part before after
 
+-- a step made none, and left all as it was
 pub record IsStill (idle : ℕ → List Entry) (before after : List Entry) (old new : Player) : Type 0 where
   pub made : new.made ≡ old.made
   pub held : new.held ≡ old.held
@@ -86,17 +90,20 @@ pub record IsStill (idle : ℕ → List Entry) (before after : List Entry) (old 
   pub plays : Plays new after idle
   pub ends : MayEnd old.part.kind (idle new.seat) (own new.seat after)
 
+-- what a step did, by whether it made a call
 abbrev pub HasStepped : Lets → (ℕ → List Entry) → List Entry → List Entry → Player → Player → Bool → Type 0
 HasStepped lets idle before after old new true = HasMade lets idle before after old new
 HasStepped lets idle before after old new false = IsStill idle before after old new
 
 -- ---- a turn
 
+-- a turn made all its calls
 pub record HasMadeAll (lets : Lets) (calls : ℕ) (idle : ℕ → List Entry) (before after : List Entry) (old new : Player) : Type 0 where
   pub made : new.made ≡ old.made + calls
   pub calls_are : AreCalls lets new.held old.part after (old.made + 1) calls before
   pub plays : Plays new after idle
 
+-- a turn made fewer calls, and the life that would make the next one is idle
 pub record HasMadeFewer (lets : Lets) (calls : ℕ) (idle : ℕ → List Entry) (before after : List Entry) (old new : Player) : Type 0 where
   pub count : ℕ
   pub few : count < calls
@@ -106,6 +113,7 @@ pub record HasMadeFewer (lets : Lets) (calls : ℕ) (idle : ℕ → List Entry) 
   pub ends : MayEnd old.part.kind (idle new.seat) (own new.seat after)
   pub plays : Plays new after (and_idle new.seat (own new.seat after) idle)
 
+-- what a turn did: all its calls or fewer, with the entries of others as they were
 pub record HasTurned (lets : Lets) (calls : ℕ) (idle : ℕ → List Entry) (before after : List Entry) (old new : Player) : Type 0 where
   pub others : KeepsOthers old.part before after
   pub agree : AgreeTo old.made new.held old.held

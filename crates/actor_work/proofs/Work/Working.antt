@@ -23,6 +23,7 @@ use Rattle.actor_turns.proofs.Lived.{each_lasted}
 use Rattle.actor_turns.proofs.Stepping.{life_there}
 use Rattle.actor_work.specs.Work.Steps.Reached.{HasPlayedTo}
 use Rattle.actor_work.specs.Work.Working.{AreWorkedLives, SomeLives}
+use Rattle.actor_turns.proofs.Turning.{at_seat}
 
 -- ---- the calls
 
@@ -89,9 +90,6 @@ smaller end before after true left low high goes = let more = above before after
 smaller end before after false left low high goes = omega (arith, left, low, high)
 
 -- ---- the actor
-
-at_seat : (seat : ℕ) (mine : List Entry) (idle : ℕ → List Entry) → and_idle seat mine idle seat ≡ mine
-at_seat seat mine idle = let same : (seat == seat) ≡ true = (Decides-eqb seat seat).1 refl in rw same refl
 
 -- after a turn that gave fewer calls the actor was woken
 pub turn_reached : (end : ℕ) (told : ℕ → List Entry) (before after : List Entry) (old new : Player) → old.made ≤ end → new.part ≡ old.part

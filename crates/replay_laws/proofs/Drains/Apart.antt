@@ -1,9 +1,10 @@
 -- The seats of a drain differ.
-use Rattle.std.proofs.Common.{◌≡◌, ℕ, ◌≤◌, ◌<◌, ◌+◌, zero, suc, List, [], ◌∷◌, Some, inl, inr, refl, sym, ap, subst, arith}
+use Rattle.std.proofs.Common.{◌≡◌, ℕ, ◌<◌, ◌+◌, zero, suc, List, [], ◌∷◌, Some, inl, inr, refl, sym, ap, subst, arith}
 use Rattle.std.specs.Prelude.{slice_get, ⊤}
 use Rattle.model_laws.proofs.Lists.{none_some, one}
 use Rattle.actor_rounds.specs.Drainers.{AreSeats, seats_for, seats_from}
 use Rattle.actor_rounds.specs.Longer.{IsOneOf}
+use Rattle.script_runs.proofs.Staging.{seats_low as from_low}
 
 -- none of these stands twice
 abbrev pub Apart : List ℕ → Type 0
@@ -21,11 +22,6 @@ differ (s ∷ seats) apart zero zero seat at there = refl
 differ (s ∷ seats) apart zero (suc j) seat at there = absurd (apart.0 (subst (IsOneOf seats) (sym (one s seat at)) (one_at seats j seat there)))
 differ (s ∷ seats) apart (suc i) zero seat at there = absurd (apart.0 (subst (IsOneOf seats) (sym (one s seat there)) (one_at seats i seat at)))
 differ (s ∷ seats) apart (suc i) (suc j) seat at there = ap suc (differ seats apart.1 i j seat at there)
-
-from_low : (low : ℕ) (nodes : List (List ℕ)) (seat : ℕ) → IsOneOf (seats_from low nodes) seat → low ≤ seat
-from_low low [] seat among = absurd among
-from_low low (node ∷ nodes) seat (inl is) = omega (arith, is)
-from_low low (node ∷ nodes) seat (inr more) = let rest = from_low (low + 1) nodes seat more in omega (arith, rest)
 
 from_apart : (low : ℕ) (nodes : List (List ℕ)) → Apart (seats_from low nodes)
 from_apart low [] = tt

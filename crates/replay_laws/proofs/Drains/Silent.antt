@@ -1,14 +1,11 @@
 -- In the drains of a script an agent is silent only where its node was taken by another.
-use Rattle.std.proofs.Common.{◌≡◌, ◌∙◌, ◌<◌, ℕ, List, [], ◌∷◌, ◌++◌, true, Option, Some, None, refl, sym, ap, subst, arith}
+use Rattle.std.proofs.Common.{◌≡◌, ◌∙◌, ℕ, List, ◌++◌, true, Option, Some, None, refl, sym, ap, subst}
 use Rattle.std.specs.Prelude.{option_map, slice_get}
 use Rattle.call_types.specs.declared.entry.Entry.{Entry}
 use Rattle.call_types.specs.declared.setup.Setup.{Setup}
-use Rattle.binder_model.specs.AgentLicence.{last_epoch}
 use Rattle.binder_model.specs.Promises.{IsRunOf}
 use Rattle.binder_model.specs.Told.{own}
 use Rattle.model_laws.proofs.Lists.{none_some, one}
-use Rattle.safety_law.specs.Invariant.Holders.{epoch_now}
-use Rattle.safety_law.proofs.Invariant.Holders.{epoch_rises}
 use Rattle.worker_core.specs.declared.role.Role.{Role}
 use Rattle.worker_core.specs.Memories.{Memory, memory_of}
 use Rattle.actor_rounds.specs.declared.drainers.Drainer.{Drainer}
@@ -23,14 +20,13 @@ use Rattle.settle_progress.proofs.Epochs.Silent.{rounds_silence_the_overtaken}
 use Rattle.settle_progress.proofs.Drains.Paying.{run_of_older}
 use Rattle.replay_laws.proofs.Drains.Apart.{Apart, one_at}
 use Rattle.replay_laws.proofs.Drains.Remembering.{Remember, round_remembers}
+use Rattle.actor_rounds.proofs.RoundFacts.{seat_at as seat_there}
+use Rattle.settle_progress.proofs.Epochs.Silent.{overtaken_on}
 
 -- by what was told at these seats, whose actors have these roles
 abbrev pub OnlyOvertakenSeats : Setup → List ℕ → List Role → List Entry → Type 0
 OnlyOvertakenSeats setup seats roles past = (place seat : ℕ) (node : List ℕ) → slice_get seats place ≡ Some seat
     → slice_get roles place ≡ Some (agent_of node) → (memory_of (agent_of node) (own seat past)).stale ≡ true → WasOvertaken setup past node seat
-
-pub seat_there : (ds : List Drainer) (place : ℕ) (d : Drainer) → slice_get ds place ≡ Some d → slice_get (seats_of ds) place ≡ Some d.seat
-seat_there ds place d there = get_mapped (λ (x : Drainer). x.seat) ds place ∙ ap (option_map (λ (x : Drainer). x.seat)) there
 
 pub role_there : (ds : List Drainer) (place : ℕ) (d : Drainer) → slice_get ds place ≡ Some d → slice_get (roles_of ds) place ≡ Some d.actor.role
 role_there ds place d there = get_mapped (λ (x : Drainer). x.actor.role) ds place ∙ ap (option_map (λ (x : Drainer). x.actor.role)) there
@@ -58,14 +54,6 @@ module _ (setup : Setup) (ds : List Drainer) (past : List Entry) (same : Remembe
 
           told : d.actor.memory ≡ memory_of (agent_of node) (own seat past)
           told = same place d there ∙ (ap (λ r. memory_of r (own d.seat past)) role_is ∙ ap (λ n. memory_of (agent_of node) (own n past)) seat_is)
-
--- entries of others leave the seat overtaken
-overtaken_on : (setup : Setup) (newer h : List Entry) (node : List ℕ) (seat : ℕ) → own seat (newer ++ h) ≡ own seat h → WasOvertaken setup h node seat → WasOvertaken setup (newer ++ h) node seat
-overtaken_on setup newer h node seat same was = record { epoch = was.epoch; told = ap (last_epoch node) same ∙ was.told; before = later newer }
-  where
-    later : (es : List Entry) → was.epoch < epoch_now setup (es ++ h) node
-    later [] = was.before
-    later (e ∷ es) = let lt = later es in let up = epoch_rises setup e (es ++ h) node in omega (arith, lt, up)
 
 -- and so all of these
 pub on_others : (setup : Setup) (seats : List ℕ) (roles : List Role) (newer h past : List Entry) → past ≡ newer ++ h

@@ -32,4 +32,5 @@ threaded_drainers script workers calls option past ending r =
 
 pub threaded_drains_last : ThreadedDrainsLast
 threaded_drains_last script workers calls option past ending run r =
-    drain_lasts script (drain_seat workers script) option (progress_after r.worked option r.drainers) r.end r.last (threaded_drainers script workers calls option past ending r) (subst (IsRunOf script.setup) r.history run) (silent_first script workers calls r.worked r.work)
+    drain_lasts script (drain_seat workers script) option (progress_after r.worked option r.drainers) r.end r.last
+    (threaded_drainers script workers calls option past ending r) (subst (IsRunOf script.setup) r.history run) (silent_first script workers calls r.worked r.work)

@@ -49,7 +49,8 @@ use Rattle.script_runs.proofs.Casting.{actor_built, known_at, named_at, within_a
 use Rattle.script_runs.proofs.Staying.{calls_grow, keeps_devices}
 use Rattle.replay_laws.proofs.Drains.Apart.{one_at}
 use Rattle.replay_laws.proofs.Drains.Moves.{move_grows, moves_grow, no_user, turn_others}
-use Rattle.replay_laws.proofs.Drains.Silent.{role_there, seat_there}
+use Rattle.replay_laws.proofs.Drains.Silent.{role_there}
+use Rattle.actor_rounds.proofs.RoundFacts.{seat_at as seat_there}
 use Rattle.replay_laws.specs.Settles.Settling.{LeaveAgents, LeftAgentsAreAwake, NoAgentIsStale, TurnNoAgent, turns_agent}
 use Rattle.replay_laws.proofs.Settles.Names.{nodes_apart}
 
@@ -196,7 +197,8 @@ module _ (script : Script) (option : Option ℕ) (readable : IsReadable script) 
 
     -- what the first line leaves, and what the later ones leave of it
     first_awake : (line : Line) (rest : List Line) (now next : Progress) → IsThere line
-        → ((place : ℕ) (x : Line) → slice_get rest place ≡ Some x → IsThere x) → LeaveAgents (line ∷ rest) → IsMove script option line now next → AreMoves script option end rest next → Are now → AreUnused now
+        → ((place : ℕ) (x : Line) → slice_get rest place ≡ Some x → IsThere x) → LeaveAgents (line ∷ rest) → IsMove script option line now next
+        → AreMoves script option end rest next → Are now → AreUnused now
         → (LeaveAgents rest → AreUnused next → Awake end.past) → Awake end.past
     first_awake (Call user request) rest now next there among leave move more are unused later =
         later leave (λ seat one_. ap (λ (p : Progress). own seat p.past) move.is

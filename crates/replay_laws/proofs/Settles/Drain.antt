@@ -33,7 +33,8 @@ use Rattle.script_runs.specs.Limits.{IsReadable}
 use Rattle.script_runs.specs.Drains.{AreDrainers}
 use Rattle.script_runs.specs.Replays.{IsDrain, Progress}
 use Rattle.replay_laws.proofs.Drains.Drained.{AreSilentIfOvertaken, may_begin, silent_ones}
-use Rattle.replay_laws.proofs.Drains.Silent.{role_there, seat_there}
+use Rattle.replay_laws.proofs.Drains.Silent.{role_there}
+use Rattle.actor_rounds.proofs.RoundFacts.{seat_at as seat_there}
 use Rattle.replay_laws.specs.Settles.Settling.{AllowsSettling, NoAgentIsStale}
 use Rattle.replay_laws.proofs.Settles.Names.{nodes_apart}
 
@@ -139,7 +140,8 @@ module _ (script : Script) (first : ℕ) (option : Option ℕ) (before after : P
 
         by : SharesWell (world script.setup before.past) ⊎ NoneProvisionsLate script.setup after.past → IsSettled script.setup (world script.setup d.past)
         by (inl shared) =
-            shared_drains_settle script.setup before.drainers d.ran before.past d.past (d.budget - before.drained) (d.budget - (before.drained + d.made)) allow may_settle shared has at_end order d.rounds
+            shared_drains_settle script.setup before.drainers d.ran before.past d.past (d.budget - before.drained)
+            (d.budget - (before.drained + d.made)) allow may_settle shared has at_end order d.rounds
         by (inr none_late) =
             static_drains_settle script.setup before.drainers d.ran before.past d.past (d.budget - before.drained) (d.budget - (before.drained + d.made)) allow may_settle has at_end order
             (subst (NoneProvisionsLate script.setup) past_is none_late) d.rounds

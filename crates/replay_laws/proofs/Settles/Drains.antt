@@ -35,12 +35,9 @@ use Rattle.replay_laws.proofs.Drains.Moves.{move_grows, moves_grow}
 use Rattle.replay_laws.proofs.Drains.Threaded.{threaded_drainers}
 use Rattle.replay_laws.proofs.Drains.Objects.{replayed_objects_are_few, threaded_objects_are_few}
 use Rattle.replay_laws.specs.Settles.Short.{DrainIsShort, EachRoundMakesFew, MoveIsShort, MovesAreShort, ReplayedDrainsAreShort, ThreadedDrainsAreShort}
+use Rattle.settle_round_calls.proofs.Rounds.Sum.{older_in_order as older_order}
 
 -- ---- earlier parts of a history
-
--- what is so at each point is so at each earlier one
-older_order : (setup : Setup) (newer h past : List Entry) → past ≡ newer ++ h → AreAlwaysInOrder setup past → AreAlwaysInOrder setup h
-older_order setup newer h past are order more older same = order (newer ++ more) older (are ∙ (ap (λ es. newer ++ es) same ∙ sym (append_assoc newer more older)))
 
 run_of_given : (setup : Setup) (past : List Entry) → IsGivenRun setup past → IsRunOf setup past
 run_of_given setup past given = record { imports = given.setup_given.passing; short = given.short; run = given.run }

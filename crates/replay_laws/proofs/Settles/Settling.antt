@@ -58,7 +58,8 @@ last_drains_settle script option past ending is replay may =
 pub threaded_drains_settle : ThreadedDrainsSettle
 threaded_drains_settle script workers calls option past ending is r allows =
     says script r.end past ending r.history r.ends
-    (drain_settles script (threads_drain_seat workers script) option (progress_after r.worked option r.drainers) r.end r.last (threaded_drainers script workers calls option past ending r) is.readable given
+    (drain_settles script (threads_drain_seat workers script) option (progress_after r.worked option r.drainers) r.end r.last
+    (threaded_drainers script workers calls option past ending r) is.readable given
     (silent_first script workers calls r.worked r.work)
     (unused_are_awake script (threads_drain_seat workers script) r.worked (λ seat among. r.work.others seat (inr (after_first (threads_drain_seat workers script) script.node_names seat among))))
     (given_before script past is.names is.given.run (run_creates script workers calls option past ending r) grown.newer r.worked (r.history ∙ grown.are))

@@ -10,6 +10,7 @@ use Rattle.script_text.specs.Said.{objects_of}
 use Rattle.script_runs.specs.Replays.{IsReplay}
 use Rattle.script_threads.specs.Runs.{IsRun}
 
+-- the objects that stand are at most twice those imported and created by lines
 abbrev pub HasFewObjects : Script → List Entry → Type 0
 HasFewObjects script past = length (world script.setup past).store.rows ≤ 2 * objects_of script.setup.imports script.lines
 

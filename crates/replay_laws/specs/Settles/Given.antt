@@ -13,9 +13,11 @@ use Rattle.settle_pays.specs.Actors.Reclaiming.{UidsFit}
 use Rattle.settle_budget.specs.Drains.Budget.{AreAlwaysInOrder}
 use Rattle.settle_budget.specs.Drains.Selections.{AreFresh, HasBudget, NoneProvisionsLate}
 
+-- in a run that a text can give, the annotations of claims are always in order
 abbrev pub GivenRunsStayInOrder : Type 0
 GivenRunsStayInOrder = (setup : Setup) (past : List Entry) → IsGivenRun setup past → AreAlwaysInOrder setup past
 
+-- the UIDs of imports that a text can give have 128 bits
 abbrev pub GivenImportsFit : Type 0
 GivenImportsFit = (setup : Setup) → IsSetup setup → UidsFit setup
 

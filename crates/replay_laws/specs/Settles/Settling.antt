@@ -60,6 +60,7 @@ pub record EndsSettled (script : Script) (past : List Entry) (ending : Drained) 
   pub made : ℕ
   pub is : ending ≡ Settled made
 
+-- the last drain of a replay ends settled wherever it may
 abbrev pub LastDrainsSettle : Type 0
 LastDrainsSettle = (script : Script) (option : Option ℕ) (past : List Entry) (ending : Drained) → IsGivenScript script past
     → (replay : IsReplay script option past ending) → LastDrainMaySettle script option past ending replay → EndsSettled script past ending

@@ -109,7 +109,8 @@ lists_before : IsReplay pod_script (Some 1) pod_assigned (Spent 1 key_p dues.Mou
 lists_before r =
     let none : r.lines_done ≡ first_progress (Some 1) r.drainers = no_lines pod_script (Some 1) r.lines_done (first_progress (Some 1) r.drainers) [] refl r.moves in
     let empty : r.lines_done.past ≡ [] = ap (λ (p : Progress). p.past) none in
-    let call = first_call pod_script (Some 1) r.lines_done r.end r.last (last_drainers pod_script (Some 1) pod_assigned (Spent 1 key_p dues.Mount) r) (λ same. let both : pod_assigned ≡ [] = r.history ∙ same ∙ empty in absurd (cc)) (ap (own 7) empty) in
+    let call = first_call pod_script (Some 1) r.lines_done r.end r.last (last_drainers pod_script (Some 1) pod_assigned (Spent 1 key_p dues.Mount) r)
+    (λ same. let both : pod_assigned ≡ [] = r.history ∙ same ∙ empty in absurd (cc)) (ap (own 7) empty) in
     let long : length r.lines_done.past ≡ 0 = ap length empty in
     let at : slice_get pod_assigned 0 ≡ Some call.entry = ends_so pod_assigned call.later call.entry r.lines_done.past 0 (r.history ∙ call.are) (omega (arith, long)) in
     let e : requests.BindPod key_p uid_p node_1 ≡ requests.List kinds.PersistentVolume None = ap (λ (x : Entry). x.request) (one _ call.entry at) ∙ call.asks in

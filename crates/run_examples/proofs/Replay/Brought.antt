@@ -1,5 +1,5 @@
 -- Lives that have been told nothing, or only what was called for.
-use Rattle.std.proofs.Common.{◌≡◌, ℕ, ◌<◌, ◌≤◌, ◌+◌, List, [], ◌∷◌, ◌++◌, true≢false, Some, None, refl, sym, ◌∙◌, ap, subst, append-nil, append_assoc, arith}
+use Rattle.std.proofs.Common.{◌≡◌, ℕ, ◌<◌, ◌≤◌, ◌+◌, List, [], ◌∷◌, ◌++◌, true≢false, Some, None, sym, ◌∙◌, ap, subst, append-nil, append_assoc, arith}
 use Rattle.std.specs.Bool.{⊤}
 use Rattle.kube_objects.specs.declared.key.Key.{Key}
 use Rattle.kube_parts.specs.declared.parts.Kind.{Kind}
@@ -11,6 +11,7 @@ use Rattle.attention_law.specs.Resting.{Brings, IsSilentOnceStale, WasCalledSinc
 use Rattle.attention_law.proofs.Following.{same_head, same_tail}
 use Rattle.model_laws.proofs.Lists.{none_some, one}
 use Rattle.run_examples.specs.Replay.Calls.{watches}
+use Rattle.attention_law.proofs.Resting.{never_empty}
 
 -- the one life of an actor that is never restarted
 pub only_life : (seat : ℕ) → 5 ≤ seat → seat < 5 + 1 → 5 ≡ seat
@@ -32,10 +33,6 @@ AreBrought role before newer (None ∷ calls) = AreBrought role before (newer ++
 AreBrought role before newer (Some e ∷ calls) =
     ((key : Key) → Brings key e → IsDueThroughout role key (Some e ∷ (calls ++ before)) newer
     → WasCalledSince role key (Some e ∷ (calls ++ before)) newer) × AreBrought role before (newer ++ Some e ∷ []) calls
-
-never_empty : (later earlier : List Call) (e : Entry) → [] ≡ later ++ (Some e ∷ earlier) → ⊥
-never_empty [] earlier e is = absurd (cc)
-never_empty (c ∷ later) earlier e is = absurd (cc)
 
 pub brought_at : (role : Role) (before newer calls : List Call) → AreBrought role before newer calls
     → (key : Key) (e : Entry) (later earlier : List Call) → calls ≡ later ++ (Some e ∷ earlier) → Brings key e

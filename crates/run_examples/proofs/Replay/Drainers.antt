@@ -1,17 +1,10 @@
 -- New actors of a drain, and that they stand where their seats have no entries.
-use Rattle.std.proofs.Common.{◌≡◌, ℕ, ◌+◌, List, [], ◌∷◌, refl, arith}
-use Rattle.kube_parts.specs.declared.parts.Kind.{Kind}
-use Rattle.kube_parts.specs.declared.parts.Kind.TheVariants as kinds
+use Rattle.std.proofs.Common.{◌≡◌, ℕ, ◌+◌, List, [], ◌∷◌, refl}
 use Rattle.call_types.specs.declared.entry.Entry.{Entry}
 use Rattle.call_types.specs.declared.request.SeatKind.{SeatKind}
 use Rattle.call_types.specs.declared.request.SeatKind.TheVariants as seats
-use Rattle.informer_cache.specs.Cache.{CacheStandsFor, kind_known}
-use Rattle.informer_cache.specs.All.{AllStandFor, cache_of}
 use Rattle.worker_core.specs.declared.role.Role.{Role}
 use Rattle.worker_core.specs.Absorbs.{woken}
-use Rattle.worker_core.specs.Stands.{IsNew, StandsFor}
-use Rattle.worker_core.specs.States.{ActorState}
-use Rattle.worker_core.proofs.Begins.{begins}
 use Rattle.attention_law.proofs.Kept.{new_queues, wakes_queues}
 use Rattle.actor_rounds.specs.declared.drainers.Drainer.{Drainer}
 use Rattle.actor_rounds.specs.Drainers.{AreAtRest, AreNew, AreNewAgents, AreStanding, HaveNoEntries, IsNewAt, StandsWhole, agent_of, of_kind, roles_of, seats_of}
@@ -21,19 +14,7 @@ use Rattle.script_runs.specs.Parts.{drain_roles, drain_seat, drain_seats}
 use Rattle.actor_rounds.proofs.Resting.{new_rest}
 use Rattle.attention_law.specs.Begun.{begun_as}
 use Rattle.attention_law.proofs.Begun.{begun_new, begun_stands}
-
--- a wake leaves it standing
-woken_stands : (s : ActorState) (mine : List Entry) → StandsFor s mine → StandsFor (woken s) mine
-woken_stands s mine stands = record {
-  caches = stands.caches;
-  under_way = stands.under_way;
-  pass = λ quiet place kind low at. absurd (omega (arith, low));
-  memory = stands.memory;
-  licensed = stands.licensed;
-  own = stands.own;
-  start = stands.start;
-  given = stands.given;
-}
+use Rattle.worker_core.proofs.Absorbing.{woken_stands}
 
 pub woken_whole : (role : Role) → StandsWhole (woken (begun_as role)) []
 woken_whole role = record { told = woken_stands (begun_as role) [] (begun_stands role); queue = wakes_queues (begun_as role) (new_queues role (begun_as role) (begun_new role)) }

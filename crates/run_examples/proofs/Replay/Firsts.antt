@@ -72,6 +72,7 @@ use Rattle.script_runs.specs.Drains.{AreDrainers}
 use Rattle.script_runs.specs.Replays.{AreMoves, IsDrain, IsReplay, MoreMoves, NoMoves, Progress, first_progress}
 use Rattle.script_runs.proofs.Draining.{all_lines_keep_drainers, new_ones_are_drainers}
 use Rattle.world_core.specs.declared.drained.Drained.{Drained}
+use Rattle.worker_core.proofs.PassRules.{unlisted_not as lacking_from}
 
 -- ---- no lines
 
@@ -127,15 +128,6 @@ some_lacks kinds.PersistentVolumeClaim c first not all = by (is_listed c kinds.P
 some_lacks kinds.StorageClass c first not all = first
 some_lacks kinds.Node c first not all = first
 some_lacks kinds.Pod c first not all = first
-
--- the first kind that is lacking is not listed
-lacking_from : (c : AllKnown) (ks : List Kind) (k : Kind) → first_unlisted c ks ≡ Some k → is_listed c k ≡ false
-lacking_from c [] k e = none_some e
-lacking_from c (x ∷ ks) k e = by (is_listed c x) refl e (lacking_from c ks k)
-  where
-    by : (b : Bool) → is_listed c x ≡ b → (if b then first_unlisted c ks else Some x) ≡ Some k → (first_unlisted c ks ≡ Some k → is_listed c k ≡ false) → is_listed c k ≡ false
-    by true is h rest = rest h
-    by false is h rest = subst (λ y. is_listed c y ≡ false) (one x k h) is
 
 -- a kind that is not listed is asked for by a list
 pub asked_list : (c : AllKnown) (k : Kind) → is_listed c k ≡ false → read_of_kind c k ≡ requests.List k None

@@ -33,7 +33,8 @@ the_same : (script : Script) (option : Option ℕ) (before middle : Progress) (o
     → slice_get one_.ran 2 ≡ Some d → slice_get middle.drainers 2 ≡ Some other → d ≡ other
 the_same script option before middle one_ d other ran at = one d other (sym ran ∙ ap (λ ds. slice_get ds 2) (sym (left script option before middle one_)) ∙ at)
 
-turn_leaves : (script : Script) (actor : Actor) (calls : ℕ) (before after : Progress) → IsTurnLine all_pass [] (role_of actor) (part_of script actor) calls before after → after.drainers ≡ before.drainers
+turn_leaves : (script : Script) (actor : Actor) (calls : ℕ) (before after : Progress)
+    → IsTurnLine all_pass [] (role_of actor) (part_of script actor) calls before after → after.drainers ≡ before.drainers
 turn_leaves script actor calls before after (inl all) = ap (λ (p : Progress). p.drainers) all.is
 turn_leaves script actor calls before after (inr few) = ap (λ (p : Progress). p.drainers) few.is
 

@@ -168,7 +168,8 @@ known_there kinds.StorageClass namespace name is = absurd (cc)
 known_there kinds.Node namespace name is = absurd (cc)
 known_there kinds.Pod namespace name is = absurd (cc)
 
-known_other : (of kind : Kind) (namespace name : List ℕ) → kind ≡ of → (of ≡ kinds.PersistentVolume → ⊥) → known_of (knows_nothing of) (key_at kind namespace name) ≡ newest (first_list ∷ []) (key_at kind namespace name)
+known_other : (of kind : Kind) (namespace name : List ℕ) → kind ≡ of → (of ≡ kinds.PersistentVolume → ⊥)
+    → known_of (knows_nothing of) (key_at kind namespace name) ≡ newest (first_list ∷ []) (key_at kind namespace name)
 known_other of kinds.PersistentVolume namespace name is other = absurd (other (sym is))
 known_other of kinds.PersistentVolumeClaim namespace name is other = refl
 known_other of kinds.StorageClass namespace name is other = refl

@@ -105,7 +105,8 @@ begins_otherwise : IsReplay ended_script (Some 2) data_erased (Spent 2 key_a due
 begins_otherwise r =
     let none : r.lines_done ≡ first_progress (Some 2) r.drainers = no_lines ended_script (Some 2) r.lines_done (first_progress (Some 2) r.drainers) [] refl r.moves in
     let empty : r.lines_done.past ≡ [] = ap (λ (p : Progress). p.past) none in
-    let first = first_call ended_script (Some 2) r.lines_done r.end r.last (last_drainers ended_script (Some 2) data_erased (Spent 2 key_a dues.Reclaim) r) (λ same. let both : data_erased ≡ [] = r.history ∙ same ∙ empty in absurd (cc)) (ap (own 7) empty) in
+    let first = first_call ended_script (Some 2) r.lines_done r.end r.last
+    (last_drainers ended_script (Some 2) data_erased (Spent 2 key_a dues.Reclaim) r) (λ same. let both : data_erased ≡ [] = r.history ∙ same ∙ empty in absurd (cc)) (ap (own 7) empty) in
     let long : length r.lines_done.past ≡ 0 = ap length empty in
     let at : slice_get data_erased 1 ≡ Some first.entry = ends_so data_erased first.later first.entry r.lines_done.past 1 (r.history ∙ first.are) (omega (arith, long)) in
     let e : 7 ≡ 6 = sym first.of_seat ∙ ap (λ (x : Entry). x.seat) (sym (one (ops_asks (requests.Get key_a) (replies.Found (Volume ended_a))) first.entry at)) in

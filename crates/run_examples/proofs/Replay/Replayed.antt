@@ -273,7 +273,8 @@ turn_lists ds next (inr fewer) =
 
 -- the one entry of such a replay
 one_lists : (x : Entry) (ending : Drained) → IsReplay turn_script None (x ∷ []) ending → x.request ≡ list_volumes
-one_lists x ending r = by (one_move ListsVolumes turn_script (lines.Turn binder_1 1) r.drainers r.lines_done (first_progress None r.drainers) turn_script.lines refl refl (turn_lists r.drainers) r.moves)
+one_lists x ending r = by (one_move ListsVolumes turn_script (lines.Turn binder_1 1) r.drainers r.lines_done (first_progress None r.drainers)
+    turn_script.lines refl refl (turn_lists r.drainers) r.moves)
   where
     drain : IsLonger (seats_of r.lines_done.drainers) (r.end.drained - r.lines_done.drained) r.lines_done.past r.end.past
     drain = calls_leave_entries turn_script None r.lines_done r.end r.last

@@ -1,5 +1,5 @@
 -- The examples of what turns may not leave undone compute.
-use Rattle.std.proofs.Common.{◌≡◌, ◌⊎◌, ℕ, ◌<◌, ◌≤◌, ◌+◌, List, [], ◌∷◌, ◌++◌, length, true, true≢false, Option, Some, None, inl, inr, refl, sym, ◌∙◌, ap, subst, append-nil, arith}
+use Rattle.std.proofs.Common.{◌≡◌, ℕ, ◌<◌, ◌≤◌, ◌+◌, List, [], ◌∷◌, ◌++◌, length, true, true≢false, Some, None, inl, inr, refl, sym, ◌∙◌, ap, subst, append-nil, arith}
 use Rattle.kube_objects.specs.declared.key.Key.{Key}
 use Rattle.kube_parts.specs.declared.parts.Kind.{Kind}
 use Rattle.kube_parts.specs.declared.parts.Kind.TheVariants as kinds
@@ -9,7 +9,7 @@ use Rattle.kube_objects.specs.declared.objects.Object.TheVariants.{Volume}
 use Rattle.kube_objects.specs.Keys.{row_at}
 use Rattle.call_types.specs.declared.entry.Entry.{Entry}
 use Rattle.call_types.specs.declared.request.SeatKind.TheVariants as seats
-use Rattle.binder_model.specs.Told.{listing, newest, object_of, own}
+use Rattle.binder_model.specs.Told.{newest, object_of, own}
 use Rattle.volume_sync.specs.VolumeDecision.{volume_decision}
 use Rattle.binder_machines.specs.declared.machine.Machine.TheVariants.{Frees}
 use Rattle.binder_machines.specs.Machines.{call_of, write_phase}
@@ -18,7 +18,7 @@ use Rattle.worker_core.specs.declared.role.Role.{Role}
 use Rattle.worker_core.specs.declared.task.Task.TheVariants as tasks
 use Rattle.worker_core.specs.declared.task.Under.{Under}
 use Rattle.attention_law.specs.Diligence.{Call, IsKeyDue}
-use Rattle.attention_law.specs.Resting.{AreNeeded, Brings, IsDone, IsSilentOnceStale, WasCalledSince, WasToldStale}
+use Rattle.attention_law.specs.Resting.{AreNeeded, Brings, IsDone, IsSilentOnceStale, WasCalledSince}
 use Rattle.attention_law.proofs.Dues.{asked_no_read, never_due}
 use Rattle.attention_law.proofs.Showings.{one_showing}
 use Rattle.actor_turns.specs.declared.loss.Fate.TheVariants.{Told}
@@ -34,10 +34,11 @@ use Rattle.actor_turns.proofs.Diligent.{idle_lives_are_done, played_lives_are_ne
 use Rattle.script_runs.specs.Replays.{IsTurnLine, Progress, first_progress}
 use Rattle.run_examples.specs.Replay.Calls.{told_calls, watches}
 use Rattle.run_examples.specs.Replay.Replays.{plain_part}
-use Rattle.run_examples.specs.Replay.Turns.{LeftExamples, NeededExamples, StaleExamples, agent_n, agent_part, is_stale, lists, lost_node, made_all, made_fewer, only_watches, pending_a, six, takes}
+use Rattle.run_examples.specs.Replay.Turns.{LeftExamples, NeededExamples, StaleExamples, agent_n, agent_part, is_stale, lists, lost_node, made_fewer, only_watches, pending_a, six, takes}
 use Rattle.run_examples.proofs.Replay.Brought.{brought_at, no_binder_is_stale, only_life, watch_brings_none}
 use Rattle.run_examples.proofs.Replay.Played.{same_calls}
 use Rattle.actor_rounds.specs.Answers.Answered.{all_pass}
+use Rattle.machine_examples.proofs.Life.Computed.{listed_object as listed_row}
 
 -- ---- of an actor that loses no call
 
@@ -109,10 +110,6 @@ needed_cases = record {
 
 abbrev rows : List Object
 rows = Volume pending_a ∷ []
-
-listed_row : (version : ℕ) (row : Option Object) → object_of (Some (listing version row)) ≡ row
-listed_row version None = refl
-listed_row version (Some o) = refl
 
 pending_due : (mine : List Entry) → ((key : Key) → row_at key rows ≡ object_of (newest mine key)) → IsKeyDue binder key_a mine
 unfolding volume_decision call_of

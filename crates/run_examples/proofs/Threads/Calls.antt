@@ -1,14 +1,12 @@
 -- The examples of the calls of one actor compute.
-use Rattle.std.proofs.Common.{◌≡◌, ◌⊎◌, ℕ, ◌+◌, ◌<◌, ◌≤◌, Bool, true, false, true≢false, List, [], ◌∷◌, ◌++◌, length, Some, None, inl, inr, refl, sym, ◌∙◌, ap, subst, arith}
+use Rattle.std.proofs.Common.{◌≡◌, ℕ, ◌+◌, ◌<◌, ◌≤◌, Bool, true, false, true≢false, List, [], ◌∷◌, length, Some, None, inl, inr, refl, sym, ◌∙◌, ap, subst, arith}
 use Rattle.kube_parts.specs.declared.parts.Kind.{Kind}
-use Rattle.kube_parts.specs.declared.parts.Kind.TheVariants.{Node, PersistentVolume, Pod}
+use Rattle.kube_parts.specs.declared.parts.Kind.TheVariants.{PersistentVolume, Pod}
 use Rattle.call_types.specs.declared.entry.Entry.{Entry}
-use Rattle.call_types.specs.declared.reply.Reply.TheVariants as replies
 use Rattle.call_types.specs.declared.request.Request.TheVariants as requests
 use Rattle.call_types.specs.declared.request.SeatKind.{SeatKind}
 use Rattle.call_types.specs.declared.request.SeatKind.TheVariants as seats
 use Rattle.binder_model.specs.Told.{own}
-use Rattle.attention_law.specs.Begun.{begun_as}
 use Rattle.attention_law.specs.Diligence.{Call}
 use Rattle.attention_law.specs.Resting.{IsPlayedSince}
 use Rattle.worker_core.specs.States.{ActorState}
@@ -25,7 +23,7 @@ use Rattle.actor_turns.specs.Calls.{AreCalls, AreOfLife, IsCall, MoreCalls, NoCa
 use Rattle.actor_turns.specs.Parts.{lives_of}
 use Rattle.actor_work.specs.Work.Working.{HasWorked}
 use Rattle.script_runs.specs.Examples.{binder_1}
-use Rattle.script_threads.specs.Examples.{asks, entry}
+use Rattle.script_threads.specs.Examples.{entry}
 use Rattle.script_threads.specs.Started.{started_part}
 use Rattle.script_threads.specs.Threads.{HasMadeCalls}
 use Rattle.run_examples.specs.Threads.Calls.{HasMadeOne, LossExamples, MadeExamples, another_loses, listed, loses_first}
@@ -57,33 +55,11 @@ pub told_made : (past : List Entry) (actor : Actor) (part : Part) (e : Entry) (s
 told_made past actor part e s one call own_are are played =
     one_made past (e ∷ []) actor part (Some e) s one (MoreCalls {n = 1} {past = []} 0 (e ∷ []) refl call (NoCalls refl refl)) own_are are played
 
--- one that was to make none
-pub none_made : (past : List Entry) (actor : Actor) (part : Part) → ((seat : ℕ) → part.first ≤ seat → own seat past ≡ []) → HasMadeCalls 0 past actor part
-none_made past actor part none = record {
-  made = 0;
-  mine = [];
-  calls_are = NoCalls refl refl;
-  own_are = λ seat life. none seat life.0;
-  whole = inl refl;
-  lives = λ seat life. record {
-    before = [];
-    life = record { since = []; are = record { of_seat = sym (none seat life.0); left = refl }; state = begun_as (role_of actor); played = begins (role_of actor) };
-  };
-}
-
 -- ---- cases that do not
 
 none_more : (part : Part) (new : List Entry) (n count : ℕ) (past : List Entry) → count ≡ 0 → AreCalls all_pass [] part new n count past → new ≡ past
 none_more part new n count past none (NoCalls c is) = is
 none_more part new n count past none (MoreCalls rest middle c call calls) = absurd (omega (arith, none, c))
-
--- one that was to make none has no entry
-pub none_of_it : (past : List Entry) (actor : Actor) (part : Part) (seat : ℕ) → part.first ≤ seat → seat < part.first + lives_of part → HasMadeCalls 0 past actor part → own seat past ≡ []
-none_of_it past actor part seat low high did = did.own_are seat (low, high) ∙ ap (own seat) (none_more part did.mine 1 did.made [] (by did.whole) did.calls_are)
-  where
-    by : {P : Type 0} → (did.made ≡ 0) ⊎ ((did.made < 0) × P) → did.made ≡ 0
-    by (inl all) = all
-    by (inr fewer) = let few = fewer.0 in absurd (omega (arith, few))
 
 pub first_call : (part : Part) (new : List Entry) (n count : ℕ) (past : List Entry) → n ≡ 1 → count ≡ 1 → past ≡ [] → AreCalls all_pass [] part new n count past → IsCall all_pass [] part 1 [] new
 first_call part new n count past at one none (NoCalls c is) = absurd (omega (arith, one, c))
@@ -165,7 +141,8 @@ made_cases = record {
   one_call = told_made _ binder_1 (started_part [] binder_1 5) listed _ refl (record { request = _; reply = _; passes = refl; is = refl }) refl (record { of_seat = refl; left = refl }) binder_listed;
   not_one_in_vain = λ did. absurd (true≢false (sym (ap lists_volumes (asked_first (record listed { request = requests.Get some_key }) did (record { of_seat = refl; left = refl })))));
   not_a_list_of_another_kind = λ did. absurd (true≢false (sym (ap lists_volumes (asked_first (entry 5 seats.Binder Pod) did (record { of_seat = refl; left = refl })))));
-  others_call_between = told_made _ binder_1 (started_part [] binder_1 5) listed _ refl (record { request = _; reply = _; passes = refl; is = refl }) refl (record { of_seat = refl; left = refl }) binder_listed;
+  others_call_between = told_made _ binder_1 (started_part [] binder_1 5) listed _ refl (record { request = _; reply = _; passes = refl; is = refl })
+      refl (record { of_seat = refl; left = refl }) binder_listed;
   none_is_too_few = λ did. let one : 0 ≡ 1 = (told_one [] did).one in absurd (omega (arith, one));
   two_are_too_many = λ did. let one : 2 ≡ 1 = (told_one (listed ∷ listed ∷ []) did).one in absurd (omega (arith, one));
   not_at_anothers_seat = λ did. let one : 0 ≡ 1 = (told_one (entry 6 seats.Binder PersistentVolume ∷ []) did).one in absurd (omega (arith, one));

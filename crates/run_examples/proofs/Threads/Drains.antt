@@ -2,7 +2,6 @@
 use Rattle.std.proofs.Common.{◌≡◌, ◌⊎◌, ℕ, ◌+◌, ◌≤◌, ◌<◌, List, [], ◌∷◌, ◌++◌, length, None, inl, inr, refl, sym, ◌∙◌, ap, subst, arith}
 use Rattle.std.specs.Prelude.{codes}
 use Rattle.call_types.specs.declared.entry.Entry.{Entry}
-use Rattle.call_types.specs.declared.request.SeatKind.TheVariants as seats
 use Rattle.binder_model.specs.Answers.{after, list, outcome}
 use Rattle.binder_model.specs.Devices.{device_answer}
 use Rattle.binder_model.specs.Due.{IsSettled}
@@ -22,7 +21,7 @@ use Rattle.script_runs.proofs.Staging.{after_first}
 use Rattle.script_threads.specs.Runs.{progress_after}
 use Rattle.run_examples.specs.Threads.Runs.{IsSmallRun, RunExamples, both, with_scheduler}
 use Rattle.run_examples.specs.Threads.Works.{small}
-use Rattle.run_examples.proofs.Threads.Calls.{none_of_it}
+use Rattle.script_threads.proofs.Computed.{none_of_it}
 use Rattle.run_examples.proofs.Threads.Drainers.{drainers, drainers_new}
 use Rattle.run_examples.proofs.Threads.Users.{both_worked}
 

@@ -1,5 +1,5 @@
 -- The examples of seats and of users compute.
-use Rattle.std.proofs.Common.{◌≡◌, ◌⊎◌, ℕ, zero, suc, ◌+◌, ◌<◌, ◌≤◌, Bool, true, false, true≢false, List, [], ◌∷◌, ◌++◌, Some, None, inl, inr, refl, sym, ◌∙◌, ap, ne_eqb, arith}
+use Rattle.std.proofs.Common.{◌≡◌, ◌⊎◌, ℕ, zero, suc, ◌<◌, ◌≤◌, Bool, true, false, true≢false, List, [], ◌∷◌, None, inl, inr, refl, sym, ap, ne_eqb, arith}
 use Rattle.kube_parts.specs.declared.parts.Kind.TheVariants.{Node, Pod}
 use Rattle.call_types.specs.declared.entry.Entry.{Entry}
 use Rattle.call_types.specs.declared.request.Request.{Request}
@@ -7,12 +7,8 @@ use Rattle.call_types.specs.declared.request.Request.TheVariants as requests
 use Rattle.call_types.specs.declared.request.SeatKind.{SeatKind}
 use Rattle.call_types.specs.declared.request.SeatKind.TheVariants as seats
 use Rattle.binder_model.specs.Told.{own}
-use Rattle.actor_rounds.specs.Rounds.{all_pass}
 use Rattle.script_lines.specs.declared.actors.Actor.{Actor}
 use Rattle.actor_turns.specs.declared.loss.Loss.{Loss}
-use Rattle.actor_turns.specs.declared.part.Part.{Part}
-use Rattle.actor_turns.specs.Calls.{AreCalls, MoreCalls, NoCalls}
-use Rattle.actor_turns.specs.Parts.{lives_of}
 use Rattle.shared_work.specs.Lines.{AreOfLines}
 use Rattle.script_lines.specs.declared.actors.WorkerKind.TheVariants as workers
 use Rattle.script_lines.specs.declared.actors.WorkerNumber.TheVariants.{One}
@@ -21,8 +17,9 @@ use Rattle.script_threads.specs.Examples.{asks, entry}
 use Rattle.script_threads.specs.Started.{started_part}
 use Rattle.script_threads.specs.Threads.{HasMadeCalls, IsThreadedWork}
 use Rattle.std.specs.Prelude.{codes}
-use Rattle.run_examples.proofs.Threads.Calls.{none_made, none_of_it}
-use Rattle.run_examples.specs.Threads.Works.{SeatExamples, UserExamples, small, untold}
+use Rattle.script_threads.proofs.Computed.{none_of_it}
+use Rattle.script_threads.proofs.Computed.{no_calls as none_made}
+use Rattle.run_examples.specs.Threads.Works.{SeatExamples, UserExamples, small}
 
 abbrev first_after : List Loss → Bool
 first_after [] = true

@@ -1,5 +1,5 @@
 -- The examples of an agent that is stale, and of all that take part, compute.
-use Rattle.std.proofs.Common.{◌≡◌, ◌⊎◌, ℕ, zero, suc, ◌+◌, ◌<◌, ◌≤◌, Bool, true, false, List, [], ◌∷◌, ◌++◌, length, Some, None, inl, inr, refl, sym, ◌∙◌, ap, subst, arith, ne_eqb}
+use Rattle.std.proofs.Common.{◌≡◌, ◌⊎◌, ℕ, zero, suc, ◌+◌, ◌<◌, ◌≤◌, List, [], ◌∷◌, ◌++◌, length, Some, None, inl, inr, refl, sym, ◌∙◌, ap, subst, arith, ne_eqb}
 use Rattle.std.specs.Prelude.{codes}
 use Rattle.kube_parts.specs.declared.parts.Kind.TheVariants.{Node, Pod}
 use Rattle.call_types.specs.declared.entry.Entry.{Entry}
@@ -28,7 +28,8 @@ use Rattle.script_threads.specs.Threads.{HasMadeCalls}
 use Rattle.run_examples.specs.Threads.Calls.{HasServed, StaleExamples, WholeExamples, all_lose, all_worked, listed, others_worked, refused, taken}
 use Rattle.run_examples.specs.Threads.Works.{small}
 use Rattle.run_examples.proofs.Replay.Played.{agent_lost, binder_lost, claims_lost, ops_lost, scheduler_lost, volumes_lost}
-use Rattle.run_examples.proofs.Threads.Calls.{first_call, its_call, none_of_it, one_made}
+use Rattle.run_examples.proofs.Threads.Calls.{first_call, its_call, one_made}
+use Rattle.script_threads.proofs.Computed.{none_of_it}
 
 -- ---- an agent that is stale
 

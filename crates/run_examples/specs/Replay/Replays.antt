@@ -62,7 +62,12 @@ plain_part = part_of turn_script binder_1
 
 -- after a turn in which it watched each kind
 abbrev pub after_a_pass : Progress
-after_a_pass = record (first_progress None []) { past = whole_pass; made = and_made plain_part.name 3 (first_progress None []).made; idle = and_idle 5 (told_calls whole_pass) (first_progress None []).idle }
+after_a_pass = record (first_progress None []) {
+  past = whole_pass;
+  made = and_made plain_part.name 3 (first_progress None []).made;
+  idle = and_idle
+      5 (told_calls whole_pass) (first_progress None []).idle;
+}
 
 pub record FewerExamples : Type 0 where
   pub not_without_its_lists : IsTurnLine all_pass [] (role_of binder_1) plain_part 9 (first_progress None []) after_a_pass → ⊥

@@ -62,7 +62,12 @@ only_watches = watches kinds.StorageClass ∷ watches kinds.PersistentVolumeClai
 
 -- after a turn that gave it fewer, and these were its calls
 abbrev pub made_fewer : Part → ℕ → List Entry → Progress
-made_fewer part calls past = record (first_progress None []) { past = past; made = and_made part.name calls (first_progress None []).made; idle = and_idle 5 (told_calls past) (first_progress None []).idle }
+made_fewer part calls past = record (first_progress None []) {
+  past = past;
+  made = and_made part.name calls (first_progress None []).made;
+  idle =
+      and_idle 5 (told_calls past) (first_progress None []).idle;
+}
 
 pub record LeftExamples : Type 0 where
   pub where_its_life_is_idle : IsIdleLife [] (role_of binder_1) plain_part 5 6 six [] (told_calls six)
@@ -99,5 +104,6 @@ abbrev pub lost_node : Progress
 lost_node = record (first_progress None []) { past = takes 9 2 ∷ takes 5 1 ∷ []; made = and_made agent_part.name 1 (first_progress None []).made }
 
 pub record StaleExamples : Type 0 where
-  pub it_is_told_so : ArePlayedLives [] (role_of agent_n) agent_part 2 (is_stale ∷ lost_node.past) lost_node.idle → IsTurnLine all_pass [] (role_of agent_n) agent_part 1 lost_node (made_all agent_part 1 (is_stale ∷ lost_node.past) lost_node)
+  pub it_is_told_so : ArePlayedLives [] (role_of agent_n) agent_part 2 (is_stale ∷ lost_node.past) lost_node.idle
+      → IsTurnLine all_pass [] (role_of agent_n) agent_part 1 lost_node (made_all agent_part 1 (is_stale ∷ lost_node.past) lost_node)
   pub it_takes_no_node_back : (after : Progress) → after.past ≡ takes 5 3 ∷ is_stale ∷ lost_node.past → IsTurnLine all_pass [] (role_of agent_n) agent_part 2 lost_node after → ⊥

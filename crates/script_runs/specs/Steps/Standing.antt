@@ -1,5 +1,5 @@
 -- What stands for how far a replay has come: a world, the actors, and the numbers of the drains. A choice of this project.
-use Rattle.std.specs.Prelude.{ℕ, ◌≡◌, ◌≤◌, ◌<◌, ◌+◌, true, List, [], ◌∷◌, ◌++◌, Option, Some, None, bytes_eq, drop, map, slice_get, if◌then◌else◌}
+use Rattle.std.specs.Prelude.{ℕ, ◌≡◌, ◌≤◌, ◌+◌, true, List, [], ◌∷◌, ◌++◌, Option, Some, None, bytes_eq, drop, map, slice_get, if◌then◌else◌}
 use Rattle.attention_law.specs.Diligence.{entries}
 use Rattle.actor_rounds.specs.declared.drainers.Drainer.{Drainer}
 use Rattle.actor_rounds.specs.Drainers.{AreNew, AreStanding}
@@ -31,17 +31,21 @@ use Rattle.script_runs.specs.Steps.Settled.{IsNoted}
 
 -- all actors, in the order of their seats: four workers of each kind, and then the agents of these nodes
 
+-- the four workers of a kind
 abbrev pub workers_of : WorkerKind → List Actor
 workers_of kind = map (λ (w : WorkerData). Worker w) (four kind)
 
+-- the agents of these nodes
 abbrev pub agents_for : List (List ℕ) → List Actor
 agents_for nodes = map (λ (node : List ℕ). Agent node) nodes
 
+-- all actors that lines may name
 unfoldable pub actors_for : List (List ℕ) → List Actor
 actors_for nodes = workers_of workers.Binder ++ (workers_of workers.Ops ++ (workers_of workers.Scheduler ++ (workers_of workers.Claims ++ (workers_of workers.Volumes ++ agents_for nodes))))
 
 -- the place of an actor among them
 
+-- the place of a kind's first worker among the actors
 abbrev pub place_of_kind : WorkerKind → ℕ
 place_of_kind workers.Binder = 0
 place_of_kind workers.Ops = 4
@@ -49,6 +53,7 @@ place_of_kind workers.Scheduler = 8
 place_of_kind workers.Claims = 12
 place_of_kind workers.Volumes = 16
 
+-- the place of a worker among those of its kind
 abbrev pub place_of_number : WorkerNumber → ℕ
 place_of_number One = 0
 place_of_number Two = 1
@@ -60,18 +65,22 @@ abbrev pub place_of_node : List ℕ → List (List ℕ) → ℕ
 place_of_node node [] = 0
 place_of_node node (n ∷ nodes) = if bytes_eq n node then 0 else 1 + place_of_node node nodes
 
+-- the place of an actor
 abbrev pub place_of : List (List ℕ) → Actor → ℕ
 place_of nodes (Worker w) = place_of_kind w.kind + place_of_number w.number
 place_of nodes (Agent node) = 20 + place_of_node node nodes
 
 -- the parts of actors by the lines alone: each begins where the one before it ends
 
+-- what the lines say of an actor, whose first life has this seat
 abbrev pub part_from : List Line → Actor → ℕ → Part
 part_from lines actor first = part_at (is_named (actor_word actor) lines) (actor_word actor) (seat_kind_of actor) first lines
 
+-- the seat past the lives of an actor
 abbrev pub end_of : Part → ℕ
 end_of part = part.first + lives_of part
 
+-- what the lines say of these actors, one after the other
 abbrev pub parts_from : List Line → List Actor → ℕ → List Part
 parts_from lines [] first = []
 parts_from lines (actor ∷ actors) first = part_from lines actor first ∷ parts_from lines actors (end_of (part_from lines actor first))
@@ -81,12 +90,15 @@ abbrev pub seat_past : List Line → List Actor → ℕ → ℕ
 seat_past lines [] first = first
 seat_past lines (actor ∷ actors) first = seat_past lines actors (end_of (part_from lines actor first))
 
+-- what the lines say of all actors
 abbrev pub all_parts : Script → List Part
 all_parts script = parts_from script.lines (actors_for script.node_names) first_actor_seat
 
+-- the seat past the lives of all actors
 abbrev pub seat_of_drains : Script → ℕ
 seat_of_drains script = seat_past script.lines (actors_for script.node_names) first_actor_seat
 
+-- what is said of these players
 abbrev pub parts_in : List Player → List Part
 parts_in players = map (λ (x : Player). x.part) players
 
@@ -108,10 +120,12 @@ pub record HasAdded (lines : List Line) (actors : List Actor) (first next : ℕ)
 abbrev pub EachWithRole : (Role → Player → Type 0) → List Actor → List Player → Type 0
 EachWithRole Q actors players = (place : ℕ) (actor : Actor) (x : Player) → slice_get actors place ≡ Some actor → slice_get players place ≡ Some x → Q (role_of actor) x
 
+-- the budget is the given one, or at most the greatest where none is given
 abbrev pub IsBudget : Option ℕ → ℕ → Type 0
 IsBudget (Some given) budget = budget ≡ given
 IsBudget None budget = budget ≤ most_budget
 
+-- the stage of the code is this progress of the replay
 pub record StageStands (script : Script) (option : Option ℕ) (p : Progress) (s : Stage) : Type 0 where
   pub past : s.world.past ≡ p.past
   pub setup : s.world.setup ≡ script.setup
@@ -129,6 +143,7 @@ pub record StageStands (script : Script) (option : Option ℕ) (p : Progress) (s
   pub most : IsBudget option s.budget
   pub settled : IsNoted s.world.setup s.world.past s.settled
 
+-- the stage of the code is some progress
 pub record SomeStands (script : Script) (option : Option ℕ) (s : Stage) : Type 0 where
   pub progress : Progress
   pub stands : StageStands script option progress s
@@ -154,6 +169,7 @@ pub record Ended (script : Script) (option : Option ℕ) (before : Progress) (s 
   pub stands : StageStands script option after s
   pub ends : EndsAs script.setup after ending
 
+-- how drains ended, with this number of calls
 abbrev pub with_made : ℕ → Drained → Drained
 with_made made (Settled before) = Settled made
 with_made made (Spent before key due) = Spent made key due
