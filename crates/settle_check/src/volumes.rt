@@ -19,7 +19,11 @@ use volume_match::row_named;
 use volume_sync::{claim_with, conditions_on};
 
 /// What is due for the volume: what the binder has to do comes first, and protection last.
-pub(crate) fn due_of_volume(store: &Store, volume: &Volume, table: &CaseTable<11, 21>) -> Option<Due>
+pub(crate) fn due_of_volume(
+    store: &Store,
+    volume: &Volume,
+    table: &CaseTable<11, 21>,
+) -> Option<Due>
     requires { table.now ≡ volume_due_rows }
     ensures { result ≡ or_due (volume_due store.now.rows volume.now) (or_due (reclaim_due volume.now) (volume_guard_due volume.now)) }
 {
