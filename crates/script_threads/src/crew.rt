@@ -22,7 +22,7 @@ use shared_work::worker::OneOf;
 use std::alloc::Global;
 
 /// A user or an actor.
-pub(crate) type Member<'a, G> = OneOf<UserLines<'a, G>, ActorCalls<'a, G>>;
+pub(crate) type CrewMember<'a, G> = OneOf<UserLines<'a, G>, ActorCalls<'a, G>>;
 
 /// The users have the seats before it.
 const FIRST_ACTOR_SEAT: u64 = 5;
@@ -96,7 +96,7 @@ fn hire_actor<'a, G: Gate>(
     calls: u64,
     first: u64,
     lines: &[Line],
-) -> Result<Hired<Member<'a, G>>, OutOfMemory>
+) -> Result<Hired<CrewMember<'a, G>>, OutOfMemory>
     requires few { length lines.now ≤ 4096 }
     requires small { first < 2 ^ 31 }
     requires calls { calls ≤ 1000 }
@@ -114,7 +114,7 @@ fn hire_actor<'a, G: Gate>(
 /// Hires these actors, whose lives have the seats after those of the users. Gives the seat after theirs.
 fn join<'a, G: Gate>(
     alloc: Global,
-    crew: &mut Vec<Hired<Member<'a, G>>>,
+    crew: &mut Vec<Hired<CrewMember<'a, G>>>,
     gate: &'a G,
     actors: &[Actor],
     calls: u64,
@@ -136,7 +136,7 @@ fn join<'a, G: Gate>(
 }
 
 /// A user of the script.
-fn user<'a, G: Gate>(alloc: Global, gate: &'a G, script: &'a Script) -> Hired<Member<'a, G>>
+fn user<'a, G: Gate>(alloc: Global, gate: &'a G, script: &'a Script) -> Hired<CrewMember<'a, G>>
     ensures { IsUserHired script.now result }
 {
     Hired {
@@ -156,7 +156,7 @@ pub(crate) fn crew<'a, G: Gate>(
     script: &'a Script,
     workers: u64,
     calls: u64,
-) -> Result<(Vec<Hired<Member<'a, G>>>, u64), OutOfMemory>
+) -> Result<(Vec<Hired<CrewMember<'a, G>>>, u64), OutOfMemory>
     requires readable { IsReadable script.now }
     requires workers { workers < 5 }
     requires calls { calls ≤ 1000 }

@@ -20,14 +20,14 @@ use world_core::drained::Drained;
 use world_core::kept::KeptWorld;
 
 /// A world that a run has made, and how its drain ended, with the calls that the drain has made.
-pub struct Ran {
+pub struct ThreadedRun {
     pub world: KeptWorld,
     pub ending: Drained,
 }
 
-impl Drop for Ran {
+impl Drop for ThreadedRun {
     fn drop(self) {
-        let Ran { world, ending } = self;
+        let ThreadedRun { world, ending } = self;
         drop(world);
         drop(ending);
     }
@@ -44,7 +44,7 @@ pub fn run<R: Threads + Wait + Sync, G: Gate>(
     calls: u64,
     option: Option<u64>,
     gate: &G,
-) -> Result<Ran, OutOfMemory>
+) -> Result<ThreadedRun, OutOfMemory>
     requires readable { IsReadable script.now }
     requires workers { (0 < workers) × (workers < 5) }
     requires calls { calls ≤ 1000 }
@@ -57,5 +57,5 @@ pub fn run<R: Threads + Wait + Sync, G: Gate>(
     let mut drainers = Drainers::new(alloc, &script.node_names, first)?;
     let budget = raised(option, world.world(), first_budget(option));
     let ending = drain(&mut world, &mut drainers, budget)?;
-    Ok(Ran { world, ending })
+    Ok(ThreadedRun { world, ending })
 }

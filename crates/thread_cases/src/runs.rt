@@ -9,7 +9,7 @@ use fault_io::gate::{Gate, NoGate};
 use script_text::errors::ScriptError;
 use script_text::reading::read_script;
 use script_text::script::Script;
-use script_threads::run::{Ran, run};
+use script_threads::run::{ThreadedRun, run};
 use script_threads::threads::run_all;
 use std::alloc::Global;
 use std::sync::Wait;
@@ -112,7 +112,7 @@ fn whole<R: Threads + Wait + Sync, G: Gate>(
     alloc: Global,
     budget: Option<u64>,
     gate: &G,
-) -> Option<Ran> {
+) -> Option<ThreadedRun> {
     let script = read(alloc, SCRIPT)?;
     run(rt, alloc, &script, 2, 20, budget, gate).ok()
 }

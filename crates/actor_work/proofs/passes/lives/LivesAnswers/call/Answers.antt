@@ -1,5 +1,4 @@
-use Rattle.std.proofs.Common.{◌-◌, refl, subst, ap, ℕ, List, Result, Ok, Err}
-use Rattle.std.specs.Prelude.{OnErr}
+use Rattle.std.proofs.Common.{◌-◌, refl, subst, ap, ℕ, List}
 use Rattle.call_types.specs.declared.entry.Entry.{Entry}
 use Rattle.binder_model.specs.Licence.{Licensed}
 use Rattle.call_types.specs.declared.reply.Reply.{Reply}
@@ -10,6 +9,7 @@ use Rattle.shared_world.specs.Lines.{entries}
 use Rattle.shared_world.specs.Passes.{HasCalled, setup_of}
 use Rattle.actor_work.proofs.Lives.Living.{life_there, more_there, none_there, own_after, own_there, served_after, served_before}
 use Rattle.actor_work.proofs.passes.lives.LivesAnswers.call.Goals as goal
+use Rattle.actor_rounds.proofs.Entries.{on_err}
 
 pub call-requires-clause-pass : goal.call-requires-clause-pass
 call-requires-clause-pass g c =
@@ -62,11 +62,6 @@ pub returns-clause-orders : goal.returns-clause-orders
 returns-clause-orders g c =
     let l = c.args.self.now in
     served_before l.shared.now l.made l.first c.args.seat (c.args.seat - l.first) l.passes.items c.index_mut.result.now refl c.index_mut.ensures.value c.requires.serves c.call.new.pass
-
--- where the answer is no error nothing is asked
-on_err : {T E : Type 0} (X : Type 0) (r : Result T E) → X → OnErr r X
-on_err X (Ok t) x = tt
-on_err X (Err e) x = x
 
 pub returns-in_err-reply-clause-err : goal.returns-in_err-reply-clause-err
 returns-in_err-reply-clause-err g c =
