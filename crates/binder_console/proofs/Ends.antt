@@ -20,7 +20,8 @@ use Rattle.binder_console.specs.declared.answers.Answer.{Answer}
 use Rattle.binder_console.specs.declared.answers.Answer.TheVariants as answers
 use Rattle.binder_console.specs.Commands.{task_of}
 use Rattle.binder_console.specs.Ends.{EndsAnswered, EndsBy, EndsCut, Outside}
-use Rattle.binder_console.specs.Exactly.{AreExact, IsNoInput, IsToBeRefused}
+use Rattle.binder_console.specs.Exactly.{AreExact, IsComplete, IsNoInput, IsToBeDone, IsToBeRefused, IsTold, NoneFailed}
+use Rattle.binder_console.proofs.Completed.{completed}
 use Rattle.binder_console.specs.Inputs.{IsInput, IsInputOf, IsReadThrough, IsTooLong, IsTooMuchOf, ReadsNothing, most_input}
 use Rattle.binder_console.specs.Outcomes.{Answers, IsAnswer, IsDueText, OfInput, OfRefusal, OfTask, OfUsage, TooLong, Written, Whole, Front, answer_status, answer_text, too_long_text, usage_text}
 
@@ -50,10 +51,11 @@ ends_misused words before after status asked written =
     ends_written words before after usage_text Usage status (λ appended. record { asked = asked; appended = appended }) (OfUsage asked refl) written
 
 pub ends_too_long : (task : Task) (words : List (String Global)) (before after : Outside) (status : Status)
-    → task_of words ≡ Some task → IsTooLong task before.left → Written before.written after.written before.write_faults after.write_faults too_long_text Refused status
-    → EndsBy status words before after
-ends_too_long task words before after status asked long written =
-    ends_written words before after too_long_text Refused status (λ appended. record { task = task; text = too_long_text; asked = asked; refused = TooLong long refl; appended = appended })
+    → task_of words ≡ Some task → IsTooLong task before.left → TakesFront before.left after.left
+    → Written before.written after.written before.write_faults after.write_faults too_long_text Refused status → EndsBy status words before after
+ends_too_long task words before after status asked long front written =
+    ends_written words before after too_long_text Refused status
+    (λ appended. record { task = task; text = too_long_text; asked = asked; refused = TooLong long refl; taken = inr (long, front); appended = appended })
     (OfRefusal task asked (TooLong long refl)) written
 
 pub ends_unread : (task : Task) (words : List (String Global)) (before after : Outside)
@@ -83,7 +85,7 @@ ends_answer task words before after input (answers.Unsettled text) status asked 
     ends_task task words before after input text Unsettled status (λ e. e) asked read through is written
 ends_answer task words before after input (answers.No text) status asked read through is written = ends_task task words before after input text AuditNo status (λ e. e) asked read through is written
 ends_answer task words before after input (answers.Refusal text) status asked read through is written =
-    ends_written words before after text Refused status (λ appended. record { task = task; text = text; asked = asked; refused = OfInput input read is; appended = appended })
+    ends_written words before after text Refused status (λ appended. record { task = task; text = text; asked = asked; refused = OfInput input read is; taken = inl through; appended = appended })
     (OfRefusal task asked (OfInput input read is)) written
 
 -- ---- an input of which the task is done is not to be refused
@@ -121,36 +123,60 @@ not_refused asked task left status input text is read done due = by left read (s
 no_task : (asked : Option Task) (task : Task) → asked ≡ Some task → asked ≡ None → ⊥
 no_task asked task some none = absurd (cc)
 
+abbrev IsDoneWhereItMay : Status → List (String Global) → Outside → Outside → Type 0
+IsDoneWhereItMay status words before after =
+    (task : Task) (input : List ℕ) → task_of words ≡ Some task → IsTold task before.left input → IsToBeDone task input → NoneFailed before after → IsComplete task status
+
+done_where_it_may : (status : Status) (words : List (String Global)) (before after : Outside) → EndsBy status words before after → IsDoneWhereItMay status words before after
+done_where_it_may status words before after e task input asked told done none = completed words before after task input asked told done none status e
+
 -- with such a status a task that the words ask for was done
-of_task : (status : Status) (words : List (String Global)) (before after : Outside) → (status ≡ Usage → ⊥) → EndsAnswered status words before after → AreExact status words before after
-of_task status words before after other e = record {
+of_task : (status : Status) (words : List (String Global)) (before after : Outside) → (status ≡ Usage → ⊥) → EndsAnswered status words before after
+    → IsDoneWhereItMay status words before after → AreExact status words before after
+of_task status words before after other e complete = record {
   misused = λ same. absurd (other same);
   misuse = λ none. absurd (no_task (task_of words) e.task e.asked none);
   refusal = λ due. absurd (not_refused (task_of words) e.task before.left status e.answered.input e.text e.asked e.answered.read e.answered.answered due);
   read_through = λ _. subst (λ (t : Option Task). IfSome t (λ task. IsReadThrough task after.left)) (sym e.asked) e.read_through;
+  complete = complete;
 }
 
 pub are_exact : (status : Status) (words : List (String Global)) (before after : Outside) → EndsBy status words before after → AreExact status words before after
-are_exact Done words before after e = of_task Done words before after (λ same. absurd (cc)) e
-are_exact Unsettled words before after e = of_task Unsettled words before after (λ same. absurd (cc)) e
-are_exact AuditNo words before after e = of_task AuditNo words before after (λ same. absurd (cc)) e
+are_exact Done words before after e = of_task Done words before after (λ same. absurd (cc)) e (done_where_it_may Done words before after e)
+are_exact Unsettled words before after e = of_task Unsettled words before after (λ same. absurd (cc)) e (done_where_it_may Unsettled words before after e)
+are_exact AuditNo words before after e = of_task AuditNo words before after (λ same. absurd (cc)) e (done_where_it_may AuditNo words before after e)
 are_exact Usage words before after e = record {
   misused = λ _. e.asked;
   misuse = λ _. inl refl;
   refusal = λ due. absurd (subst (λ (t : Option Task). IsToBeRefused t before.left) e.asked due);
   read_through = λ no. absurd no;
+  complete = done_where_it_may Usage words before after e;
 }
 are_exact Refused words before after e = record {
   misused = λ same. absurd (cc);
   misuse = λ none. absurd (no_task (task_of words) e.task e.asked none);
   refusal = λ _. inl refl;
   read_through = λ no. absurd no;
+  complete = done_where_it_may Refused words before after e;
 }
 are_exact ReadFault words before after e = record {
   misused = λ same. absurd (cc);
   misuse = λ none. absurd (no_task (task_of words) e.task e.asked none);
   refusal = λ _. inr tt;
   read_through = λ no. absurd no;
+  complete = done_where_it_may ReadFault words before after e;
 }
-are_exact WriteFault words before after e = record { misused = λ same. absurd (cc); misuse = λ _. inr (inl refl); refusal = λ _. inr tt; read_through = λ no. absurd no }
-are_exact Memory words before after e = record { misused = λ same. absurd (cc); misuse = λ _. inr (inr refl); refusal = λ _. inr tt; read_through = λ no. absurd no }
+are_exact WriteFault words before after e = record {
+  misused = λ same. absurd (cc);
+  misuse = λ _. inr (inl refl);
+  refusal = λ _. inr tt;
+  read_through = λ no. absurd no;
+  complete = done_where_it_may WriteFault words before after e;
+}
+are_exact Memory words before after e = record {
+  misused = λ same. absurd (cc);
+  misuse = λ _. inr (inr refl);
+  refusal = λ _. inr tt;
+  read_through = λ no. absurd no;
+  complete = done_where_it_may Memory words before after e;
+}

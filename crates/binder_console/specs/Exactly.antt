@@ -1,16 +1,26 @@
 -- What follows from how the program ends: which statuses come exactly where the words and the input ask for them.
-use Rattle.std.specs.Prelude.{ℕ, ◌≡◌, ◌⊎◌, ⊤, List, IfSome, IsErr, Option, Some, None, String}
+use Rattle.std.specs.Prelude.{ℕ, ◌≡◌, ◌⊎◌, ◌≤◌, ⊤, List, length, IfSome, IsErr, Option, Some, None, Ok, String}
 use Rattle.std.specs.declared.alloc.Global.{Global}
+use Rattle.fault_io.specs.Faults.{Rose}
+use Rattle.kube_objects.specs.declared.objects.Object.{Object}
+use Rattle.call_types.specs.declared.entry.Entry.{Entry}
+use Rattle.call_types.specs.declared.histories.History.{History}
+use Rattle.world_core.specs.declared.drained.Drained.{Drained}
 use Rattle.object_text.specs.Listing.{list_of}
+use Rattle.script_text.specs.declared.script.Script.{Script}
 use Rattle.script_text.specs.Grammar.{script_of}
 use Rattle.history_read.specs.Grammar.{history_of}
+use Rattle.script_gen.specs.Generated.{generated}
+use Rattle.script_runs.specs.Replays.{IsReplay}
+use Rattle.script_threads.specs.Runs.{IsRun}
+use Rattle.replay_laws.specs.Settles.Settling.{AllowsSettling, LastDrainMaySettle}
 use Rattle.binder_console.specs.declared.status.Status.{Status}
 use Rattle.binder_console.specs.declared.status.Status.TheVariants.{Done, Usage, Refused, Unsettled, ReadFault, WriteFault, Memory, AuditNo}
 use Rattle.binder_console.specs.declared.commands.Task.{Task}
 use Rattle.binder_console.specs.declared.commands.Task.TheVariants.{Replay, Run, Check, Audit, Gen}
 use Rattle.binder_console.specs.Commands.{task_of}
 use Rattle.binder_console.specs.Ends.{Ends, Outside}
-use Rattle.binder_console.specs.Inputs.{IsReadThrough, IsTooMuch}
+use Rattle.binder_console.specs.Inputs.{IsReadThrough, IsTooMuch, most_input}
 
 -- the task is not done of such an input
 abbrev pub IsNoInput : Task → List ℕ → Type 0
@@ -44,13 +54,55 @@ IsOfTask Unsettled = ⊤
 IsOfTask AuditNo = ⊤
 IsOfTask status = ⊥
 
+-- ---- a task that is to be done
+
+-- the last drain of each replay of the script may settle, whatever history it leaves
+abbrev pub ReplaysSettle : Script → Option ℕ → Type 0
+ReplaysSettle script budget =
+    (past : List Entry) (ending : Drained) (replay : IsReplay script budget past ending) → LastDrainMaySettle script budget past ending replay
+
+-- so may the drain of each run of it on threads
+abbrev pub RunsSettle : Script → ℕ → ℕ → Option ℕ → Type 0
+RunsSettle script workers calls budget =
+    (past : List Entry) (ending : Drained) (run : IsRun script workers calls budget past ending) → AllowsSettling script.setup run.worked past run.last.budget
+
+-- the input is one of which the task is done, and its drain, if it has one, may settle
+abbrev pub IsToBeDone : Task → List ℕ → Type 0
+IsToBeDone (Replay budget) input = (script : Script) × (script_of input ≡ Ok script) × ReplaysSettle script budget
+IsToBeDone (Run workers calls budget) input = (script : Script) × (script_of input ≡ Ok script) × RunsSettle script workers calls budget
+IsToBeDone Check input = (objects : List Object) × (list_of input ≡ Ok objects)
+IsToBeDone Audit input = (history : History) × (history_of input ≡ Ok history)
+IsToBeDone (Gen seed budget) input = ReplaysSettle (generated seed) budget
+
+abbrev pub IsToldOf : Option ℕ → Option (List ℕ) → List ℕ → Type 0
+IsToldOf (Some most) left input = (left ≡ Some input) × (length input ≤ most)
+IsToldOf None left input = ⊤
+
+-- the source tells that it has this input left, and the task takes so much; or it reads none
+abbrev pub IsTold : Task → Option (List ℕ) → List ℕ → Type 0
+IsTold task left input = IsToldOf (most_input task) left input
+
+-- no read and no write failed
+abbrev pub NoneFailed : Outside → Outside → Type 0
+NoneFailed before after = (Rose before.read_faults after.read_faults → ⊥) × (Rose before.write_faults after.write_faults → ⊥)
+
+-- it was done, or memory was wanting; of an audit the verdict may be no
+abbrev pub IsComplete : Task → Status → Type 0
+IsComplete Audit status = (status ≡ Done) ⊎ ((status ≡ AuditNo) ⊎ (status ≡ Memory))
+IsComplete task status = (status ≡ Done) ⊎ (status ≡ Memory)
+
+-- ---- the whole
+
 -- Usage comes exactly where the words ask for nothing, and Refused exactly where the input is to be refused, but for want of
--- memory and faults. Where the task was done, nothing of its input is left.
+-- memory and faults. Where the task was done, nothing of its input is left. A task that is to be done is done, unless a read or a write
+-- fails or memory is wanting.
 pub record AreExact (status : Status) (words : List (String Global)) (before after : Outside) : Type 0 where
   pub misused : status ≡ Usage → task_of words ≡ None
   pub misuse : task_of words ≡ None → (status ≡ Usage) ⊎ ((status ≡ WriteFault) ⊎ (status ≡ Memory))
   pub refusal : IsToBeRefused (task_of words) before.left → IsOrFails Refused status
   pub read_through : IsOfTask status → IfSome (task_of words) (λ task. IsReadThrough task after.left)
+  pub complete : (task : Task) (input : List ℕ) → task_of words ≡ Some task → IsTold task before.left input → IsToBeDone task input
+      → NoneFailed before after → IsComplete task status
 
 -- so it is however the program ends
 abbrev pub EndsAreExact : Type 0

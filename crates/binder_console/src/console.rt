@@ -95,7 +95,7 @@ fn end_answer<K: Sink>(sink: &mut K, answer: Answer) -> Status
 /// reply is the world's, each controller asked only what it had been told allowed, and it is safe as above at every point;
 /// of sizes, diligence and a script nothing is said. With 7 the entry named is the first that breaks it.
 ///
-/// Statuses (`EndsBy`): 0 done; 1 the usage line; 2 the input was refused, in one line; 3 unsettled; 4 a read failed, nothing
+/// Statuses (`EndsBy`): 0 done; 1 the usage line; 2 the input was refused, in one line, once it was read whole or found too long; 3 unsettled; 4 a read failed, nothing
 /// is written; 5 a write failed, a front of what was due is written; 6 memory was wanting, nothing is written; 7 the audited
 /// history is no run. Statuses 1 and 2 come exactly where the words and the input ask for them (`ends_are_exact`).
 ///
@@ -133,7 +133,9 @@ pub fn pvbind<R: Threads + Wait + Sync, S: Source, K: Sink, G: Gate>(
 }
 
 /// However the program ends: Usage comes exactly where the words ask for nothing, and Refused exactly where the input is to be
-/// refused, but for want of memory and faults; and where the task was done, nothing of its input is left.
+/// refused, but for want of memory and faults; and where the task was done, nothing of its input is left. A task that is to be
+/// done is done: with an input that the source tells and the task takes, where the last drain of each of its replays may
+/// settle, and where no read and no write fails, the status is Done or Memory, or after an audit AuditNo.
 pub fn ends_are_exact()
     ensures { EndsAreExact }
 {}

@@ -42,6 +42,8 @@ pub fn read_input<S: Source>(alloc: Global, task: Task, source: &mut S) -> Resul
     ensures too_long { result ≡ Err ReadError.TooLong → IsTooLong task (S.left source.old) }
     ensures too_much { (bytes : List ℕ) → S.left source.old ≡ Some bytes → IsTooMuch task bytes → IsErr result }
 
+    ensures past_limit { result ≡ Err ReadError.TooLong → TakesFront (S.left source.old) (S.left source.new) }
+
     // A fault only of a task that reads, after a front of the input.
     ensures fault { result ≡ Err ReadError.ReadFault → Rose (S.faults source.old) (S.faults source.new) }
     ensures reads { result ≡ Err ReadError.ReadFault → ReadsNothing task → ⊥ }
