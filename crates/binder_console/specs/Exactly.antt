@@ -74,6 +74,7 @@ IsToBeDone Check input = (objects : List Object) × (list_of input ≡ Ok object
 IsToBeDone Audit input = (history : History) × (history_of input ≡ Ok history)
 IsToBeDone (Gen seed budget) input = ReplaysSettle (generated seed) budget
 
+-- the source tells that it has this input left, within the limit, or the task reads none
 abbrev pub IsToldOf : Option ℕ → Option (List ℕ) → List ℕ → Type 0
 IsToldOf (Some most) left input = (left ≡ Some input) × (length input ≤ most)
 IsToldOf None left input = ⊤
