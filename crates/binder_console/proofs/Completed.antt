@@ -127,7 +127,8 @@ module _ (words : List (String Global)) (before after : Outside) (task : Task) (
   completed Unsettled e = let a = of_task Unsettled e in absurd (settled task before.left input a.0 a.1 told done a.2 a.3)
   completed AuditNo e = let a = of_task AuditNo e in judged task a.0 a.1 a.3
   completed Usage e = let both : Some task ≡ None = sym asked ∙ e.asked in absurd (cc)
-  completed Refused e = absurd (not_refused task before.left input e.text told done (subst (λ (t : Task). RefusedWith t before.left e.text) (one_task (task_of words) task e.task asked e.asked) e.refused))
+  completed Refused e = absurd (not_refused task before.left input e.text told done
+      (subst (λ (t : Task). RefusedWith t before.left e.text) (one_task (task_of words) task e.task asked e.asked) e.refused))
   completed ReadFault e = absurd (none.0 e.failed)
   completed WriteFault e = absurd (none.1 e.failed)
   completed Memory e = memory_is_complete task

@@ -9,7 +9,8 @@ returns-in-Err-TooLong-clause-ends g c =
     let is = c.in-Ok.task-is in
     let asked : task_of c.args.words.now ≡ Some c.in-Ok.task = cc in
     record {
-      by = ends_too_long _ _ _ _ _ asked (c.in-Err-TooLong.ensures.too_long (cc)) (c.in-Err-TooLong.ensures.past_limit (cc)) (rw c.as_bytes-in-Err-TooLong.ensures.value at c.end_with-in-Err-TooLong.ensures.written);
+      by = ends_too_long _ _ _ _ _ asked (c.in-Err-TooLong.ensures.too_long (cc)) (c.in-Err-TooLong.ensures.past_limit (cc))
+          (rw c.as_bytes-in-Err-TooLong.ensures.value at c.end_with-in-Err-TooLong.ensures.written);
       unfailed = λ _. c.in-Err-TooLong.ensures.unfailed (too_long_is_no_fault _ (cc));
       reads_later = c.in-Err-TooLong.ensures.later;
       writes_later = c.end_with-in-Err-TooLong.ensures.later;
