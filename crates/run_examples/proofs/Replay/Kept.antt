@@ -1,5 +1,5 @@
 -- The examples of drains that go on from where the last one left their actors compute.
-use Rattle.std.proofs.Common.{◌≡◌, ◌∙◌, ℕ, List, [], ◌∷◌, length, Option, Some, inl, inr, ap, subst, sym}
+use Rattle.std.proofs.Common.{◌≡◌, ◌∙◌, ℕ, List, [], ◌∷◌, length, Option, Some, inl, inr, ap, subst, sym, arith}
 use Rattle.std.specs.Prelude.{slice_get}
 use Rattle.model_laws.proofs.Lists.{none_some, one}
 use Rattle.sync_queue.specs.Work.{Work, no_work}
@@ -23,7 +23,7 @@ third_is_new first nodes ds d new at = by (one new.binder d (sym (ap (λ xs. sli
     by same h = subst (λ (x : Drainer). IsNew (of_kind seats.Binder) x.actor) same h
 
 waits_not : (w : Work) → w ≡ no_work → w ≡ one_waits → ⊥
-waits_not w none some = let long : 0 ≡ 1 = ap (λ (x : Work). length x.waiting) (sym none ∙ some) in absurd (cc)
+waits_not w none some = let long : ◌≡◌ {A = ℕ} 0 1 = ap (λ (x : Work). length x.waiting) (sym none ∙ some) in absurd (omega (arith, long))
 
 left : (script : Script) (option : Option ℕ) (before middle : Progress) (one_ : IsDrain all_pass script option before middle) → middle.drainers ≡ one_.ran
 left script option before middle one_ = ap (λ (p : Progress). p.drainers) one_.is

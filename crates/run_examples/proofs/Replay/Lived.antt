@@ -1,5 +1,5 @@
 -- The examples of the calls of one life compute.
-use Rattle.std.proofs.Common.{◌≡◌, ℕ, zero, suc, List, [], ◌∷◌, Bool, true, false, true≢false, Some, None, refl, sym, ap, subst}
+use Rattle.std.proofs.Common.{◌≡◌, ℕ, zero, suc, List, [], ◌∷◌, Bool, true, false, true≢false, Some, None, refl, sym, ◌∙◌, ap, subst}
 use Rattle.std.specs.Prelude.{slice_get}
 use Rattle.kube_parts.specs.declared.parts.Kind.{Kind}
 use Rattle.kube_parts.specs.declared.parts.Kind.TheVariants as kinds

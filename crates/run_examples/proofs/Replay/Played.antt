@@ -8,10 +8,10 @@ use Rattle.call_types.specs.declared.entry.Entry.{Entry}
 use Rattle.call_types.specs.declared.request.Request.{Request}
 use Rattle.call_types.specs.declared.request.Request.TheVariants as requests
 use Rattle.call_types.specs.declared.request.SeatKind.TheVariants as seats
-use Rattle.binder_model.specs.Answers.{after, list, outcome}
+use Rattle.binder_model.specs.Answers.{after, list, outcome, reply_of}
 use Rattle.binder_model.specs.Devices.{device_answer}
 use Rattle.binder_model.specs.Told.{newest, object_of}
-use Rattle.binder_model.specs.World.{effect, on_devices, world_after}
+use Rattle.binder_model.specs.World.{effect, on_devices, reply_to, world_after}
 use Rattle.informer_cache.specs.All.{AllKnown, AllStandFor, cache_of}
 use Rattle.informer_cache.specs.Cache.{CacheStandsFor, Known, kind_known, known_of}
 use Rattle.worker_core.specs.declared.role.Role.{Role}
@@ -116,19 +116,19 @@ pub binder_turn : IsTurn (begun_as binder) (given_as binder read_volumes) (nexts
 binder_turn = record { call = refl; state = refl }
 
 pub binder_lost : IsPlayedSince binder (lost_as binder read_volumes list_volumes) [] (None ∷ [])
-binder_lost = lost_life binder read_volumes list_volumes binder_turn (refl, (refl, refl))
+binder_lost = lost_life binder read_volumes list_volumes binder_turn (refl, refl, refl)
 
 pub ops_lost : IsPlayedSince (of_kind seats.Ops) (lost_as (of_kind seats.Ops) read_volumes list_volumes) [] (None ∷ [])
-ops_lost = lost_life (of_kind seats.Ops) read_volumes list_volumes (record { call = refl; state = refl }) (refl, (refl, refl))
+ops_lost = lost_life (of_kind seats.Ops) read_volumes list_volumes (record { call = refl; state = refl }) (refl, refl, refl)
 
 pub scheduler_lost : IsPlayedSince (of_kind seats.Scheduler) (lost_as (of_kind seats.Scheduler) read_volumes list_volumes) [] (None ∷ [])
-scheduler_lost = lost_life (of_kind seats.Scheduler) read_volumes list_volumes (record { call = refl; state = refl }) (refl, (refl, refl))
+scheduler_lost = lost_life (of_kind seats.Scheduler) read_volumes list_volumes (record { call = refl; state = refl }) (refl, refl, refl)
 
 pub claims_lost : IsPlayedSince (of_kind seats.ClaimProtect) (lost_as (of_kind seats.ClaimProtect) (givens.Read kinds.PersistentVolumeClaim) list_claims) [] (None ∷ [])
-claims_lost = lost_life (of_kind seats.ClaimProtect) (givens.Read kinds.PersistentVolumeClaim) list_claims (record { call = refl; state = refl }) (refl, (refl, refl))
+claims_lost = lost_life (of_kind seats.ClaimProtect) (givens.Read kinds.PersistentVolumeClaim) list_claims (record { call = refl; state = refl }) (refl, refl, refl)
 
 pub volumes_lost : IsPlayedSince (of_kind seats.VolumeProtect) (lost_as (of_kind seats.VolumeProtect) read_volumes list_volumes) [] (None ∷ [])
-volumes_lost = lost_life (of_kind seats.VolumeProtect) read_volumes list_volumes (record { call = refl; state = refl }) (refl, (refl, refl))
+volumes_lost = lost_life (of_kind seats.VolumeProtect) read_volumes list_volumes (record { call = refl; state = refl }) (refl, refl, refl)
 
 pub agent_lost : (node : List ℕ) → IsPlayedSince (agent_of node) (lost_as (agent_of node) givens.Start (requests.TakeNode node)) [] (None ∷ [])
 agent_lost node = lost_life (agent_of node) givens.Start (requests.TakeNode node) (record { call = refl; state = refl }) refl
@@ -140,7 +140,7 @@ listed told = record first_list { told = told }
 
 -- the entry stands in a history
 its_own : (told : Bool) → AreOwn (listed told ∷ [])
-unfolding effect on_devices device_answer outcome list world_after after
+unfolding effect on_devices device_answer outcome list world_after after reply_to reply_of
 its_own told = record {
   setup = record { pools = []; faults = []; imports = [] };
   past = listed told ∷ [];
@@ -230,10 +230,10 @@ listed_stand = record { kinds = kind_is; each = each; rows = λ key. none_shown 
 abbrev pub listed_as : ActorState
 listed_as = absorbed (given_as binder read_volumes) listed_caches list_volumes (outcomes.Told first_list.reply)
 
-plays : (new : ActorState) (outcome : Outcome) → new ≡ absorbed (given_as binder read_volumes) new.caches list_volumes outcome → PlaysCall (begun_as binder) new list_volumes outcome []
-plays new outcome takes = record {
+plays : (new : ActorState) (came : Outcome) → new ≡ absorbed (given_as binder read_volumes) new.caches list_volumes came → PlaysCall (begun_as binder) new list_volumes came []
+plays new came takes = record {
   turned = given_as binder read_volumes;
-  turns = record { order = tt; turn = binder_turn; stands = given_stands binder read_volumes (refl, (refl, refl)) };
+  turns = record { order = tt; turn = binder_turn; stands = given_stands binder read_volumes (refl, refl, refl) };
   takes = takes;
 }
 
@@ -242,7 +242,7 @@ pub binder_listed : IsPlayedSince binder listed_as [] (Some first_list ∷ [])
 binder_listed =
     Hears (begun_as binder) [] first_list list_volumes first_list.reply (begins binder) refl (record { told = refl; asked = refl; answered = refl })
     (plays listed_as (outcomes.Told first_list.reply) refl)
-    (told_stands (given_as binder read_volumes) [] first_list list_volumes tt (given_stands binder read_volumes (refl, (refl, refl))) refl refl refl (its_own true)
+    (told_stands (given_as binder read_volumes) [] first_list list_volumes tt (given_stands binder read_volumes (refl, refl, refl)) refl refl refl (its_own true)
     listed_caches first_list.reply (record { told = refl; asked = refl; answered = refl }) listed_stand)
 
 -- one that was not told it
@@ -250,12 +250,12 @@ pub binder_untold : IsPlayedSince binder (lost_as binder read_volumes list_volum
 binder_untold =
     Misses (begun_as binder) [] (listed false) list_volumes (begins binder) refl refl refl
     (plays (lost_as binder read_volumes list_volumes) outcomes.Lost refl)
-    (lost_after (given_as binder read_volumes) [] (listed false) list_volumes tt (given_stands binder read_volumes (refl, (refl, refl))) refl refl refl (its_own false) refl)
+    (lost_after (given_as binder read_volumes) [] (listed false) list_volumes tt (given_stands binder read_volumes (refl, refl, refl)) refl refl refl (its_own false) refl)
 
 -- ---- what a first call is
 
 -- the turn of a binder that was told nothing lists the volumes
-lists_first : (s given : ActorState) (answer : Next) → s.role ≡ binder → StandsFor s [] → IsTurn s given answer → answer ≡ nexts.Call list_volumes
+pub lists_first : (s given : ActorState) (answer : Next) → s.role ≡ binder → StandsFor s [] → IsTurn s given answer → answer ≡ nexts.Call list_volumes
 lists_first s given answer is stands turn = by s.memory.stale s.under (start_call s.role s.memory) (unlisted s) (passing s) refl refl refl refl turn
   where
     kind_is : s.role.kind ≡ seats.Binder

@@ -222,11 +222,11 @@ turn_begins : (past : List Entry) (ending : Drained) → IsReplay turn_script No
 turn_begins past ending r = begins_with turn_script 5 past ending (λ ds done moves. one_move (LeavesOne 5) turn_script (lines.Turn binder_1 1) ds done
     (first_progress None ds) turn_script.lines refl refl (turn_moved ds) moves) r
 
-nothing_due_in_turn : IsSettled turn_script.setup (world turn_script.setup (first_list ∷ []))
+pub nothing_due_in_turn : IsSettled turn_script.setup (world turn_script.setup (first_list ∷ []))
 unfolding world_after effect on_devices device_answer after outcome list
 nothing_due_in_turn key o there = absurd (cc)
 
-budget_after_turn : 2048 ≡ raised None turn_script.setup (first_list ∷ []) 0
+pub budget_after_turn : 2048 ≡ raised None turn_script.setup (first_list ∷ []) 0
 unfolding world_after effect on_devices device_answer after outcome list
 budget_after_turn = refl
 
