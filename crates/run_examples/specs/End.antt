@@ -1,9 +1,11 @@
--- How the program ends on no words at all, beside ends that it does not have.
+-- How the program ends on no words at all, beside ends that it does not have; and when a task is to be done.
 -- A choice of this project, as the statuses are.
 use Rattle.std.specs.Prelude.{ℕ, List, [], ◌∷◌, Option, Some, None, String}
 use Rattle.std.specs.declared.alloc.Global.{Global}
 use Rattle.binder_console.specs.declared.status.Status.TheVariants.{Done, Usage, Refused, Unsettled, ReadFault, WriteFault, Memory, AuditNo}
-use Rattle.binder_console.specs.Ends.{Ends, Outside}
+use Rattle.binder_console.specs.declared.commands.Task.TheVariants.{Replay, Check, Audit, Gen}
+use Rattle.binder_console.specs.Ends.{Ends, EndsRefused, Outside}
+use Rattle.binder_console.specs.Exactly.{IsComplete, IsTold, NoneFailed}
 use Rattle.binder_console.specs.Outcomes.{usage_text}
 
 abbrev pub no_words : List (String Global)
@@ -15,6 +17,10 @@ told read_faults write_faults written = record { left = None; read_faults = read
 
 abbrev pub begun : Outside
 begun = told 0 0 []
+
+-- a source that has one byte left
+abbrev pub unread : Outside
+unread = record { left = Some (120 ∷ []); read_faults = 0; written = Some []; write_faults = 0 }
 
 pub record EndExamples : Type 0 where
   pub the_usage_line : Ends Usage no_words begun (told 0 0 usage_text)
@@ -33,3 +39,16 @@ pub record EndExamples : Type 0 where
   pub a_count_never_falls : Ends Memory no_words (told 0 1 []) begun → ⊥
   pub cut_only_by_a_failed_write : Ends WriteFault no_words begun begun → ⊥
   pub a_whole_text_is_not_cut : Ends WriteFault no_words begun (told 0 1 usage_text) → ⊥
+  pub no_refusal_of_what_was_not_read : (words : List (String Global)) → EndsRefused words unread unread → ⊥
+  pub done : IsComplete Check Done
+  pub or_out_of_memory : IsComplete Check Memory
+  pub an_audit_may_say_no : IsComplete Audit AuditNo
+  pub no_other_task_says_no : IsComplete Check AuditNo → ⊥
+  pub never_refused : IsComplete Check Refused → ⊥
+  pub never_unsettled : IsComplete (Replay (Some 16)) Unsettled → ⊥
+  pub none_failed : NoneFailed begun begun
+  pub a_read_failed : NoneFailed begun (told 1 0 []) → ⊥
+  pub a_write_failed : NoneFailed begun (told 0 1 []) → ⊥
+  pub a_source_that_tells : IsTold Check (Some (7 ∷ [])) (7 ∷ [])
+  pub a_source_that_does_not : IsTold Check None [] → ⊥
+  pub nothing_is_read_for_a_seed : IsTold (Gen 1 None) None []
