@@ -6,6 +6,6 @@ mod Watched
 pub mod Effects
 mod Told
 mod Writes
-mod Asking
+pub mod Asking
 pub mod Texts
 pub mod Runs
