@@ -136,19 +136,19 @@ module _ {k : Ghosts Kept Ask Reply Setup} {J W : Type 0} (worker : J → W) (pa
 module _ {k : Ghosts Kept Ask Reply Setup} {J W V E : Type 0} (worker : J → W) (passes : J → List (Pass Kept Ask Reply Setup k))
     (items : V → List (Pass Kept Ask Reply Setup k)) (shared : SharedWorld) where
   -- what came of a job
-  abbrev Came : (W → List (ℕ × List Entry) → List (ℕ × List Entry) → Type 0) → J → Result V E → Type 0
-  Came does job result = IfOk result (λ v. HasWorked does shared (worker job) (passes job) (items v))
+  abbrev Came : (W → List (ℕ × List Entry) → List (ℕ × List Entry) → Type 0) → (W → List Entry → Type 0) → J → Result V E → Type 0
+  Came does leaves job result = IfOk result (λ v. HasWorked does leaves shared (worker job) (passes job) (items v))
 
-  came_each : (does : W → List (ℕ × List Entry) → List (ℕ × List Entry) → Type 0) (jobs : List J) (results : List (Result V E)) → length results ≡ length jobs
-      → ((i : ℕ) (d : J) (e : Result V E) → i < length jobs → Came does (slice_index_or jobs i d) (slice_index_or results i e)) → AllZip (Came does) jobs results
-  came_each does [] [] many each = tt
-  came_each does [] (r ∷ results) many each = absurd (omega (arith, many))
-  came_each does (job ∷ jobs) [] many each = absurd (omega (arith, many))
-  came_each does (job ∷ jobs) (r ∷ results) many each = (each 0 job r (omega arith), came_each does jobs results (omega (arith, many)) (λ i d e lt. each (suc i) d e (omega (arith, lt))))
+  came_each : (does : W → List (ℕ × List Entry) → List (ℕ × List Entry) → Type 0) (leaves : W → List Entry → Type 0) (jobs : List J) (results : List (Result V E)) → length results ≡ length jobs
+      → ((i : ℕ) (d : J) (e : Result V E) → i < length jobs → Came does leaves (slice_index_or jobs i d) (slice_index_or results i e)) → AllZip (Came does leaves) jobs results
+  came_each does leaves [] [] many each = tt
+  came_each does leaves [] (r ∷ results) many each = absurd (omega (arith, many))
+  came_each does leaves (job ∷ jobs) [] many each = absurd (omega (arith, many))
+  came_each does leaves (job ∷ jobs) (r ∷ results) many each = (each 0 job r (omega arith), came_each does leaves jobs results (omega (arith, many)) (λ i d e lt. each (suc i) d e (omega (arith, lt))))
 
-  module _ (does : W → List (ℕ × List Entry) → List (ℕ × List Entry) → Type 0) where
+  module _ (does : W → List (ℕ × List Entry) → List (ℕ × List Entry) → Type 0) (leaves : W → List Entry → Type 0) where
     -- all passes came back, and are of the shared world
-    all_kept : (jobs : List J) (results : List (Result V E)) → AllZip (Came does) jobs results → AreAllOk results → AreKept (flat_map passes jobs) (all_items items results)
+    all_kept : (jobs : List J) (results : List (Result V E)) → AllZip (Came does leaves) jobs results → AreAllOk results → AreKept (flat_map passes jobs) (all_items items results)
     all_kept [] [] came ok = refl
     all_kept [] (r ∷ results) came ok = absurd came
     all_kept (job ∷ jobs) [] came ok = absurd came
@@ -158,7 +158,7 @@ module _ {k : Ghosts Kept Ask Reply Setup} {J W V E : Type 0} (worker : J → W)
         ∙ (λ i. came.0.1 i ++ all_kept jobs results came.1 ok i)
         ∙ sym (map-append lasting (passes job) (flat_map passes jobs))
 
-    all_of : (jobs : List J) (results : List (Result V E)) → AllZip (Came does) jobs results → AreAllOk results → All (IsOf shared) (all_items items results)
+    all_of : (jobs : List J) (results : List (Result V E)) → AllZip (Came does leaves) jobs results → AreAllOk results → All (IsOf shared) (all_items items results)
     all_of [] [] came ok = All-nil (IsOf shared)
     all_of [] (r ∷ results) came ok = absurd came
     all_of (job ∷ jobs) [] came ok = absurd came
@@ -166,7 +166,7 @@ module _ {k : Ghosts Kept Ask Reply Setup} {J W V E : Type 0} (worker : J → W)
     all_of (job ∷ jobs) (Ok v ∷ results) came ok = All-append (IsOf shared) (items v) (all_items items results) came.0.0 (all_of jobs results came.1 ok)
 
     -- what each worker did is what the closed world has
-    all_done : (past : List Entry) (made first : ℕ) (jobs : List J) (results : List (Result V E)) → AllZip (Came does) jobs results
+    all_done : (past : List Entry) (made first : ℕ) (jobs : List J) (results : List (Result V E)) → AllZip (Came does leaves) jobs results
         → AreAllOk results → AreFrom shared made first (flat_map passes jobs)
         → AllByRecursion (IsIn past) (all_items items results) → Each (λ w seats. does w (seats_at (past_given shared) seats) (seats_at past seats)) first (map (hired_of worker passes) jobs)
     all_done past made first [] [] came ok new in_past = tt
@@ -181,6 +181,17 @@ module _ {k : Ghosts Kept Ask Reply Setup} {J W V E : Type 0} (worker : J → W)
           subst₂ (does (worker job)) (new_seats shared made first (passes job) both.0) after came.0.2,
           all_done past made (first + length (passes job)) jobs results came.1 ok both.1 ins.1,
         )
+
+    -- and what each has left holds of it
+    all_left : (past : List Entry) (first : ℕ) (jobs : List J) (results : List (Result V E)) → AllZip (Came does leaves) jobs results
+        → AreAllOk results → AllByRecursion (IsIn past) (all_items items results) → Each (λ w seats. leaves w past) first (map (hired_of worker passes) jobs)
+    all_left past first [] [] came ok in_past = tt
+    all_left past first [] (r ∷ results) came ok in_past = absurd came
+    all_left past first (job ∷ jobs) [] came ok in_past = absurd came
+    all_left past first (job ∷ jobs) (Err e ∷ results) came ok in_past = absurd ok
+    all_left past first (job ∷ jobs) (Ok v ∷ results) came ok in_past =
+        let ins = split_each (IsIn past) (items v) (all_items items results) in_past in
+        (came.0.3.in_each past (All-from_recursion (IsIn past) (items v) ins.0), all_left past (first + length (passes job)) jobs results came.1 ok ins.1)
 
 -- ---- the whole
 
@@ -199,18 +210,18 @@ module _ {k : Ghosts Kept Ask Reply Setup} {J W : Type 0} (worker : J → W) (pa
       let all = All-from_recursion (λ job. CanWork needs shared (length new) (worker job) (passes job)) jobs (can_work worker passes shared needs (length new) 1 jobs all_new here) in
       subst (λ n. All (λ job. CanWork needs shared n (worker job) (passes job)) jobs) made_is all
 
-  module _ {V E : Type 0} (items : V → List (Pass Kept Ask Reply Setup k)) (does : W → List (ℕ × List Entry) → List (ℕ × List Entry) → Type 0)
+  module _ {V E : Type 0} (items : V → List (Pass Kept Ask Reply Setup k)) (does : W → List (ℕ × List Entry) → List (ℕ × List Entry) → Type 0) (leaves : W → List Entry → Type 0)
       (results : List (Result V E)) (all : List (Pass Kept Ask Reply Setup k))
-      (many : length results ≡ length jobs) (each : (i : ℕ) (d : J) (e : Result V E) → i < length jobs → Came worker passes items shared does (slice_index_or jobs i d) (slice_index_or results i e))
+      (many : length results ≡ length jobs) (each : (i : ℕ) (d : J) (e : Result V E) → i < length jobs → Came worker passes items shared does leaves (slice_index_or jobs i d) (slice_index_or results i e))
       (ok : AreAllOk results) (gathered : all ≡ all_items items results) where
-    came : AllZip (Came worker passes items shared does) jobs results
-    came = came_each worker passes items shared does jobs results many each
+    came : AllZip (Came worker passes items shared does leaves) jobs results
+    came = came_each worker passes items shared does leaves jobs results many each
 
     pub of_shared : All (IsOf shared) all
-    of_shared = subst (λ ps. All (IsOf shared) ps) (sym gathered) (all_of worker passes items shared does jobs results came ok)
+    of_shared = subst (λ ps. All (IsOf shared) ps) (sym gathered) (all_of worker passes items shared does leaves jobs results came ok)
 
     kept : AreKept (flat_map passes jobs) all
-    kept = ap (map lasting) gathered ∙ all_kept worker passes items shared does jobs results came ok
+    kept = ap (map lasting) gathered ∙ all_kept worker passes items shared does leaves jobs results came ok
 
     all_unmet : AllByRecursion (Unmet (length new)) (map lasting all)
     all_unmet = subst (AllByRecursion (Unmet (length new))) (sym kept) (unmet shared (length new) 1 (flat_map passes jobs) all_new)
@@ -230,4 +241,9 @@ module _ {k : Ghosts Kept Ask Reply Setup} {J W : Type 0} (worker : J → W) (pa
         let ins = recursion_from_All (IsIn past) (all_items items results) (subst (λ ps. All (IsIn past) ps) gathered in_past) in
         subst (λ c. Each (λ w seats. does w (seats_at given seats) (seats_at past seats)) 1 c) hired
         (subst (λ g. Each (λ w seats. does w (seats_at g seats) (seats_at past seats)) 1 (map (hired_of worker passes) jobs)) given_is
-        (all_done worker passes items shared does past (length new) 1 jobs results came ok all_new ins))
+        (all_done worker passes items shared does leaves past (length new) 1 jobs results came ok all_new ins))
+
+    pub left_by_each : (past : List Entry) → All (IsIn past) all → Each (λ w seats. leaves w past) 1 crew
+    left_by_each past in_past =
+        let ins = recursion_from_All (IsIn past) (all_items items results) (subst (λ ps. All (IsIn past) ps) gathered in_past) in
+        subst (λ c. Each (λ w seats. leaves w past) 1 c) hired (all_left worker passes items shared does leaves past 1 jobs results came ok ins)

@@ -14,3 +14,7 @@ module _ {A B : Type 0} where
       → OneOf A B → List (ℕ × List Entry) → List (ℕ × List Entry) → Type 0
   does_of first second (First worker) before after = first worker before after
   does_of first second (Second worker) before after = second worker before after
+
+  abbrev pub leaves_of : (A → List Entry → Type 0) → (B → List Entry → Type 0) → OneOf A B → List Entry → Type 0
+  leaves_of first second (First worker) past = first worker past
+  leaves_of first second (Second worker) past = second worker past

@@ -11,7 +11,7 @@ use Rattle.seat_lock.specs.declared.pass.Pass.{Pass}
 use Rattle.seat_lock.specs.Passes.{made_of, met_count, number_of}
 use Rattle.shared_world.specs.declared.shared.SharedWorld.{SharedWorld}
 use Rattle.shared_world.specs.Lines.{Kept}
-use Rattle.shared_world.specs.Passes.{IsFirst, mine_of}
+use Rattle.shared_world.specs.Passes.{IsFirst, IsIn, mine_of}
 
 -- the seats of these numbers, as they are in a history
 abbrev pub seats_at : List Entry → List ℕ → List (ℕ × List Entry)
@@ -47,3 +47,7 @@ module _ {k : Ghosts Kept Ask Reply Setup} where
   -- the passes are those of before, in their order
   abbrev pub AreKept : List (Pass Kept Ask Reply Setup k) → List (Pass Kept Ask Reply Setup k) → Type 0
   AreKept ps qs = map lasting qs ≡ map lasting ps
+
+  -- with these passes it is so of each history that has all that they know
+  pub record HasLeft (Is : List Entry → Type 0) (passes : List (Pass Kept Ask Reply Setup k)) : Type 0 where
+    pub in_each : (past : List Entry) → All (IsIn past) passes → Is past

@@ -76,14 +76,14 @@ fn work_all<R: Threads + Wait + Sync, W: Worker + Send + Drop>(
 ) -> Result<Vec<Done>, AllocError>
     requires { All (λ job. CanWork W.needs shared.now made job.worker job.passes.items) jobs.items }
     ensures many { IfOk result (λ done. vec_len done ≡ vec_len jobs) }
-    ensures each { IfOk result (λ done. (i : ℕ) (d : _) (e : _) → i < vec_len jobs → IfOk (slice_index_or done.items i e) (λ after. HasWorked W.does shared.now (slice_index_or jobs.items i d).worker (slice_index_or jobs.items i d).passes.items after.items)) }
+    ensures each { IfOk result (λ done. (i : ℕ) (d : _) (e : _) → i < vec_len jobs → IfOk (slice_index_or done.items i e) (λ after. HasWorked W.does W.leaves shared.now (slice_index_or jobs.items i d).worker (slice_index_or jobs.items i d).passes.items after.items)) }
 {
     thread::map_vec(
         rt,
         jobs,
         &|job: Job<W>| -> Done
             requires { CanWork W.needs shared.now made job.worker job.passes.items }
-            ensures { IfOk result (λ after. HasWorked W.does shared.entry.now job.worker job.passes.items after.items) }
+            ensures { IfOk result (λ after. HasWorked W.does W.leaves shared.entry.now job.worker job.passes.items after.items) }
         {
             let Job { worker, passes } = job;
             worker.work(rt, shared, made, passes)
@@ -117,6 +117,7 @@ pub fn run_crew<R: Threads + Wait + Sync, W: Worker + Send + Drop>(
     ensures setup { IfOk result (λ after. after.setup ≡ world.setup) }
     ensures begins { IfOk result (λ after. Begins after.past world.past) }
     ensures does { IfOk result (λ after. Each (λ worker seats. W.does worker (seats_at world.past seats) (seats_at after.past seats)) 1 crew.items) }
+    ensures leaves { IfOk result (λ after. Each (λ worker seats. W.leaves worker after.past) 1 crew.items) }
     ensures others { IfOk result (λ after. AddsNoSeats (all_seats crew.items) world.past after.past) }
 {
     let seats = all_seats(crew.as_slice());

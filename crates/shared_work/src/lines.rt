@@ -76,12 +76,15 @@ pub struct UserLines<'a, L> {
 }
 
 impl<'a, L: Listener> Worker for UserLines<'a, L> {
+    ghost use Rattle.std.specs.Prelude.{⊤};
     ghost use Rattle.shared_work.specs.Lines.{DoLines};
     ghost use Rattle.shared_work.specs.Seats.{IsOneSeat};
 
     ghost needs = { λ user before. IsOneSeat before };
 
     ghost does = { λ user before after. DoLines user.script.now.lines before after };
+
+    ghost leaves = { λ user past. ⊤ };
 
     fn work<R: Wait>(
         self,

@@ -11,7 +11,7 @@ use Rattle.seat_lock.specs.declared.pass.Pass.{Pass}
 use Rattle.shared_world.specs.declared.shared.SharedWorld.{SharedWorld}
 use Rattle.shared_world.specs.Lines.{Kept}
 use Rattle.shared_world.specs.Passes.{IsOf}
-use Rattle.shared_work.specs.Seats.{AreKept, AreNew, seats_of}
+use Rattle.shared_work.specs.Seats.{AreKept, AreNew, HasLeft, seats_of}
 
 module _ {W : Type 0} {k : Ghosts Kept Ask Reply Setup} where
   -- the worker may begin with these passes, where so many were made
@@ -19,8 +19,10 @@ module _ {W : Type 0} {k : Ghosts Kept Ask Reply Setup} where
   CanWork needs shared made worker passes = AreNew shared made passes × needs worker (seats_of passes)
 
   -- the passes after its work
-  abbrev pub HasWorked : (W → List (ℕ × List Entry) → List (ℕ × List Entry) → Type 0) → SharedWorld → W → List (Pass Kept Ask Reply Setup k) → List (Pass Kept Ask Reply Setup k) → Type 0
-  HasWorked does shared worker before after = All (IsOf shared) after × AreKept before after × does worker (seats_of before) (seats_of after)
+  abbrev pub HasWorked : (W → List (ℕ × List Entry) → List (ℕ × List Entry) → Type 0) → (W → List Entry → Type 0)
+      → SharedWorld → W → List (Pass Kept Ask Reply Setup k) → List (Pass Kept Ask Reply Setup k) → Type 0
+  HasWorked does leaves shared worker before after = All (IsOf shared) after × AreKept before after × does worker (seats_of before) (seats_of after)
+      × HasLeft (leaves worker) after
 
 -- none of them failed
 abbrev pub AreAllOk : {V E : Type 0} → List (Result V E) → Type 0

@@ -1,7 +1,7 @@
 use Rattle.std.proofs.Common.{arith, subst₂, ap, ◌∙◌, ◌≡◌, length}
 use Rattle.shared_world.specs.Passes.{AddsNoSeats}
 use Rattle.shared_work.specs.Crew.{all_seats}
-use Rattle.shared_work.proofs.Dealing.{as_many, counted, done_by_each, may_work, none_missing, of_shared}
+use Rattle.shared_work.proofs.Dealing.{as_many, counted, done_by_each, left_by_each, may_work, none_missing, of_shared}
 use Rattle.shared_work.proofs.crew.run_crew.Goals as goal
 
 pub work_all-requires-after_bounds : goal.work_all-requires-after_bounds
@@ -15,7 +15,7 @@ close-requires-clause-some g c =
     let long = as_many (λ job. job.worker) (λ job. job.passes.items) c.in-Ok.shared c.in-Ok.passes.items c.in_ok-jobs.jobs.items c.args.crew.items
     c.in-Ok.ensures.passes c.in_ok-jobs.ensures.passes c.in_ok-jobs.ensures.workers
     c.args.world.past (ap (λ v. v.past) c.in-Ok.ensures.given)
-    (λ passes. passes.items) g.W.Worker.does c.in_ok-done.done.items c.in_ok-passes.passes.items
+    (λ passes. passes.items) g.W.Worker.does g.W.Worker.leaves c.in_ok-done.done.items c.in_ok-passes.passes.items
     (omega (arith, c.in_ok-done.ensures.many, c.in_ok-done.done.ok, c.in_ok-jobs.jobs.ok))
     (λ i d e lt. c.in_ok-done.ensures.each i d e (omega (arith, lt, c.in_ok-jobs.jobs.ok))) c.in_ok-passes.ensures.none_failed c.in_ok-passes.ensures.all in
     let some = c.requires.seats.0 in
@@ -27,7 +27,7 @@ close-requires-clause-passes g c =
     of_shared (λ job. job.worker) (λ job. job.passes.items) c.in-Ok.shared c.in-Ok.passes.items c.in_ok-jobs.jobs.items c.args.crew.items
     c.in-Ok.ensures.passes c.in_ok-jobs.ensures.passes c.in_ok-jobs.ensures.workers
     c.args.world.past (ap (λ v. v.past) c.in-Ok.ensures.given)
-    (λ passes. passes.items) g.W.Worker.does c.in_ok-done.done.items c.in_ok-passes.passes.items
+    (λ passes. passes.items) g.W.Worker.does g.W.Worker.leaves c.in_ok-done.done.items c.in_ok-passes.passes.items
     (omega (arith, c.in_ok-done.ensures.many, c.in_ok-done.done.ok, c.in_ok-jobs.jobs.ok))
     (λ i d e lt. c.in_ok-done.ensures.each i d e (omega (arith, lt, c.in_ok-jobs.jobs.ok))) c.in_ok-passes.ensures.none_failed c.in_ok-passes.ensures.all
 
@@ -36,7 +36,7 @@ unreachable-requires g c =
     none_missing (λ job. job.worker) (λ job. job.passes.items) c.in-Ok.shared c.in-Ok.passes.items c.in_ok-jobs.jobs.items c.args.crew.items
     c.in-Ok.ensures.passes c.in_ok-jobs.ensures.passes c.in_ok-jobs.ensures.workers
     c.args.world.past (ap (λ v. v.past) c.in-Ok.ensures.given)
-    (λ passes. passes.items) g.W.Worker.does c.in_ok-done.done.items c.in_ok-passes.passes.items
+    (λ passes. passes.items) g.W.Worker.does g.W.Worker.leaves c.in_ok-done.done.items c.in_ok-passes.passes.items
     (omega (arith, c.in_ok-done.ensures.many, c.in_ok-done.done.ok, c.in_ok-jobs.jobs.ok))
     (λ i d e lt. c.in_ok-done.ensures.each i d e (omega (arith, lt, c.in_ok-jobs.jobs.ok))) c.in_ok-passes.ensures.none_failed c.in_ok-passes.ensures.all
     c.in-Err.ensures.made.more
@@ -46,7 +46,17 @@ returns-clause-does g c =
     done_by_each (λ job. job.worker) (λ job. job.passes.items) c.in-Ok.shared c.in-Ok.passes.items c.in_ok-jobs.jobs.items c.args.crew.items
     c.in-Ok.ensures.passes c.in_ok-jobs.ensures.passes c.in_ok-jobs.ensures.workers
     c.args.world.past (ap (λ v. v.past) c.in-Ok.ensures.given)
-    (λ passes. passes.items) g.W.Worker.does c.in_ok-done.done.items c.in_ok-passes.passes.items
+    (λ passes. passes.items) g.W.Worker.does g.W.Worker.leaves c.in_ok-done.done.items c.in_ok-passes.passes.items
+    (omega (arith, c.in_ok-done.ensures.many, c.in_ok-done.done.ok, c.in_ok-jobs.jobs.ok))
+    (λ i d e lt. c.in_ok-done.ensures.each i d e (omega (arith, lt, c.in_ok-jobs.jobs.ok))) c.in_ok-passes.ensures.none_failed c.in_ok-passes.ensures.all
+    c.in-Ok-close.world.past c.in-Ok-close.ensures.passes
+
+pub returns-clause-leaves : goal.returns-clause-leaves
+returns-clause-leaves g c =
+    left_by_each (λ job. job.worker) (λ job. job.passes.items) c.in-Ok.shared c.in-Ok.passes.items c.in_ok-jobs.jobs.items c.args.crew.items
+    c.in-Ok.ensures.passes c.in_ok-jobs.ensures.passes c.in_ok-jobs.ensures.workers
+    c.args.world.past (ap (λ v. v.past) c.in-Ok.ensures.given)
+    (λ passes. passes.items) g.W.Worker.does g.W.Worker.leaves c.in_ok-done.done.items c.in_ok-passes.passes.items
     (omega (arith, c.in_ok-done.ensures.many, c.in_ok-done.done.ok, c.in_ok-jobs.jobs.ok))
     (λ i d e lt. c.in_ok-done.ensures.each i d e (omega (arith, lt, c.in_ok-jobs.jobs.ok))) c.in_ok-passes.ensures.none_failed c.in_ok-passes.ensures.all
     c.in-Ok-close.world.past c.in-Ok-close.ensures.passes
@@ -56,7 +66,7 @@ returns-clause-others g c =
     let count = counted (λ job. job.worker)
     (λ job. job.passes.items) c.in-Ok.shared c.in-Ok.passes.items c.in_ok-jobs.jobs.items c.args.crew.items c.in-Ok.ensures.passes c.in_ok-jobs.ensures.passes c.in_ok-jobs.ensures.workers
     c.args.world.past (ap (λ v. v.past) c.in-Ok.ensures.given)
-    (λ passes. passes.items) g.W.Worker.does c.in_ok-done.done.items c.in_ok-passes.passes.items
+    (λ passes. passes.items) g.W.Worker.does g.W.Worker.leaves c.in_ok-done.done.items c.in_ok-passes.passes.items
     (omega (arith, c.in_ok-done.ensures.many, c.in_ok-done.done.ok, c.in_ok-jobs.jobs.ok))
     (λ i d e lt. c.in_ok-done.ensures.each i d e (omega (arith, lt, c.in_ok-jobs.jobs.ok))) c.in_ok-passes.ensures.none_failed c.in_ok-passes.ensures.all in
     let seats = c.all_seats-seats.ensures ∙ ap (λ crew. all_seats crew) c.as_slice.ensures.value in
