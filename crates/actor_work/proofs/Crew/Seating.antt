@@ -14,8 +14,9 @@ use Rattle.actor_rounds.specs.Answers.Answered.{all_pass}
 use Rattle.shared_world.specs.declared.shared.SharedWorld.{SharedWorld}
 use Rattle.shared_world.specs.Lines.{Kept}
 use Rattle.shared_world.specs.Passes.{IsFirst, mine_of}
-use Rattle.actor_work.specs.Lives.Lived.{AreLives, past_of}
-use Rattle.actor_work.proofs.Lives.Living.{own_at, own_both}
+use Rattle.actor_work.specs.Lives.Lived.{EachLife, past_of}
+use Rattle.actor_work.proofs.Lives.Following.{own_both}
+use Rattle.actor_work.proofs.Lives.Living.{own_at}
 use Rattle.size_law.specs.Calls.Calls.{AreByActors}
 use Rattle.worker_core.specs.declared.role.Role.{Role}
 use Rattle.actor_turns.specs.declared.part.Part.{Part}
@@ -39,7 +40,7 @@ other_seats (seat ∷ seats) = seats
 
 -- the passes of lives before the first call
 pub record AreUnused {k : Ghosts Kept Ask Reply Setup} (shared : SharedWorld) (made first many : ℕ) (passes : List (Pass Kept Ask Reply Setup k)) : Type 0 where
-  pub lives : AreLives shared made first passes
+  pub lives : EachLife shared made first passes
   pub none : past_of passes ≡ []
   pub many_are : length passes ≡ many
 
@@ -72,7 +73,7 @@ module _ {k : Ghosts Kept Ask Reply Setup} (shared : SharedWorld) (made : ℕ) w
       }
 
   -- no other seat has entries in those of the lives
-  alone : (first seat : ℕ) (passes : List (Pass Kept Ask Reply Setup k)) → AreLives shared made first passes → (seat < first) ⊎ (first + length passes ≤ seat) → own seat (past_of passes) ≡ []
+  alone : (first seat : ℕ) (passes : List (Pass Kept Ask Reply Setup k)) → EachLife shared made first passes → (seat < first) ⊎ (first + length passes ≤ seat) → own seat (past_of passes) ≡ []
   alone first seat [] lives out = refl
   alone first seat (p ∷ passes) lives out =
       own_both seat (past_of passes) (mine_of p)
@@ -89,7 +90,7 @@ module _ {k : Ghosts Kept Ask Reply Setup} (shared : SharedWorld) (made : ℕ) w
       on (inr above) = inr (omega (arith, above))
 
   -- the seats are as they are in entries that have each pass's own list
-  seats_in : (whole : List Entry) (first : ℕ) (passes : List (Pass Kept Ask Reply Setup k)) → AreLives shared made first passes
+  seats_in : (whole : List Entry) (first : ℕ) (passes : List (Pass Kept Ask Reply Setup k)) → EachLife shared made first passes
       → ((i : ℕ) (d : Pass Kept Ask Reply Setup k) → i < length passes → own (first + i) whole ≡ mine_of (slice_index_or passes i d))
       → seats_of passes ≡ seats_at whole (numbers_from first (length passes))
   seats_in whole first [] lives each = refl
@@ -98,13 +99,13 @@ module _ {k : Ghosts Kept Ask Reply Setup} (shared : SharedWorld) (made : ℕ) w
       let rest = seats_in whole (first + 1) passes lives.1 (λ i d lt. subst (λ n. own n whole ≡ mine_of (slice_index_or passes i d)) (omega arith) (each (suc i) d (omega (arith, lt)))) in
       λ i. (lives.0.number i, sym here i) ∷ rest i
 
-  lasting_of : (first : ℕ) (passes : List (Pass Kept Ask Reply Setup k)) → AreLives shared made first passes → map lasting passes ≡ map (λ n. (n, 0, made)) (numbers_from first (length passes))
+  lasting_of : (first : ℕ) (passes : List (Pass Kept Ask Reply Setup k)) → EachLife shared made first passes → map lasting passes ≡ map (λ n. (n, 0, made)) (numbers_from first (length passes))
   lasting_of first [] lives = refl
   lasting_of first (p ∷ passes) lives = λ i. (lives.0.number i, lives.0.met i, lives.0.made_is i) ∷ lasting_of (first + 1) passes lives.1 i
 
   -- as many passes of the same lives are those of before
-  pub are_kept : (first : ℕ) (before after : List (Pass Kept Ask Reply Setup k)) → AreLives shared made first before
-      → AreLives shared made first after → length after ≡ length before → AreKept before after
+  pub are_kept : (first : ℕ) (before after : List (Pass Kept Ask Reply Setup k)) → EachLife shared made first before
+      → EachLife shared made first after → length after ≡ length before → AreKept before after
   are_kept first before after lives then_lives long =
       lasting_of first after then_lives
       ∙ ap (λ n. map (λ (m : ℕ). (m, 0, made)) (numbers_from first n)) long
@@ -113,7 +114,7 @@ module _ {k : Ghosts Kept Ask Reply Setup} (shared : SharedWorld) (made : ℕ) w
   -- what the work of an actor leaves of its seats
   module _ (x y : Player) (calls : ℕ) (before after : List (Pass Kept Ask Reply Setup k)) (may : MayAct x calls (seats_of before))
       (unused_are : AreUnused shared made x.part.first (lives_of x.part) before)
-      (then_lives : AreLives shared made x.part.first after) (many : length after ≡ length before) (part : y.part ≡ x.part) (held : y.held ≡ x.held) where
+      (then_lives : EachLife shared made x.part.first after) (many : length after ≡ length before) (part : y.part ≡ x.part) (held : y.held ≡ x.held) where
     long : length after ≡ lives_of x.part
     long = many ∙ unused_are.many_are
 

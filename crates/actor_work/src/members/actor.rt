@@ -82,10 +82,13 @@ pub fn hire<'a, L>(
 
 impl<'a, L: Listener> Worker for ActorCalls<'a, L> {
     ghost use Rattle.actor_work.specs.Crew.Acting.{HasActed, MayAct};
+    ghost use Rattle.actor_work.specs.Lives.Order.{AreInOrder};
 
     ghost needs = { λ actor before. MayAct actor.player actor.calls before };
 
     ghost does = { λ actor before after. HasActed actor.player.actor.role actor.player.part actor.calls after };
+
+    ghost leaves = { λ actor past. AreInOrder actor.player.part past };
 
     fn work<R: Wait>(
         self,

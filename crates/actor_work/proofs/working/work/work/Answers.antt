@@ -13,14 +13,14 @@ turns-requires-clause-serves g c = λ seat life.
     (subst (λ m. AreLives c.args.shared.now m d.first d.passes.items) (sym of.1) (subst (λ f. AreLives c.args.shared.now c.args.made f d.passes.items) (sym of.2)
     (subst (λ (v : _). AreLives c.args.shared.now c.args.made c.args.player.part.first v.items) (sym of.3) c.requires.lives))) in
     let many = ap (λ (v : _). length v.items) of.3 ∙ c.requires.many in
-    serves_lives d.shared.now d.made d.first d.passes.items c.args.player.part of.2 lives many seat life
+    serves_lives d.shared.now d.made d.first d.at d.passes.items c.args.player.part of.2 of.4 lives many seat life
 
 pub turns-requires-clause-orders : goal.turns-requires-clause-orders
 turns-requires-clause-orders g c = λ seat there.
     let d = c.of-desk.result in
     let of = c.of-desk.ensures in
     let many = ap (λ (v : _). length v.items) of.3 ∙ c.requires.many in
-    orders_lives d.shared.now d.made d.first d.passes.items c.args.player.part of.2 many seat there
+    orders_lives d.shared.now d.made d.first d.at d.passes.items c.args.player.part of.2 many seat there
 
 pub returns-clause-lives : goal.returns-clause-lives
 returns-clause-lives g c =
@@ -33,8 +33,8 @@ returns-clause-lives g c =
     (subst (λ (v : _). AreLives c.args.shared.now c.args.made c.args.player.part.first v.items) (sym of.3) c.requires.lives))) in
     let many = ap (λ (v : _). length v.items) of.3 ∙ c.requires.many in
     let some : 0 < length d.passes.items = let life = some_life c.args.player.part c.requires.named in omega (arith, many, life) in
-    let after = then_lives d.shared.now e.shared.now d.made e.made d.first e.first d.passes.items e.passes.items (ap (λ (t : _). t.0.now) lent)
-    (ap (λ (t : _). t.1) lent) (ap (λ (t : _). t.2) lent) some lives c.in_ok-turns.ensures.serves c.in_ok-turns.ensures.orders in
+    let after = then_lives d.shared.now e.shared.now d.made e.made d.first e.first d.at e.at d.passes.items e.passes.items (ap (λ (t : _). t.0.now) lent)
+    (ap (λ (t : _). t.1) lent) (ap (λ (t : _). t.2) lent) of.4 some lives c.in_ok-turns.ensures.serves c.in_ok-turns.ensures.orders in
     subst (λ (v : _). AreLives c.args.shared.now c.args.made c.args.player.part.first v.items) (sym c.into_passes.ensures)
     (subst (λ f. AreLives c.args.shared.now c.args.made f e.passes.items) of.2
     (subst (λ m. AreLives c.args.shared.now m d.first e.passes.items) of.1 (subst (λ s. AreLives s d.made d.first e.passes.items) of.0 after)))
@@ -50,8 +50,8 @@ returns-clause-many g c =
     (subst (λ (v : _). AreLives c.args.shared.now c.args.made c.args.player.part.first v.items) (sym of.3) c.requires.lives))) in
     let many = ap (λ (v : _). length v.items) of.3 ∙ c.requires.many in
     let some : 0 < length d.passes.items = let life = some_life c.args.player.part c.requires.named in omega (arith, many, life) in
-    let after = as_many d.shared.now e.shared.now d.made e.made d.first e.first d.passes.items e.passes.items (ap (λ (t : _). t.0.now) lent)
-    (ap (λ (t : _). t.1) lent) (ap (λ (t : _). t.2) lent) some lives c.in_ok-turns.ensures.serves c.in_ok-turns.ensures.orders in
+    let after = as_many d.shared.now e.shared.now d.made e.made d.first e.first d.at e.at d.passes.items e.passes.items (ap (λ (t : _). t.0.now) lent)
+    (ap (λ (t : _). t.1) lent) (ap (λ (t : _). t.2) lent) of.4 some lives c.in_ok-turns.ensures.serves c.in_ok-turns.ensures.orders in
     ap (λ (v : _). length v.items) c.into_passes.ensures ∙ after ∙ ap (λ (v : _). length v.items) of.3
 
 pub returns-clause-each : goal.returns-clause-each
