@@ -1,5 +1,6 @@
 pub mod Calls
 pub mod Drainers
 pub mod Drains
+pub mod Orders
 pub mod Users
 pub mod Whole

@@ -46,6 +46,7 @@ no_calls past actor part none = record {
   mine = [];
   calls_are = NoCalls refl refl;
   own_are = λ seat life. none seat life.0;
+  order = λ earlier later low lt high. record { late = []; early = past; is = refl; all = refl; none = none later (omega (arith, low, lt)) };
   whole = inl refl;
   lives = λ seat life. record {
     before = [];

@@ -1,5 +1,5 @@
 -- What users and actors have done stays so where other seats make calls; and the drain that comes after it.
-use Rattle.std.proofs.Common.{◌≡◌, ℕ, ◌+◌, ◌-◌, ◌<◌, ◌≤◌, true, List, [], ◌∷◌, Option, Some, inl, inr, refl, sym, ◌∙◌, ap, subst, subst₂, arith}
+use Rattle.std.proofs.Common.{◌≡◌, ℕ, ◌+◌, ◌-◌, ◌<◌, ◌≤◌, true, List, [], ◌∷◌, Option, Some, inl, inr, refl, sym, ◌∙◌, ap, subst, subst₂, arith, ◌++◌, append_assoc, length, length-append}
 use Rattle.call_types.specs.declared.entry.Entry.{Entry}
 use Rattle.binder_model.specs.Due.{IsFirstDue, IsSettled}
 use Rattle.binder_model.specs.Told.{own}
@@ -10,7 +10,8 @@ use Rattle.world_core.specs.declared.drained.Drained.{Drained}
 use Rattle.world_core.specs.declared.drained.Drained.TheVariants.{Settled, Spent}
 use Rattle.actor_rounds.specs.declared.drainers.Drainer.{Drainer}
 use Rattle.actor_rounds.specs.Drainers.{AreNew, AreStanding, HaveNoEntries, seats_of}
-use Rattle.actor_rounds.specs.Longer.{IsOneOf}
+use Rattle.actor_rounds.specs.Longer.{IsLonger, IsOneOf}
+use Rattle.actor_rounds.proofs.DrainFacts.{drains_longer}
 use Rattle.actor_rounds.specs.Rounds.{Drains, EndsWith, all_pass, made_of}
 use Rattle.actor_rounds.proofs.NewFacts.{new_seats_for}
 use Rattle.script_lines.specs.declared.actors.Actor.{Actor}
@@ -19,7 +20,9 @@ use Rattle.script_text.specs.declared.script.Script.{Script}
 use Rattle.actor_turns.specs.declared.part.Part.{Part}
 use Rattle.actor_turns.specs.Calls.{seat_at}
 use Rattle.actor_turns.proofs.Lives.{seat_within}
+use Rattle.actor_work.specs.Lives.Order.{AreInOrder}
 use Rattle.actor_work.specs.Work.Working.{HasWorked}
+use Rattle.actor_work.proofs.Lives.Following.{own_both}
 use Rattle.actor_work.proofs.Crew.Histories.{life_in}
 use Rattle.shared_work.specs.Lines.{AreOfLines}
 use Rattle.script_runs.specs.Budget.{first_budget, raised}
@@ -33,7 +36,11 @@ use Rattle.script_threads.proofs.Counting.{seats_rise}
 
 -- ---- an actor
 
-module _ (calls : ℕ) (h later : List Entry) (actor : Actor) (part : Part) (named : part.named ≡ true) (same : (seat : ℕ) → IsOfLives part seat → own seat later ≡ own seat h) where
+no_more : (a b : List Entry) → a ++ b ≡ b → a ≡ []
+no_more [] b is = refl
+no_more (e ∷ a) b is = absurd (let long = ap length is in let both = length-append (e ∷ a) b in omega (arith, long, both))
+
+module _ (calls : ℕ) (h later more : List Entry) (grown : later ≡ more ++ h) (actor : Actor) (part : Part) (named : part.named ≡ true) (same : (seat : ℕ) → IsOfLives part seat → own seat later ≡ own seat h) where
   next_life : (n : ℕ) → IsOfLives part (seat_at part n)
   next_life n = (omega arith, seat_within part n named)
 
@@ -41,35 +48,52 @@ module _ (calls : ℕ) (h later : List Entry) (actor : Actor) (part : Part) (nam
   worked_on made (inl all) = inl all
   worked_on made (inr fewer) = inr (fewer.0, subst (WasToldStale part.kind) (sym (same (seat_at part (made + 1)) (next_life (made + 1)))) fewer.1)
 
+  -- entries of others that come after leave the lives in their order
+  order_on : AreInOrder part h → AreInOrder part later
+  order_on order earlier after low lt high =
+      let stands = order earlier after low lt high in
+      let none : own earlier more ≡ [] = none_more earlier (low, omega (arith, lt, high)) in
+      record {
+        late = more ++ stands.late;
+        early = stands.early;
+        is = grown ∙ ap (λ (es : List Entry). more ++ es) stands.is ∙ sym (append_assoc more stands.late stands.early);
+        all = own_both earlier more stands.late ∙ ap (λ (es : List Entry). es ++ own earlier stands.late) none ∙ stands.all;
+        none = stands.none;
+      }
+    where
+      none_more : (seat : ℕ) → IsOfLives part seat → own seat more ≡ []
+      none_more seat life = no_more (own seat more) (own seat h) (sym (own_both seat more h) ∙ sym (ap (own seat) grown) ∙ same seat life)
+
   pub calls_on : HasMadeCalls calls h actor part → HasMadeCalls calls later actor part
   calls_on did = record {
     made = did.made;
     mine = did.mine;
     calls_are = did.calls_are;
     own_are = λ seat life. same seat life ∙ did.own_are seat life;
+    order = order_on did.order;
     whole = worked_on did.made did.whole;
     lives = λ seat life. life_in [] (role_of actor) part seat did.made h later (same seat life) (did.lives seat life);
   }
 
 -- ---- all of them
 
-each_on : (calls : ℕ) (h later : List Entry) (lines : List Line) (first : ℕ) (actors : List Actor) → ((seat : ℕ) → first ≤ seat → seat < seat_after lines first actors → own seat later ≡ own seat h)
+each_on : (calls : ℕ) (h later more : List Entry) (grown : later ≡ more ++ h) (lines : List Line) (first : ℕ) (actors : List Actor) → ((seat : ℕ) → first ≤ seat → seat < seat_after lines first actors → own seat later ≡ own seat h)
     → EachStarted (HasMadeCalls calls h) lines first actors → EachStarted (HasMadeCalls calls later) lines first actors
-each_on calls h later lines first [] same did = tt
-each_on calls h later lines first (actor ∷ actors) same did =
+each_on calls h later more grown lines first [] same did = tt
+each_on calls h later more grown lines first (actor ∷ actors) same did =
     let part = started_part lines actor first in
     let rise = seats_rise lines (after_lives part) actors in (
-      calls_on calls h later actor part refl (λ seat life. let low = life.0 in let high = life.1 in same seat low (omega (arith, high, rise))) did.0,
-      each_on calls h later lines (after_lives part) actors (λ seat low high. same seat (omega (arith, low)) high) did.1,
+      calls_on calls h later more grown actor part refl (λ seat life. let low = life.0 in let high = life.1 in same seat low (omega (arith, high, rise))) did.0,
+      each_on calls h later more grown lines (after_lives part) actors (λ seat low high. same seat (omega (arith, low)) high) did.1,
     )
 
-pub done_on : (script : Script) (workers calls : ℕ) (h later : List Entry)
+pub done_on : (script : Script) (workers calls : ℕ) (h later more : List Entry) → later ≡ more ++ h
     → ((seat : ℕ) → seat < drain_seat workers script → own seat later ≡ own seat h) → AreDone script workers calls h → AreDone script workers calls later
-done_on script workers calls h later same done =
+done_on script workers calls h later more grown same done =
     let rise = seats_rise script.lines first_actor_seat (started workers script) in
     record {
       users = λ user some few. subst (AreOfLines user script.lines) (sym (same user (omega (arith, few, rise)))) (done.users user some few);
-      actors = each_on calls h later script.lines first_actor_seat (started workers script) (λ seat low high. same seat high) done.actors;
+      actors = each_on calls h later more grown script.lines first_actor_seat (started workers script) (λ seat low high. same seat high) done.actors;
     }
 
 -- ---- the drain
@@ -136,9 +160,12 @@ module _ (script : Script) (workers calls first : ℕ) (option : Option ℕ) (be
     };
     history = refl;
     ends = ends_as d refl drained.ends;
-    done = done_on script workers calls before.past after.past earlier work.done;
+    done = done_on script workers calls before.past after.past longer.added longer.are earlier work.done;
   }
     where
+      longer : IsLonger (seats_of old) (budget - (budget - made_of d)) before.past after.past
+      longer = drains_longer _ _ _ _ _ _ _ drained.rounds
+
       rounds : Drains all_pass script.setup ran after.past (budget - (0 + made_of d)) old before.past (budget - 0)
       rounds =
           let all : budget ≡ budget - 0 = omega arith in

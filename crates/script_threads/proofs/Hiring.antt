@@ -20,12 +20,13 @@ use Rattle.shared_work.specs.declared.crew.Hired.{Hired}
 use Rattle.shared_work.specs.declared.lines.UserLines.{UserLines}
 use Rattle.shared_work.specs.declared.worker.OneOf.{OneOf}
 use Rattle.shared_work.specs.Crew.{Each, all_seats, numbers_from}
-use Rattle.shared_work.specs.Kinds.{does_of, needs_of}
+use Rattle.shared_work.specs.Kinds.{does_of, leaves_of, needs_of}
 use Rattle.shared_work.specs.Lines.{AreOfLines, DoLines, asked_by, call_of, user_call}
 use Rattle.shared_work.specs.Seats.{IsOneSeat, seats_at}
 use Rattle.shared_work.proofs.Using.{did}
 use Rattle.actor_work.specs.declared.members.actor.ActorCalls.{ActorCalls}
 use Rattle.actor_work.specs.Crew.Acting.{HasActed, HasActedIn, MayAct}
+use Rattle.actor_work.specs.Lives.Order.{AreInOrder}
 use Rattle.actor_work.proofs.Crew.Histories.{actors_in_histories}
 use Rattle.script_runs.specs.Limits.{IsReadable}
 use Rattle.script_runs.specs.Parts.{first_actor_seat, role_of}
@@ -70,12 +71,13 @@ lines_asked user lines mine of = by_users mine (subst AreUsers (reverse-reverse 
 
 -- ---- what an actor has done
 
-made_calls : (calls : ℕ) (past : List Entry) (actor : Actor) (part : Part) → HasActedIn (role_of actor) part calls past → HasMadeCalls calls past actor part
-made_calls calls past actor part acted = record {
+made_calls : (calls : ℕ) (past : List Entry) (actor : Actor) (part : Part) → HasActedIn (role_of actor) part calls past → AreInOrder part past → HasMadeCalls calls past actor part
+made_calls calls past actor part acted order = record {
   made = acted.made;
   mine = acted.mine;
   calls_are = acted.calls_are;
   own_are = λ seat life. acted.own_is seat life.0 life.1;
+  order = order;
   whole = acted.whole;
   lives = λ seat life. acted.lives seat life.0 life.1;
 }
@@ -86,10 +88,10 @@ pub record HaveDone (calls : ℕ) (past : List Entry) (lines : List Line) (first
   pub asked : (seat : ℕ) → first ≤ seat → seat < seat_after lines first actors → AreByActors (own seat past)
 
 done_first : (calls : ℕ) (past : List Entry) (lines : List Line) (first : ℕ) (actor : Actor) (actors : List Actor)
-    → HasActedIn (role_of actor) (started_part lines actor first) calls past → HaveDone calls past lines (after_lives (started_part lines actor first)) actors
-    → HaveDone calls past lines first (actor ∷ actors)
-done_first calls past lines first actor actors acted rest = record {
-  each = (made_calls calls past actor (started_part lines actor first) acted, rest.each);
+    → HasActedIn (role_of actor) (started_part lines actor first) calls past → AreInOrder (started_part lines actor first) past
+    → HaveDone calls past lines (after_lives (started_part lines actor first)) actors → HaveDone calls past lines first (actor ∷ actors)
+done_first calls past lines first actor actors acted order rest = record {
+  each = (made_calls calls past actor (started_part lines actor first) acted order, rest.each);
   asked = λ seat low high. by seat low high (nat_lt seat (after_lives (started_part lines actor first))) refl;
 }
   where
@@ -184,6 +186,9 @@ module _ {L : Type 0} where
   Does worker before after = does_of (λ user seats then. DoLines user.script.now.lines seats then) (λ actor seats then. HasActed
       actor.player.actor.role actor.player.part actor.calls then) worker before after
 
+  abbrev Leaves : OneOf (UserLines L) (ActorCalls L) → List Entry → Type 0
+  Leaves worker past = leaves_of (λ user then. ⊤) (λ actor then. AreInOrder actor.player.part then) worker past
+
   module _ (given past : List Entry) (none : given ≡ []) where
     abbrev HasDone : Hired (OneOf (UserLines L) (ActorCalls L)) → ℕ → Type 0
     HasDone h first = Does h.worker (seats_at given (numbers_from first h.seats)) (seats_at past (numbers_from first h.seats))
@@ -205,17 +210,26 @@ module _ {L : Type 0} where
         actors_in_histories (role_of actor) (started_part lines actor first) calls past refl
         (subst (λ n. HasActed (role_of actor) (started_part lines actor first) calls (seats_at past (numbers_from first n))) a.hired.seats so_many)
 
+    actor_left : (lines : List Line) (calls : ℕ) (actor : Actor) (first : ℕ) (h : Hired (OneOf (UserLines L) (ActorCalls L)))
+        → IsActorHired lines calls actor first h → Leaves h.worker past → AreInOrder (started_part lines actor first) past
+    actor_left lines calls actor first h a left = subst (λ part. AreInOrder part past) a.hired.part_is (subst (λ w. Leaves w past) a.is left)
+
     actors_done : (lines : List Line) (calls first : ℕ) (actors : List Actor) (crew : List (Hired (OneOf (UserLines L) (ActorCalls L)))) → AreHired lines calls first actors crew
-        → Each (λ w seats. Does w (seats_at given seats) (seats_at past seats)) first crew → HaveDone calls past lines first actors
-    actors_done lines calls first [] crew hired done = record { each = tt; asked = λ seat low high. absurd (omega (arith, low, high)) }
-    actors_done lines calls first (actor ∷ actors) [] hired done = absurd hired
-    actors_done lines calls first (actor ∷ actors) (h ∷ crew) hired done =
+        → Each (λ w seats. Does w (seats_at given seats) (seats_at past seats)) first crew → Each (λ w seats. Leaves w past) first crew → HaveDone calls past lines first actors
+    actors_done lines calls first [] crew hired done left = record { each = tt; asked = λ seat low high. absurd (omega (arith, low, high)) }
+    actors_done lines calls first (actor ∷ actors) [] hired done left = absurd hired
+    actors_done lines calls first (actor ∷ actors) (h ∷ crew) hired done left =
+        let then_left = subst (λ n. Each (λ w seats. Leaves w past) (first + n) crew) hired.0.hired.seats left.1 in
         let rest = subst (λ n. Each (λ w seats. Does w (seats_at given seats) (seats_at past seats)) (first + n) crew) hired.0.hired.seats done.1 in
-        done_first calls past lines first actor actors (actor_done lines calls actor first h hired.0 done.0)
-        (actors_done lines calls (after_lives (started_part lines actor first)) actors crew hired.1 rest)
+        done_first calls past lines first actor actors (actor_done lines calls actor first h hired.0 done.0) (actor_left lines calls actor first h hired.0 left.0)
+        (actors_done lines calls (after_lives (started_part lines actor first)) actors crew hired.1 rest then_left)
 
     module _ (script : Script) (workers calls : ℕ) (crew : List (Hired (OneOf (UserLines L) (ActorCalls L)))) (c : IsCrew script workers calls crew)
-        (does : Each (λ w seats. Does w (seats_at given seats) (seats_at past seats)) 1 crew) (adds : AddsNoSeats (all_seats crew) given past) where
+        (does : Each (λ w seats. Does w (seats_at given seats) (seats_at past seats)) 1 crew) (leaves : Each (λ w seats. Leaves w past) 1 crew)
+        (adds : AddsNoSeats (all_seats crew) given past) where
+      each_left : Each (λ w seats. Leaves w past) 1 (c.one ∷ c.two ∷ c.three ∷ c.four ∷ c.actors)
+      each_left = subst (Each (λ w seats. Leaves w past) 1) c.are leaves
+
       each_done : Each (λ w seats. Does w (seats_at given seats) (seats_at past seats)) 1 (c.one ∷ c.two ∷ c.three ∷ c.four ∷ c.actors)
       each_done = subst (Each (λ w seats. Does w (seats_at given seats) (seats_at past seats)) 1) c.are does
 
@@ -241,6 +255,7 @@ module _ {L : Type 0} where
           let fifth : 1 + c.one.seats + c.two.seats + c.three.seats + c.four.seats ≡ first_actor_seat = omega (arith, a, b, d, e) in
           actors_done script.lines calls first_actor_seat (started workers script) c.actors c.hired
           (subst (λ n. Each (λ w seats. Does w (seats_at given seats) (seats_at past seats)) n c.actors) fifth each_done.1.1.1.1)
+          (subst (λ n. Each (λ w seats. Leaves w past) n c.actors) fifth each_left.1.1.1.1)
 
       beside : (seat : ℕ) → (seat ≡ 0) ⊎ (drain_seat workers script ≤ seat) → own seat past ≡ []
       beside seat (inl first) = adds seat (inl first) ∙ ap (own seat) none

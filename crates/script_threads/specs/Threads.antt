@@ -10,6 +10,7 @@ use Rattle.actor_turns.specs.declared.part.Part.{Part}
 use Rattle.actor_turns.specs.Calls.{AreCalls}
 use Rattle.actor_turns.specs.Lives.{WasPlayed}
 use Rattle.actor_turns.specs.Parts.{lives_of}
+use Rattle.actor_work.specs.Lives.Order.{AreInOrder}
 use Rattle.actor_work.specs.Work.Working.{HasWorked}
 use Rattle.shared_work.specs.Lines.{AreOfLines}
 use Rattle.script_runs.specs.Parts.{role_of}
@@ -28,6 +29,8 @@ pub record HasMadeCalls (calls : ℕ) (past : List Entry) (actor : Actor) (part 
   pub mine : List Entry
   pub calls_are : AreCalls all_pass [] part mine 1 made []
   pub own_are : (seat : ℕ) → IsOfLives part seat → own seat past ≡ own seat mine
+  -- of two lives the earlier one had made all its entries at a point at which the later one had none
+  pub order : AreInOrder part past
   -- they are all; or they are fewer, and the life that would make the next one was told StaleEpoch
   pub whole : HasWorked part calls made past
   -- each life is one that the actor played: each call is the one that its turn gave, and where a turn gave none it was woken

@@ -39,6 +39,7 @@ one_made past mine actor part c s one calls own_are are played = record {
   mine = mine;
   calls_are = calls;
   own_are = λ seat life. subst (λ s. own s past ≡ own s mine) (at seat life.0 life.1) own_are;
+  order = λ earlier later low lt high. absurd (omega (arith, low, lt, high, one));
   whole = inl refl;
   lives = λ seat life. record {
     before = [];

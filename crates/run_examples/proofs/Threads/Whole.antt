@@ -49,6 +49,7 @@ fewer was = record {
   calls_are = MoreCalls {n = 1} {past = []} 1 (taken ∷ []) refl (record { request = _; reply = _; passes = refl; is = refl })
       (MoreCalls {n = 2} {past = taken ∷ []} 0 (refused ∷ taken ∷ []) refl (record { request = _; reply = _; passes = refl; is = refl }) (NoCalls refl refl));
   own_are = λ seat life. refl;
+  order = λ earlier later low lt high. absurd (omega (arith, low, lt, high));
   whole = inr (omega arith, (refl, inl (refl, refl)));
   lives = λ seat life. subst (λ s. WasPlayed [] (role_of node) node_part s 2 (refused ∷ taken ∷ [])) (first_life seat life.0 life.1) was;
 }

@@ -12,7 +12,9 @@ use Rattle.script_lines.specs.declared.actors.WorkerNumber.TheVariants.{One}
 use Rattle.script_text.specs.declared.script.Line.{Line}
 use Rattle.script_text.specs.declared.script.Line.TheVariants as lines
 use Rattle.script_text.specs.declared.script.Script.{Script}
+use Rattle.actor_turns.specs.declared.part.Part.{Part}
 use Rattle.actor_turns.specs.Lives.{WasPlayed}
+use Rattle.actor_work.specs.Lives.Order.{AreInOrder}
 use Rattle.script_runs.specs.Examples.{agent_of, binder_1, binder_2, claims_1, ops_1, scheduler_1, script_of, worker}
 use Rattle.script_runs.specs.Parts.{role_of}
 use Rattle.script_threads.specs.Examples.{asks, entry, says}
@@ -75,6 +77,21 @@ pub record StaleExamples : Type 0 where
       → HasServed (refused ∷ taken ∷ [])
   pub it_asks_nothing_more : HasServed (refused ∷ refused ∷ taken ∷ []) → ⊥
   pub not_even_another_call : HasServed (entry 5 seats.Agent Pod ∷ refused ∷ taken ∷ []) → ⊥
+
+-- the two lives of an agent that is restarted after its first call: their seats are 10 and 11
+abbrev pub two_lives : Part
+two_lives = record { name = codes "agent-n1"; kind = seats.Agent; named = true; first = 10; losses = []; restarts = 1 ∷ [] }
+
+-- a life takes the node, with this epoch
+abbrev pub takes : ℕ → ℕ → Entry
+takes seat epoch = record { seat = seat; kind = seats.Agent; request = requests.TakeNode (codes "n1"); reply = replies.Epoch epoch; told = true }
+
+pub record OrderExamples : Type 0 where
+  pub one_after_the_other : AreInOrder two_lives (takes 11 2 ∷ takes 10 1 ∷ [])
+  pub others_between : AreInOrder two_lives (asks 1 Pod ∷ takes 11 2 ∷ asks 1 Node ∷ takes 10 1 ∷ asks 2 Node ∷ [])
+  pub one_life_alone : AreInOrder two_lives (takes 11 1 ∷ [])
+  pub two_lives_turned : AreInOrder two_lives (takes 10 2 ∷ takes 11 1 ∷ []) → ⊥
+  pub not_one_between_another : AreInOrder two_lives (takes 10 3 ∷ takes 11 2 ∷ takes 10 1 ∷ []) → ⊥
 
 -- ---- all that take part
 

@@ -1,7 +1,7 @@
 //! Computed examples of the definitions. Each is a function with nothing to do, whose contract has the examples.
 
 ghost use Rattle.run_examples.specs.Threads.Works.{SeatExamples, UserExamples};
-ghost use Rattle.run_examples.specs.Threads.Calls.{LossExamples, MadeExamples, StaleExamples, WholeExamples};
+ghost use Rattle.run_examples.specs.Threads.Calls.{LossExamples, MadeExamples, OrderExamples, StaleExamples, WholeExamples};
 
 /// Which actors a run starts, and at which seats.
 pub fn seat_examples()
@@ -26,6 +26,11 @@ pub fn loss_examples()
 /// An agent that was told StaleEpoch.
 pub fn stale_examples()
     ensures { StaleExamples }
+{}
+
+/// The lives of an actor, one after the other.
+pub fn order_examples()
+    ensures { OrderExamples }
 {}
 
 /// Whose calls a history has where each actor was to make one.

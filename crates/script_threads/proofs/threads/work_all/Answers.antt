@@ -10,9 +10,9 @@ run_crew-requires-clause-needs g c κs within = crew_needs c.args.script.now c.a
 pub returns-clause-work : goal.returns-clause-work
 returns-clause-work g c =
     crew_done c.args.world.past c.in_ok-world.world.past c.requires.none c.args.script.now c.args.workers c.args.calls c.in_ok-crew.crew.items
-    c.in_ok-crew.ensures.crew c.in_ok-world.ensures.does c.in_ok-world.ensures.others
+    c.in_ok-crew.ensures.crew c.in_ok-world.ensures.does c.in_ok-world.ensures.leaves c.in_ok-world.ensures.others
 
 pub returns-clause-actors : goal.returns-clause-actors
 returns-clause-actors g c =
     crew_asked c.args.world.past c.in_ok-world.world.past c.requires.none c.args.script.now c.args.workers c.args.calls c.in_ok-crew.crew.items
-    c.in_ok-crew.ensures.crew c.in_ok-world.ensures.does c.in_ok-world.ensures.others
+    c.in_ok-crew.ensures.crew c.in_ok-world.ensures.does c.in_ok-world.ensures.leaves c.in_ok-world.ensures.others
