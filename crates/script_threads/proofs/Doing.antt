@@ -40,7 +40,8 @@ no_more : (a b : List Entry) → a ++ b ≡ b → a ≡ []
 no_more [] b is = refl
 no_more (e ∷ a) b is = absurd (let long = ap length is in let both = length-append (e ∷ a) b in omega (arith, long, both))
 
-module _ (calls : ℕ) (h later more : List Entry) (grown : later ≡ more ++ h) (actor : Actor) (part : Part) (named : part.named ≡ true) (same : (seat : ℕ) → IsOfLives part seat → own seat later ≡ own seat h) where
+module _ (calls : ℕ) (h later more : List Entry) (grown : later ≡ more ++ h) (actor : Actor) (part : Part) (named : part.named ≡ true)
+    (same : (seat : ℕ) → IsOfLives part seat → own seat later ≡ own seat h) where
   next_life : (n : ℕ) → IsOfLives part (seat_at part n)
   next_life n = (omega arith, seat_within part n named)
 
@@ -77,7 +78,8 @@ module _ (calls : ℕ) (h later more : List Entry) (grown : later ≡ more ++ h)
 
 -- ---- all of them
 
-each_on : (calls : ℕ) (h later more : List Entry) (grown : later ≡ more ++ h) (lines : List Line) (first : ℕ) (actors : List Actor) → ((seat : ℕ) → first ≤ seat → seat < seat_after lines first actors → own seat later ≡ own seat h)
+each_on : (calls : ℕ) (h later more : List Entry) (grown : later ≡ more ++ h) (lines : List Line) (first : ℕ) (actors : List Actor)
+    → ((seat : ℕ) → first ≤ seat → seat < seat_after lines first actors → own seat later ≡ own seat h)
     → EachStarted (HasMadeCalls calls h) lines first actors → EachStarted (HasMadeCalls calls later) lines first actors
 each_on calls h later more grown lines first [] same did = tt
 each_on calls h later more grown lines first (actor ∷ actors) same did =

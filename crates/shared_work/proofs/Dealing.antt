@@ -212,7 +212,8 @@ module _ {k : Ghosts Kept Ask Reply Setup} {J W : Type 0} (worker : J → W) (pa
 
   module _ {V E : Type 0} (items : V → List (Pass Kept Ask Reply Setup k)) (does : W → List (ℕ × List Entry) → List (ℕ × List Entry) → Type 0) (leaves : W → List Entry → Type 0)
       (results : List (Result V E)) (all : List (Pass Kept Ask Reply Setup k))
-      (many : length results ≡ length jobs) (each : (i : ℕ) (d : J) (e : Result V E) → i < length jobs → Came worker passes items shared does leaves (slice_index_or jobs i d) (slice_index_or results i e))
+      (many : length results ≡ length jobs) (each : (i : ℕ) (d : J) (e : Result V E) → i < length jobs → Came worker passes items shared does leaves
+      (slice_index_or jobs i d) (slice_index_or results i e))
       (ok : AreAllOk results) (gathered : all ≡ all_items items results) where
     came : AllZip (Came worker passes items shared does leaves) jobs results
     came = came_each worker passes items shared does leaves jobs results many each

@@ -101,7 +101,8 @@ module _ (lives : List Knowledge) (place : ℕ) (now : Knowledge) (within : plac
     module _ (same : now.0 ≡ (known_at lives place).0) (more : Begins now.1 (known_at lives place).1) where
       seen_more : (earlier later : ℕ) (before : Knowledge) → Follows earlier later before (known_at lives place) → Follows earlier later before now
       seen_more earlier later before (inl none) = inl (same ∙ none)
-      seen_more earlier later before (inr after) = inr (record { point = after.point; begins = begins_on now.1 (known_at lives place).1 after.point more after.begins; all = after.all; none = after.none })
+      seen_more earlier later before (inr after) =
+          inr (record { point = after.point; begins = begins_on now.1 (known_at lives place).1 after.point more after.begins; all = after.all; none = after.none })
 
       same_before : (earlier later : ℕ) (after : Knowledge) → Follows earlier later (known_at lives place) after → Follows earlier later now after
       same_before earlier later after = subst (λ (mine : List Entry). (after.0 ≡ []) ⊎ ComesAfter earlier later mine after.1) (sym same)
@@ -148,8 +149,9 @@ module _ (lives : List Knowledge) (place : ℕ) (now : Knowledge) (within : plac
         seen = record {
           within = omega (arith, within, long);
           knows = λ i le. subst (λ (k : Knowledge). Begins (own (first + i) k.1) (known_at (slice_set lives place now) i).0) (sym here)
-            (each (λ j k. j ≤ place → Begins (own (first + j) now.1) k.0) (λ _. ([], only))
-            (λ j other le'. begins_on (own (first + j) now.1) (own (first + j) (known_at lives place).1) (known_at lives j).0 (begins_own (first + j) now.1 (known_at lives place).1 more) (reached.knows j le')) i le);
+              (each (λ j k. j ≤ place → Begins (own (first + j) now.1) k.0) (λ _. ([], only))
+              (λ j other le'. begins_on (own (first + j) now.1) (own (first + j) (known_at lives place).1) (known_at lives j).0
+              (begins_own (first + j) now.1 (known_at lives place).1 more) (reached.knows j le')) i le);
         };
         called = inr (λ none. some e (known_at lives place).0 (sym mine ∙ (ap (λ (k : Knowledge). k.0) (sym here) ∙ none)));
       }
@@ -189,7 +191,8 @@ one_told first at place next lives after order in_them low high told before =
     subst (IsTold first at place (next + 1)) (sym told.is) record {
       reached = record {
         within = let n = long lives place new in_them in let m = before.reached.within in omega (arith, n, m);
-        knows = λ i le. subst₂ (λ (k l : Knowledge). Begins (own (first + i) k.1) l.0) (sym (same at (λ e. omega (arith, e, low, high)))) (sym (same i (λ e. omega (arith, e, le, low, high)))) (before.reached.knows i le);
+        knows = λ i le. subst₂ (λ (k l : Knowledge). Begins (own (first + i) k.1) l.0) (sym (same at (λ e. omega (arith, e, low, high))))
+            (sym (same i (λ e. omega (arith, e, le, low, high)))) (before.reached.knows i le);
       };
       told = λ i lt below. subst₂ (λ (k l : Knowledge). Begins (own (first + i) k.1) l.0) (sym (here lives place new in_them)) (sym (same i (λ e. omega (arith, e, below, high)))) (by i below);
     }

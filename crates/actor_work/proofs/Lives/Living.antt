@@ -1,5 +1,38 @@
 -- The entries of lives, and one more.
-use Rattle.std.proofs.Common.{◌≡◌, ◌≢◌, ℕ, zero, suc, ◌+◌, ◌-◌, ◌<◌, ◌≤◌, List, [], ◌∷◌, ◌++◌, length, slice_index_or, slice_set, Bool, true, false, refl, sym, ◌∙◌, ap, subst, arith, inl, inr, ◌⊎◌, map, ltb, ltb-true, ltb-false}
+use Rattle.std.proofs.Common.{
+  ◌≡◌,
+  ◌≢◌,
+  ℕ,
+  zero,
+  suc,
+  ◌+◌,
+  ◌-◌,
+  ◌<◌,
+  ◌≤◌,
+  List,
+  [],
+  ◌∷◌,
+  ◌++◌,
+  length,
+  slice_index_or,
+  slice_set,
+  Bool,
+  true,
+  false,
+  refl,
+  sym,
+  ◌∙◌,
+  ap,
+  subst,
+  arith,
+  inl,
+  inr,
+  ◌⊎◌,
+  map,
+  ltb,
+  ltb-true,
+  ltb-false,
+}
 use Rattle.std.proofs.lemmas.List.{append-nil, get_or-map, length-map, length-set, map-set, set-get_or}
 use Rattle.call_types.specs.declared.ask.Ask.{Ask}
 use Rattle.call_types.specs.declared.entry.Entry.{Entry}
@@ -295,7 +328,8 @@ module _ {k : Ghosts Kept Ask Reply Setup} (shared : SharedWorld) (made first fr
       only =
           let less : Begins (mine_of t) (own (first + to) (seen_by t)) = subst (λ (n : ℕ). Begins (mine_of t) (own n (seen_by t))) (learnt.numbers.0 ∙ life_r.number) learnt.only in
           let self : own (first + to) (seen_by r) ≡ mine_of r = subst (λ (x : Knowledge). own (first + to) x.1 ≡ x.0) was (lives.order.selves to in_known) in
-          let more : Begins (own (first + to) (seen_by t)) (mine_of t) = subst (Begins (own (first + to) (seen_by t))) (self ∙ sym learnt.mine) (begins_own (first + to) (seen_by t) (seen_by r) learnt.old) in
+          let more : Begins (own (first + to) (seen_by t)) (mine_of t) =
+          subst (Begins (own (first + to) (seen_by t))) (self ∙ sym learnt.mine) (begins_own (first + to) (seen_by t) (seen_by r) learnt.old) in
           begins_both (own (first + to) (seen_by t)) (mine_of t) more less
 
       pub are_told : AreTold shared made first from to passes (slice_set shown to t)

@@ -25,6 +25,7 @@ AreInOrder part past = (earlier later : ℕ) → part.first ≤ earlier → earl
 abbrev pub Knowledge : Type 0
 Knowledge = List Entry × List Entry
 
+-- what the pass of the life at this place knows
 abbrev pub known_at : List Knowledge → ℕ → Knowledge
 known_at lives i = slice_index_or lives i ([], [])
 

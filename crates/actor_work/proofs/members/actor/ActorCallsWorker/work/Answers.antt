@@ -69,5 +69,7 @@ returns-clause-leaves g c =
     let w = c.in_ok-worked in
     let new = recursion_from_All (λ p. IsFirst c.args.shared.now c.args.made (number_of p) p) passes c.requires.new in
     let before = unused c.args.shared.now c.args.made x.part.first (lives_of x.part) passes new c.requires.needs.before_is in
-    record { in_each = λ past in_past. lives_in_order c.args.shared.now c.args.made x.part w.worked.lives.items w.ensures.lives (w.ensures.many ∙ before.many_are) past
-    (subst (λ (v : _). All (IsIn past) v.items) c.into_parts-lives.ensures.0 in_past) }
+    record {
+      in_each = λ past in_past. lives_in_order c.args.shared.now c.args.made x.part w.worked.lives.items w.ensures.lives (w.ensures.many ∙ before.many_are) past
+          (subst (λ (v : _). All (IsIn past) v.items) c.into_parts-lives.ensures.0 in_past);
+    }
