@@ -1,0 +1,10 @@
+use Rattle.std.proofs.lemmas.Cmp.{nat_list_cmp_total}
+use Rattle.snapshot_bind.specs.SideStore.{content_key}
+use Rattle.plain_data.proofs.RowFacts.{searched}
+use Rattle.snapshot_bind.proofs.table.content_place.Goals as goal
+
+pub returns : goal.returns
+returns c =
+    let facts = c.place_of.ensures in
+    let place = searched nat_list_cmp_total content_key c.args.name.now _ _ c.requires facts.bound facts.position in
+    record { bound = facts.bound; at = place.at; gap = place.gap }

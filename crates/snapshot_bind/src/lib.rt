@@ -1,0 +1,13 @@
+//! Snapshots beside the world: the side store, what its workers may ask, and the worker.
+//!
+//! Promises: `store::SnapStore::call` does what the definitions say of each call (`specs/SideStore`), and a refusal or want
+//! of memory changes nothing. `licence::snap_licensed` is exactly the evidence that a worker needs (`specs/Licences`).
+#![tactic(auto)]
+
+pub mod calls;
+pub mod conditions;
+pub mod effect;
+pub mod licence;
+pub mod rows;
+pub mod store;
+pub mod table;
