@@ -1,7 +1,8 @@
-//! Snapshots beside the world: the side store, what its workers may ask, and the worker.
+//! Snapshots beside the world: the side store, and what its workers may ask.
 //!
 //! Promises: `store::SnapStore::call` does what the definitions say of each call (`specs/SideStore`), and a refusal or want
-//! of memory changes nothing. `licence::snap_licensed` is exactly the evidence that a worker needs (`specs/Licences`).
+//! of memory changes nothing. `licence::snap_licensed` is exactly the evidence that a worker needs (`specs/Licences`). Not
+//! said: that the rules of `specs/Rules` hold, which no law here proves yet; nor what a worker does, which is not here yet.
 #![tactic(auto)]
 
 pub mod calls;
