@@ -9,7 +9,7 @@
 pub mod auditing;
 mod auditor;
 pub mod laws;
-mod seats;
+pub mod seats;
 pub mod verdict;
 
 pub use auditing::{audit, audit_entries};
