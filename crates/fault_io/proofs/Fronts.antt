@@ -30,7 +30,7 @@ use Rattle.std.proofs.Common.{
 use Rattle.std.specs.declared.option.Option.{Option}
 use Rattle.std.proofs.Math.Seq.{take-add, take-append-add}
 use Rattle.std.proofs.lemmas.List.{drop-drop, take-append-le, length-take-le, take-take}
-use Rattle.fault_io.specs.Reading.{Takes, IsLeft, IsLongerThan, TakesFront}
+use Rattle.fault_io.specs.Reading.{Takes, IsLeft, IsLongerThan, TakesFront, TakesPast}
 use Rattle.fault_io.specs.Writing.{Appends, WritesFront}
 
 -- ---- reading
@@ -61,6 +61,10 @@ pub takes_longer : (a b : Option (List ℕ)) (xs : List ℕ) (most : ℕ) → Ta
 takes_longer None b xs most p q = tt
 takes_longer (Some x) None xs most p q = absurd p
 takes_longer (Some x) (Some y) xs most p q = omega (arith, ap length p, length-append xs y, q)
+
+-- where more was taken, a front past the limit was
+pub takes_past : (a b : Option (List ℕ)) (xs : List ℕ) (most : ℕ) → Takes a b xs → most < length xs → TakesPast most a b
+takes_past a b xs most taken past = record { front = xs; taken = taken; past = past }
 
 -- ---- writing
 

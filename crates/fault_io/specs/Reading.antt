@@ -25,6 +25,12 @@ pub record TakesFront (old new : Option (List ℕ)) : Type 0 where
   pub front : List ℕ
   pub taken : Takes old new front
 
+-- a front of more bytes than this was taken
+pub record TakesPast (most : ℕ) (old new : Option (List ℕ)) : Type 0 where
+  pub front : List ℕ
+  pub taken : Takes old new front
+  pub past : most < length front
+
 -- a read gave the bytes that it took, none only at the end or where there was no room; a failed read took none
 abbrev pub Reads : {E : Type 0} → Option (List ℕ) → Option (List ℕ) → Result ℕ E → List ℕ → Type 0
 Reads old new result buf = MatchResult result (λ n. Takes old new (take n buf) × (n ≡ 0 → 0 < length buf → IsLeft new [])) (λ _. new ≡ old)

@@ -4,7 +4,7 @@ ghost use Rattle.std.specs.Prelude.{◌≡◌, ◌≢◌, ◌<◌, ◌≤◌, �
 ghost use Rattle.std.specs.declared.option.Option.{Option};
 ghost use Rattle.std.specs.Io.{ReadsAtMost, WritesAtMost};
 ghost use Rattle.fault_io.specs.Faults.{Rose, HasCause};
-ghost use Rattle.fault_io.specs.Reading.{Reads, IsLeft, IsLongerThan, TakesFront};
+ghost use Rattle.fault_io.specs.Reading.{Reads, IsLeft, IsLongerThan, TakesFront, TakesPast};
 ghost use Rattle.fault_io.specs.Writing.{Writes, Appends, WritesFront};
 
 use plain_data::text::Bytes;
@@ -74,7 +74,7 @@ pub trait Sink {
 }
 
 /// All bytes to the end, where there are at most `most`.
-#[tactic(auto, using(crate::proofs::Fronts::takes_front))]
+#[tactic(auto, using(crate::proofs::Fronts::takes_front, crate::proofs::Fronts::takes_past))]
 pub fn read_all<S: Source>(alloc: Global, source: &mut S, most: usize) -> Result<Bytes, ReadError>
     ensures whole { IfOk result (λ bytes. IsLeft (S.left source.old) bytes) }
     ensures end { OnOk result (IsLeft (S.left source.new) []) }
@@ -82,6 +82,7 @@ pub fn read_all<S: Source>(alloc: Global, source: &mut S, most: usize) -> Result
 
     // Too long exactly where more bytes stand before the end, but for a fault and want of memory.
     ensures too_long { result ≡ Err ReadError.TooLong → IsLongerThan most (S.left source.old) }
+    ensures past_limit { result ≡ Err ReadError.TooLong → TakesPast most (S.left source.old) (S.left source.new) }
     ensures too_much { (bytes : List ℕ) → S.left source.old ≡ Some bytes → most < length bytes → IsErr result }
 
     ensures fault { result ≡ Err ReadError.ReadFault → Rose (S.faults source.old) (S.faults source.new) }
