@@ -84,24 +84,36 @@ object_value_of m (string s) = Err (WrongType m)
 object_value_of m (array ds) = Err (WrongType m)
 object_value_of m (object ms) = Ok (object ms)
 
--- a whole number from 1 to the greatest
-abbrev pub number_in : LineMember → ℕ → Num → Result ℕ Reason
-number_in m most (unsigned n) = unless (not (nat_le 1 n && nat_le n most)) (BadValue m) n
-number_in m most (negative z) = Err (BadValue m)
-number_in m most (float x) = Err NotWhole
+-- a whole number from the least to the greatest that is allowed
+abbrev pub number_in : LineMember → ℕ → ℕ → Num → Result ℕ Reason
+number_in m least most (unsigned n) = unless (not (nat_le least n && nat_le n most)) (BadValue m) n
+number_in m least most (negative z) = Err (BadValue m)
+number_in m least most (float x) = Err NotWhole
 
--- a whole number from 1 to the most that is allowed; another value is of the wrong type
+-- such a number; another value is of the wrong type
+abbrev pub whole_of : LineMember → ℕ → ℕ → Data → Result ℕ Reason
+whole_of m least most null = Err (WrongType m)
+whole_of m least most (boolean b) = Err (WrongType m)
+whole_of m least most (number n) = number_in m least most n
+whole_of m least most (string s) = Err (WrongType m)
+whole_of m least most (array ds) = Err (WrongType m)
+whole_of m least most (object ms) = Err (WrongType m)
+
+-- a whole number from 1 to the most that is allowed
 abbrev pub count_of : LineMember → ℕ → Data → Result ℕ Reason
-count_of m most null = Err (WrongType m)
-count_of m most (boolean b) = Err (WrongType m)
-count_of m most (number n) = number_in m most n
-count_of m most (string s) = Err (WrongType m)
-count_of m most (array ds) = Err (WrongType m)
-count_of m most (object ms) = Err (WrongType m)
+count_of m most d = whole_of m 1 most d
 
 -- such a number that has to be there
 abbrev pub count_at : LineMember → ℕ → Data → Result ℕ Reason
 count_at m most line = needed m line >>= λ d. count_of m most d
+
+-- how many claims a quota may allow
+abbrev pub most_claims : ℕ
+most_claims = 1024
+
+-- how many claims a quota allows, which may be none
+abbrev pub claims_at : Data → Result ℕ Reason
+claims_at line = needed members.Claims line >>= λ d. whole_of members.Claims 0 most_claims d
 
 -- the number of a call
 abbrev pub most_call : ℕ

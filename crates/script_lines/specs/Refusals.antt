@@ -26,6 +26,7 @@ reason_word reasons.TooManyFaults = codes "TooManyFaults"
 reason_word reasons.TooManyRestarts = codes "TooManyRestarts"
 reason_word reasons.TooManyLosses = codes "TooManyLosses"
 reason_word reasons.TooManyTurns = codes "TooManyTurns"
+reason_word reasons.TooManyQuotas = codes "TooManyQuotas"
 
 -- the member that a refusal names, if it names one
 abbrev pub reason_member : Reason → Option LineMember

@@ -38,6 +38,8 @@ pub enum Reason {
     TooManyLosses,
     /// The calls of all turn lines together are too many.
     TooManyTurns,
+    /// More namespaces are given a quota than an extended script may have.
+    TooManyQuotas,
 }
 
 /// The first line at fault, counted from 1, and why.

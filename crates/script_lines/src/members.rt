@@ -9,7 +9,7 @@ ghost use Rattle.object_text.specs.declared.errors.Member.TheVariants as manifes
 ghost use Rattle.script_lines.specs.Answers.{MemberGives, MemberGivesBy};
 ghost use Rattle.script_lines.specs.Steps.Results.{object_line_error, size_line_error};
 ghost use Rattle.script_lines.specs.Actors.{actor_named};
-ghost use Rattle.script_lines.specs.Members.{at as at_line, needed, text_of, text_at, object_value_of, count_of, count_at, most_call, user_at, kind_from, kind_at, namespace_at, condition_at, key_at, object_taken, object_at, actor_from, actor_at, when_named, when_at, size_taken, size_at, value_from, topology_at};
+ghost use Rattle.script_lines.specs.Members.{at as at_line, needed, text_of, text_at, object_value_of, whole_of, count_at, claims_at, most_call, user_at, kind_from, kind_at, namespace_at, condition_at, key_at, object_taken, object_at, actor_from, actor_at, when_named, when_at, size_taken, size_at, value_from, topology_at};
 
 use crate::actors::{Actor, actor_named};
 use crate::errors::{LineError, Reason};
@@ -31,6 +31,9 @@ use std::alloc::Global;
 
 /// The greatest number of a call.
 const MOST_CALL: u64 = 999_999_999;
+
+/// How many claims a quota may allow.
+const MOST_CLAIMS: u64 = 1024;
 
 /// How many users there are.
 const USERS: u64 = 4;
@@ -97,8 +100,8 @@ pub fn object_of<'v>(value: &'v Value, member: LineMember) -> Result<&'v Value, 
     }
 }
 
-fn count_of(value: &Value, member: LineMember, most: u64) -> Result<u64, LineError>
-    ensures { MemberGives result (count_of member most (view value.now)) }
+fn whole_of(value: &Value, member: LineMember, least: u64, most: u64) -> Result<u64, LineError>
+    ensures { MemberGives result (whole_of member least most (view value.now)) }
 {
     match value {
         Value::Number(number) => {
@@ -107,7 +110,7 @@ fn count_of(value: &Value, member: LineMember, most: u64) -> Result<u64, LineErr
             }
             match number.as_u64() {
                 Some(n) => {
-                    if n < 1 || n > most {
+                    if n < least || n > most {
                         return Err(LineError::Refused(Reason::BadValue(member)));
                     }
                     Ok(n)
@@ -124,7 +127,15 @@ pub fn count_at(line: &Value, member: LineMember, most: u64) -> Result<u64, Line
     ensures { MemberGives result (count_at member most (view line.now)) }
 {
     let value = needed(line, member)?;
-    count_of(value, member, most)
+    whole_of(value, member, 1, most)
+}
+
+/// How many claims a quota allows: from 0 to 1,024, which has to be there.
+pub fn claims_at(line: &Value) -> Result<u64, LineError>
+    ensures { MemberGives result (claims_at (view line.now)) }
+{
+    let value = needed(line, LineMember::Claims)?;
+    whole_of(value, LineMember::Claims, 0, MOST_CLAIMS)
 }
 
 /// The number of a call, which has to be there.
@@ -140,7 +151,7 @@ pub fn user_at(line: &Value) -> Result<u64, LineError>
 {
     match at(line, LineMember::User) {
         None => Ok(1),
-        Some(value) => count_of(value, LineMember::User, USERS),
+        Some(value) => whole_of(value, LineMember::User, 1, USERS),
     }
 }
 

@@ -30,6 +30,7 @@ fn reason_word(reason: Reason) -> &'static str
         Reason::TooManyRestarts => "TooManyRestarts",
         Reason::TooManyLosses => "TooManyLosses",
         Reason::TooManyTurns => "TooManyTurns",
+        Reason::TooManyQuotas => "TooManyQuotas",
     }
 }
 
