@@ -195,9 +195,13 @@ abbrev pub numbered_from : Result Said BadLine → Result Numbered BadLine
 numbered_from (Ok said) = Ok (numbered_of said)
 numbered_from (Err b) = Err b
 
--- the script of a text, and the numbers of its lines; or the first line at fault and the first of its reasons
+-- the script of these lines, and their numbers; or the first line at fault and the first of its reasons
+abbrev pub read_lines_of : List (List ℕ) → Result Numbered BadLine
+read_lines_of lines = numbered_from (said_in lines)
+
+-- the same of a text, which is lines between line feeds
 unfoldable pub read_numbered_of : List ℕ → Result Numbered BadLine
-read_numbered_of text = numbered_from (said_in (lines_of text))
+read_numbered_of text = read_lines_of (lines_of text)
 
 -- the script without the numbers of its lines
 abbrev pub script_from : Result Numbered BadLine → Result Script BadLine

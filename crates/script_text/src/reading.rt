@@ -8,7 +8,7 @@ ghost use Rattle.object_text.specs.Reading.{value_of};
 ghost use Rattle.script_lines.specs.Answers.{MemberGives, MemberGivesBy, ScriptGives, taken_in_line};
 ghost use Rattle.script_text.specs.Said.{agents_of, and_node, created_node, meaning_node, nodes_of};
 ghost use Rattle.script_text.specs.LineReaders.{meaning_of};
-ghost use Rattle.script_text.specs.Grammar.{agents_in, and_filled, and_line, is_blank, line_value, lines_of, node_from, own_object, read_numbered_of, said_in, script_of};
+ghost use Rattle.script_text.specs.Grammar.{agents_in, and_filled, and_line, is_blank, line_value, lines_of, node_from, own_object, read_lines_of, read_numbered_of, said_in, script_of};
 ghost use Rattle.script_text.specs.Steps.Indexed.{ProgressStands, Takes, said_by};
 ghost use Rattle.script_text.specs.Steps.Known.{IfNamed, IsKnown, SaidGives, names_actor};
 
@@ -255,8 +255,8 @@ fn take_line(
     take_filled(alloc, lines, known, progress, number, line)
 }
 
-/// Takes the room for all lines at once, and is refused where that is.
-fn lines_of(alloc: Global, text: &[u8]) -> Result<Vec<&[u8]>, AllocError>
+/// The parts between line feeds. It takes the room for all lines at once, and is refused where that is.
+pub fn lines_of(alloc: Global, text: &[u8]) -> Result<Vec<&[u8]>, AllocError>
     ensures { IfOk result (λ lines. map (λ line. line.now) lines.items ≡ lines_of text.now) }
 {
     let ends = text.iter().filter(|byte| **byte == 10).count();
@@ -290,6 +290,15 @@ fn said_in(alloc: Global, lines: &[&[u8]]) -> Result<Progress, ScriptError>
     Ok(progress)
 }
 
+/// The script of these lines, with the number that each has among them, from 1. They have no line feeds.
+pub fn read_lines(alloc: Global, lines: &[&[u8]]) -> Result<Numbered, ScriptError>
+    ensures gives { ScriptGives result (read_lines_of (map (λ line. line.now) lines.now)) }
+    ensures nodes { IfOk result (λ n. n.script.node_names ≡ nodes_of (agents_of n.script.setup.imports n.script.lines)) }
+{
+    let progress = said_in(alloc, lines)?;
+    Ok(progress.into_numbered(alloc)?)
+}
+
 /// The script of a text, with the number that each of its lines has there. A text is lines that end in a
 /// line feed; the last may lack it.
 #[tactic(auto, unfolding(crate::specs::Grammar::read_numbered_of))]
@@ -298,8 +307,7 @@ pub fn read_numbered(alloc: Global, text: &[u8]) -> Result<Numbered, ScriptError
     ensures nodes { IfOk result (λ n. n.script.node_names ≡ nodes_of (agents_of n.script.setup.imports n.script.lines)) }
 {
     let lines = lines_of(alloc, text)?;
-    let progress = said_in(alloc, &lines)?;
-    Ok(progress.into_numbered(alloc)?)
+    read_lines(alloc, &lines)
 }
 
 /// The script of a text.
