@@ -5,7 +5,7 @@ use Rattle.call_types.specs.declared.setup.Setup.{Setup}
 use Rattle.binder_model.specs.Promises.{IsRunOf}
 use Rattle.actor_rounds.specs.declared.drainers.Drainer.{Drainer}
 use Rattle.actor_rounds.specs.Drainers.{AreAtRest}
-use Rattle.actor_rounds.specs.Rounds.{Drains, Goes, IsSpent, Lets, NothingDue}
+use Rattle.actor_rounds.specs.Rounds.{Drains, Goes, IsSpent, Lets, NothingDue, round_of}
 use Rattle.actor_rounds.proofs.DrainFacts.{drains_grow}
 use Rattle.actor_rounds.proofs.RoundFacts.{round_part}
 use Rattle.settle_pays.specs.Pays.Pays.{HavePaid}
@@ -30,12 +30,12 @@ module _ (setup : Setup) (allow : ImportsAllow setup) (lets : Lets) (after : Lis
       let g = drains_grow lets setup after past left between middle rest more in
       let here : IsRunOf setup middle = older_run setup g.longer.added middle (subst (IsRunOf setup) g.longer.are run) in
       let leaves = rounds_leave_drainers setup lets ds between h middle b rest may here round in
-      then_paid setup h middle past (round_paid setup allow ds may.stand.roles rests lets between h middle b rest true here round) (drain_paid between middle rest leaves.0 leaves.1 more)
+      then_paid setup h middle past (round_paid setup lets (round_of round) allow may.stand.roles rests here) (drain_paid between middle rest leaves.0 leaves.1 more)
   drain_paid ds h b may rests (Goes first due some between middle rest false round more) =
       let g = drains_grow lets setup after past left between middle rest more in
       let here : IsRunOf setup middle = older_run setup g.longer.added middle (subst (IsRunOf setup) g.longer.are run) in
       let spent = round_part lets middle rest ds h b between false round refl in
-      then_paid setup h middle past (round_paid setup allow ds may.stand.roles rests lets between h middle b rest false here round)
+      then_paid setup h middle past (round_paid setup lets (round_of round) allow may.stand.roles rests here)
       (none_paid setup middle past (none_left between middle rest more spent))
 
 pub drains_pay : DrainsPay

@@ -24,4 +24,4 @@ module _ (setup : Setup) (lets : Lets) (past : List Entry) (left : ℕ) (run : I
       (rounds_pay ds middle rest after whole more (λ place x at. payers (suc place) x at))
 
 pub rounds_of_payers_pay : RoundsOfPayersPay
-rounds_of_payers_pay setup lets ds after h past b left whole run round payers = rounds_pay setup lets past left run ds h b after whole round payers
+rounds_of_payers_pay setup lets round run payers = rounds_pay setup lets round.past round.left run round.drainers round.start round.budget round.after round.whole round.is_round payers

@@ -1,6 +1,6 @@
 -- All actors of a drain pay, in every setup whose imports allow it.
 -- A choice of this project.
-use Rattle.std.specs.Prelude.{ℕ, Bool, List}
+use Rattle.std.specs.Prelude.{ℕ, List}
 use Rattle.call_types.specs.declared.entry.Entry.{Entry}
 use Rattle.call_types.specs.declared.setup.Setup.{Setup}
 use Rattle.binder_model.specs.Promises.{IsRunOf}
@@ -8,7 +8,7 @@ use Rattle.worker_core.specs.declared.role.Role.{Role}
 use Rattle.worker_core.specs.Roles.{IsBuiltKind}
 use Rattle.actor_rounds.specs.declared.drainers.Drainer.{Drainer}
 use Rattle.actor_rounds.specs.Drainers.{AreAtRest, AreRoles, roles_of}
-use Rattle.actor_rounds.specs.Rounds.{Drains, IsRound, Lets}
+use Rattle.actor_rounds.specs.Rounds.{Drains, Lets, RoundOf}
 use Rattle.settle_pays.specs.Pays.Pays.{DecisionsPay, HasFallen, HavePaid}
 use Rattle.settle_pays.specs.Actors.Reclaiming.{UidsFit}
 use Rattle.settle_progress.specs.Drains.Settling.{MayDrain}
@@ -30,9 +30,8 @@ ActorsPay = (setup : Setup) (seat : ℕ) (role : Role) → IsBuiltKind role.kind
 -- a round of the actors of a drain, with nothing under way, pays off, be it whole or not
 abbrev pub RoundsOfActorsPay : Type 0
 RoundsOfActorsPay =
-    (setup : Setup) (lets : Lets) (ds after : List Drainer) (h past : List Entry) (b left : ℕ) (whole : Bool) → ImportsAllow setup
-    → AreRoles (roles_of ds) → AreAtRest ds → IsRunOf setup past → IsRound lets past left ds h b after whole
-    → PaysOff setup h past
+    (setup : Setup) (lets : Lets) (round : RoundOf lets) → ImportsAllow setup → AreRoles (roles_of round.drainers) → AreAtRest round.drainers
+    → IsRunOf setup round.past → PaysOff setup round.start round.past
 
 -- so does a drain from end to end, which leaves nothing under way between its rounds
 abbrev pub DrainsPay : Type 0

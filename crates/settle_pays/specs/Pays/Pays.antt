@@ -20,7 +20,7 @@ use Rattle.worker_core.specs.Roles.{IsBuiltKind}
 use Rattle.worker_core.specs.States.{ActorState}
 use Rattle.worker_core.specs.Tasks.{GivesCall, under_after}
 use Rattle.actor_rounds.specs.declared.drainers.Drainer.{Drainer}
-use Rattle.actor_rounds.specs.Rounds.{IsRound, Lets, Runs}
+use Rattle.actor_rounds.specs.Rounds.{Lets, RoundOf, Runs}
 use Rattle.settle_writes.specs.Writes.Lasting.{HasLasting, Lasts}
 use Rattle.settle_alike.specs.Alike.Alike.{AreAlike}
 use Rattle.settle_slot.specs.Slot.Slots.{IsDecisionPoint, own_entry}
@@ -100,5 +100,5 @@ pub record IsPayer (setup : Setup) (d : Drainer) : Type 0 where
 -- so each entry of a round of such actors pays, be the round whole or not
 abbrev pub RoundsOfPayersPay : Type 0
 RoundsOfPayersPay =
-    (setup : Setup) (lets : Lets) (ds after : List Drainer) (h past : List Entry) (b left : ℕ) (whole : Bool) → IsRunOf setup past → IsRound lets past left ds h b after whole
-    → ((place : ℕ) (d : Drainer) → slice_get ds place ≡ Some d → IsPayer setup d) → HavePaid setup h past
+    (setup : Setup) (lets : Lets) (round : RoundOf lets) → IsRunOf setup round.past
+    → ((place : ℕ) (d : Drainer) → slice_get round.drainers place ≡ Some d → IsPayer setup d) → HavePaid setup round.start round.past
