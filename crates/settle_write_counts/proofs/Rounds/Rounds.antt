@@ -13,7 +13,7 @@ use Rattle.worker_core.specs.Absorbs.{woken}
 use Rattle.worker_core.specs.States.{ActorState}
 use Rattle.actor_rounds.specs.declared.drainers.Drainer.{Drainer}
 use Rattle.actor_rounds.specs.Drainers.{AreRoles, agent_of, roles_of}
-use Rattle.actor_rounds.specs.Rounds.{Ends, IsRound, Lets, Runs, Turns}
+use Rattle.actor_rounds.specs.Rounds.{Ends, IsRound, Lets, RoundOf, Runs, Turns}
 use Rattle.actor_rounds.proofs.RoundFacts.{round_grows}
 use Rattle.actor_rounds.proofs.RunFacts.{run_grows}
 use Rattle.settle_calls.specs.Slots.Slots.{writes_since}
@@ -131,12 +131,15 @@ module _ (setup : Setup) (lets : Lets) (past : List Entry) (left : ℕ) (run : I
 
 -- however much the scheduler may write
 pub rounds_write_as :
-    (setup : Setup) (lets : Lets) (ds after : List Drainer) (h past : List Entry) (b left : ℕ) (whole : Bool) → AreRoles (roles_of ds) → IsRunOf setup past → IsRound lets past left ds h b after whole
-    → ((place : ℕ) (d : Drainer) → slice_get ds place ≡ Some d → IsPayer setup d) → WritesLittleFrom setup lets h
-    → writes_since setup h past + to_write setup (world setup past) ≤ to_write setup (world setup h) + 2 * pods_writes (world setup h)
-rounds_write_as setup lets ds after h past b left whole roles run round payers few = whole_round setup lets past left run ds h b after whole round (stand_so (roles_of ds) roles) payers few
+    (setup : Setup) (lets : Lets) (round : RoundOf lets) → AreRoles (roles_of round.drainers) → IsRunOf setup round.past
+    → ((place : ℕ) (d : Drainer) → slice_get round.drainers place ≡ Some d → IsPayer setup d) → WritesLittleFrom setup lets round.start
+    → writes_since setup round.start round.past + to_write setup (world setup round.past)
+    ≤ to_write setup (world setup round.start) + 2 * pods_writes (world setup round.start)
+rounds_write_as setup lets round roles run payers few =
+    whole_round setup lets round.past round.left run round.drainers round.start round.budget round.after round.whole round.is_round
+    (stand_so (roles_of round.drainers) roles) payers few
 
 pub rounds_write_little : RoundsWriteLittle
-rounds_write_little setup lets ds after h past b left whole roles run round payers few =
-    rounds_write_as setup lets ds after h past b left whole roles run round payers
-    (λ seat old ran middle c rest idle kind here rests runs. schedulers_write_little setup lets seat old ran h middle c rest idle kind here rests few runs)
+rounds_write_little setup lets round roles run payers few =
+    rounds_write_as setup lets round roles run payers
+    (λ seat old ran middle c rest idle kind here rests runs. schedulers_write_little setup lets seat old ran round.start middle c rest idle kind here rests few runs)

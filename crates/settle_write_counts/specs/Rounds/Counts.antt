@@ -21,7 +21,7 @@ use Rattle.worker_core.specs.Roles.{IsBuiltKind}
 use Rattle.worker_core.specs.States.{ActorState}
 use Rattle.actor_rounds.specs.declared.drainers.Drainer.{Drainer}
 use Rattle.actor_rounds.specs.Drainers.{AreRoles, roles_of}
-use Rattle.actor_rounds.specs.Rounds.{IsRound, Lets, Runs}
+use Rattle.actor_rounds.specs.Rounds.{Lets, RoundOf, Runs}
 use Rattle.settle_calls.specs.Slots.Slots.{writes_since}
 use Rattle.settle_write_counts.specs.Scheduler.Pods.{pods_writes}
 use Rattle.settle_pays.specs.Pays.Pays.{DecisionsPay, IsPayer}
@@ -91,6 +91,7 @@ SchedulersSelectFew =
 -- may take each node back
 abbrev pub RoundsWriteLittle : Type 0
 RoundsWriteLittle =
-    (setup : Setup) (lets : Lets) (ds after : List Drainer) (h past : List Entry) (b left : ℕ) (whole : Bool) → AreRoles (roles_of ds) → IsRunOf setup past → IsRound lets past left ds h b after whole
-    → ((place : ℕ) (d : Drainer) → slice_get ds place ≡ Some d → IsPayer setup d) → pods_writes (world setup h) ≤ 512
-    → writes_since setup h past + to_write setup (world setup past) ≤ to_write setup (world setup h) + 2 * pods_writes (world setup h)
+    (setup : Setup) (lets : Lets) (round : RoundOf lets) → AreRoles (roles_of round.drainers) → IsRunOf setup round.past
+    → ((place : ℕ) (d : Drainer) → slice_get round.drainers place ≡ Some d → IsPayer setup d) → pods_writes (world setup round.start) ≤ 512
+    → writes_since setup round.start round.past + to_write setup (world setup round.past)
+    ≤ to_write setup (world setup round.start) + 2 * pods_writes (world setup round.start)
