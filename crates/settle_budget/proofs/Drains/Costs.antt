@@ -11,7 +11,7 @@ use Rattle.model_laws.proofs.Histories.{rows_stand_in_order}
 use Rattle.settle_measure.specs.Left.Measure.{claims_in, work_left}
 use Rattle.actor_rounds.specs.declared.drainers.Drainer.{Drainer}
 use Rattle.actor_rounds.specs.Drainers.{AreAtRest, roles_of}
-use Rattle.actor_rounds.specs.Rounds.{Drains, Goes, IsRound, IsSpent, Lets, NothingDue}
+use Rattle.actor_rounds.specs.Rounds.{Drains, Goes, IsRound, IsSpent, Lets, NothingDue, round_of}
 use Rattle.actor_rounds.proofs.DrainFacts.{drains_grow}
 use Rattle.actor_rounds.proofs.RoundFacts.{roles_built, round_part, round_seats, same_length}
 use Rattle.settle_calls.specs.Slots.Slots.{PassesReads, writes_since}
@@ -103,11 +103,11 @@ module _ (setup : Setup) (lets : Lets) (after : List Drainer) (past : List Entry
       nodes = selected newer h are at.given
 
       written : writes_since setup h middle + to_write setup (world setup middle) ≤ to_write setup (world setup h) + 2 * pods_writes (world setup h)
-      written = let p = pods in rounds_write_little setup lets ds between h middle b rest whole at.may.stand.roles here round (payer_at setup allow
+      written = let p = pods in rounds_write_little setup lets (round_of round) at.may.stand.roles here (payer_at setup allow
           ds at.may.stand.roles at.rests) (omega (arith, p, few))
 
       less : work_left setup (world setup middle) ≤ work_left setup (world setup h)
-      less = (rounds_pay setup lets ds between h middle b rest whole allow at.may.stand.roles at.rests here round).fallen.stays
+      less = (rounds_pay setup lets (round_of round) allow at.may.stand.roles at.rests here).fallen.stays
 
       all : writes_since setup h middle + work_left setup (world setup middle) ≤ work_left setup (world setup h) + (claims_in (world setup start).store.rows + 2 * pods_size (world setup start))
       all = let w = written in let p = pods in let n = nodes in omega (arith, w, p, n)

@@ -11,7 +11,7 @@ use Rattle.binder_model.specs.World.{world}
 use Rattle.actor_rounds.specs.declared.drainers.Drainer.{Drainer}
 use Rattle.actor_rounds.specs.Drainers.{roles_of}
 use Rattle.actor_rounds.specs.Longer.{users_of}
-use Rattle.actor_rounds.specs.Rounds.{Drains, Goes, IsRound, IsSpent, NothingDue, all_pass}
+use Rattle.actor_rounds.specs.Rounds.{Drains, Goes, IsRound, IsSpent, NothingDue, all_pass, round_of}
 use Rattle.actor_rounds.proofs.DrainFacts.{drains_grow}
 use Rattle.actor_rounds.proofs.RoundFacts.{roles_built, round_part, round_roles, round_users}
 use Rattle.settle_writes.specs.Writes.Lasting.{HasLasting}
@@ -67,7 +67,7 @@ module _ (setup : Setup) (allow : ImportsAllow setup) (after : List Drainer) (pa
   passed : (ds between : List Drainer) (h middle : List Entry) (b rest : ℕ) (whole : Bool) → MaySettle setup ds h → IsRunOf setup middle
       → IsRound all_pass middle rest ds h b between whole → IsPassed h middle
   passed ds between h middle b rest whole at here round =
-      let p = round_paid setup allow ds at.may.stand.roles at.rests all_pass between h middle b rest whole here round in
+      let p = round_paid setup all_pass (round_of round) allow at.may.stand.roles at.rests here in
       let users : users_of (p.newer ++ h) ≡ users_of h = ap users_of (sym p.are) ∙ round_users all_pass middle rest ds h b between whole round (roles_built (roles_of ds) at.may.stand.roles) in
       record { newer = p.newer; are = p.are; lowered = paid_entries_lower setup p.newer h (subst (IsRunOf setup) p.are here) (of_actors p.newer h users) p.each }
 

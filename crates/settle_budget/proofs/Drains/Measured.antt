@@ -6,7 +6,7 @@ use Rattle.binder_model.specs.Promises.{IsRunOf}
 use Rattle.binder_model.specs.World.{world}
 use Rattle.settle_measure.specs.Left.Measure.{work_left}
 use Rattle.actor_rounds.specs.declared.drainers.Drainer.{Drainer}
-use Rattle.actor_rounds.specs.Rounds.{Drains, Goes, IsSpent, NothingDue, all_pass}
+use Rattle.actor_rounds.specs.Rounds.{Drains, Goes, IsSpent, NothingDue, all_pass, round_of}
 use Rattle.actor_rounds.proofs.DrainFacts.{drains_grow}
 use Rattle.actor_rounds.proofs.RoundFacts.{round_part, same_or_not}
 use Rattle.settle_progress.proofs.Epochs.Silent.{older_run}
@@ -71,7 +71,7 @@ module _ (setup : Setup) (allow : ImportsAllow setup) (are : AreTries setup) (af
           → 1 + rounds_in all_pass setup after past left between middle rest drained + done ≤ 1 + (10 * work_left setup (world setup h) + most)
       by (inl same) rounds = let later = rounds start from most (done + 1) bound (OneMore done ds h b rest first refl quiet due round same) in omega (arith, same, later)
       by (inr other) rounds =
-          let stays = (rounds_pay setup all_pass ds between h middle b rest true allow at.may.stand.roles at.rests here round).fallen.stays in
+          let stays = (rounds_pay setup all_pass (round_of round) allow at.may.stand.roles at.rests here).fallen.stays in
           let later = rounds between middle 9 0 (are.next ds between h middle b rest allow at small here round (are.shares ds between h middle b rest at here round shares)) (NoRound refl refl refl) in
           omega (arith, stays, other, later, few)
 
