@@ -12,7 +12,6 @@ use Rattle.actor_rounds.specs.declared.drainers.Drainer.{Drainer}
 use Rattle.actor_rounds.specs.Rounds.{Drains, Goes, IsSpent, Lets, NothingDue}
 use Rattle.settle_write_counts.specs.Scheduler.Pods.{pod_writes}
 use Rattle.settle_write_counts.specs.Rounds.Rounds.{pod_size}
-use Rattle.settle_write_counts.proofs.Rounds.Sums.{sum}
 
 -- what a scheduler may write is no more than the pods and the claims that they name
 pub writes_few : (rows : List Object) → total pod_writes rows ≤ total pod_size rows

@@ -3,7 +3,6 @@
 use Rattle.std.specs.Prelude.{ℕ, ◌+◌, List}
 use Rattle.call_types.specs.declared.entry.Entry.{Entry}
 use Rattle.call_types.specs.declared.setup.Setup.{Setup}
-use Rattle.binder_model.specs.World.{world}
 use Rattle.actor_rounds.specs.declared.drainers.Drainer.{Drainer}
 use Rattle.actor_rounds.specs.Rounds.{Drains, Goes, IsSpent, Lets, NothingDue}
 

@@ -9,7 +9,7 @@ use Rattle.kube_objects.specs.Keys.{row_at}
 use Rattle.call_types.specs.declared.setup.Setup.{Setup}
 use Rattle.binder_model.specs.ObjectKeys.{volume_key}
 use Rattle.binder_model.specs.Provisioning.{data_name}
-use Rattle.binder_model.specs.World.{World, world}
+use Rattle.binder_model.specs.World.{World}
 use Rattle.settle_measure.specs.Left.Measure.{claims_in, faults_left, total, unless, volumes_in}
 use Rattle.settle_write_counts.specs.Rounds.Counts.{nodes_in}
 

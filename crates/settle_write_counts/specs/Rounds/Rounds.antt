@@ -3,7 +3,7 @@
 use Rattle.std.specs.Prelude.{ℕ, ◌+◌, length}
 use Rattle.kube_objects.specs.declared.objects.Object.{Object}
 use Rattle.kube_objects.specs.declared.objects.Object.TheVariants.{Pod}
-use Rattle.binder_model.specs.World.{World, world}
+use Rattle.binder_model.specs.World.{World}
 use Rattle.settle_measure.specs.Left.Measure.{claims_in, total}
 use Rattle.settle_calls.specs.Slots.Rounds.{size_of_world}
 
