@@ -4,7 +4,7 @@ use Rattle.call_types.specs.declared.entry.Entry.{Entry}
 use Rattle.call_types.specs.declared.setup.Setup.{Setup}
 use Rattle.binder_model.specs.Promises.{IsRunOf}
 use Rattle.actor_rounds.specs.declared.drainers.Drainer.{Drainer}
-use Rattle.actor_rounds.specs.Rounds.{Drains, Goes, IsSpent, Lets, NothingDue}
+use Rattle.actor_rounds.specs.Rounds.{Drains, Goes, IsSpent, Lets, NothingDue, round_of}
 use Rattle.actor_rounds.proofs.DrainFacts.{drains_grow}
 use Rattle.actor_rounds.proofs.RoundFacts.{round_part, round_seats, same_length}
 use Rattle.settle_slot.specs.Slot.Gates.{HoldsMountsAlone}
@@ -37,13 +37,13 @@ module _ (setup : Setup) (lets : Lets) (after : List Drainer) (past : List Entry
       let in_order = order_at between middle rest more in
       let leaves = rounds_leave_drainers setup lets ds between h middle b rest may here round in
       let many = same_length between ds (round_seats lets middle rest ds h b between true round) in (
-        λ small. every_round_is_short setup lets ds between h middle b rest true allow may.stand.roles here holds round few in_order small,
+        λ small. every_round_is_short setup lets (round_of round) allow may.stand.roles here holds few in_order small,
         each_short between middle rest leaves.0 (omega (arith, many, few)) more,
       )
   each_short ds h b may few (Goes first due some between middle rest false round more) =
       let here = run_at between middle rest more in
       let in_order = order_at between middle rest more in (
-        λ small. every_round_is_short setup lets ds between h middle b rest false allow may.stand.roles here holds round few in_order small,
+        λ small. every_round_is_short setup lets (round_of round) allow may.stand.roles here holds few in_order small,
         none_more lets setup after past left between middle rest (round_part lets middle rest ds h b between false round refl) more,
       )
 

@@ -1,6 +1,7 @@
 -- A round makes few calls, whatever its actors have under way as it begins: the sum of its slots, role by role.
 use Rattle.std.proofs.Common.{◌≡◌, ℕ, ◌+◌, ◌*◌, ◌≤◌, List, [], ◌∷◌, ◌++◌, append_assoc, length, Bool, refl, sym, ◌∙◌, ap, subst, arith}
 use Rattle.std.specs.Prelude.{◌/◌, map, ⊤}
+use Rattle.kube_objects.specs.declared.objects.Object.{Object}
 use Rattle.call_types.specs.declared.entry.Entry.{Entry}
 use Rattle.call_types.specs.declared.request.SeatKind.TheVariants as seats
 use Rattle.call_types.specs.declared.setup.Setup.{Setup}
@@ -12,7 +13,7 @@ use Rattle.worker_core.specs.declared.role.Role.{Role}
 use Rattle.worker_core.specs.Roles.{IsBuiltKind}
 use Rattle.actor_rounds.specs.declared.drainers.Drainer.{Drainer}
 use Rattle.actor_rounds.specs.Drainers.{AreRoles, agent_of, roles_of}
-use Rattle.actor_rounds.specs.Rounds.{Ends, IsRound, Lets, Turns}
+use Rattle.actor_rounds.specs.Rounds.{Ends, IsRound, Lets, RoundOf, Turns}
 use Rattle.actor_rounds.proofs.RoundFacts.{round_grows}
 use Rattle.settle_slot.specs.Slot.Gates.{HoldsMountsAlone}
 use Rattle.settle_calls.proofs.Events.Sums.{div_less, mul_less}
@@ -25,7 +26,7 @@ use Rattle.settle_pays.specs.Drains.All.{ImportsAllow}
 use Rattle.settle_due.specs.Begun.Begun.{begins_to_last}
 use Rattle.settle_budget.specs.Drains.Budget.{AreAlwaysInOrder}
 use Rattle.settle_round_calls.proofs.Sure.Lasting.{sure_built}
-use Rattle.settle_round_calls.specs.Rest.ShortRounds.{agent_sweep_calls}
+use Rattle.settle_round_calls.specs.Rest.ShortRounds.{HasShortRounds, agent_sweep_calls, stated_calls}
 use Rattle.settle_round_calls.proofs.Rest.Kept.{scheduler_keeps}
 use Rattle.settle_round_calls.proofs.Rest.Rounds.{agents_sweep, lengths, middle_run, nodes_many, split}
 use Rattle.settle_round_calls.proofs.Rest.Short.{objects, pods_few, sizes}
@@ -225,17 +226,32 @@ module _ (setup : Setup) (lets : Lets) (past : List Entry) (left : ℕ) (allow :
 
 -- ---- all roles of a drain
 
+module _ (setup : Setup) (lets : Lets) (round : RoundOf lets) where
+  -- what stands as the round begins
+  abbrev rows : List Object
+  rows = (world setup round.start).store.rows
+
+  -- the planned faults that are ahead then
+  abbrev faults : ℕ
+  faults = faults_left setup (world setup round.start).devices
+
+  -- its calls, summed, are no more than the stated number
+  summed : ImportsAllow setup → AreRoles (roles_of round.drainers) → IsRunOf setup round.past → HoldsMountsAlone lets → length round.drainers ≤ 13 → AreAlwaysInOrder setup round.past
+      → HasShortRounds (world setup round.start) → round.budget ≤ round.left + stated_calls setup (world setup round.start)
+  summed allow roles run holds few order small =
+      let many : length round.drainers ≡ 5 + length roles.nodes = (let a = lengths round.drainers in
+      let c = ap (λ (rs : List Role). length rs) roles.are in let d = nodes_many roles.nodes in omega (arith, a, c, d)) in
+      let all = whole_round setup lets round.past round.left allow run holds order round.start (length roles.nodes) round.drainers round.start round.budget round.after round.whole
+      round.is_round (stand_so (roles_of round.drainers) roles) many in
+      let costs_all = all.costs in
+      let done_all = all.done in
+      let counts = sizes rows in
+      let stand = objects rows in
+      let pods = pods_few rows in
+      let most = left_is_bounded rows (world setup round.start).devices in
+      let number = stated (total (λ o. 1 + names_in o) rows) (claims_in rows) (volumes_in rows) (total pod_size rows) (pods_in rows) faults (writes_since setup round.start round.past)
+      (length roles.nodes) counts (omega (arith, stand, small)) pods (omega (arith, many, few)) (omega (arith, done_all, most)) in
+      omega (arith, costs_all, number)
+
 pub every_round_is_short : EveryRoundIsShort
-every_round_is_short setup lets ds after h past b left whole allow roles run holds round few order small =
-    let many : length ds ≡ 5 + length roles.nodes = (let a = lengths ds in let c = ap (λ (rs : List Role). length rs) roles.are in let d = nodes_many roles.nodes in omega (arith, a, c, d)) in
-    let all = whole_round setup lets past left allow run holds order h (length roles.nodes) ds h b after whole round (stand_so (roles_of ds) roles) many in
-    let costs_all = all.costs in
-    let done_all = all.done in
-    let counts = sizes (world setup h).store.rows in
-    let stand = objects (world setup h).store.rows in
-    let pods = pods_few (world setup h).store.rows in
-    let most = left_is_bounded (world setup h).store.rows (world setup h).devices in
-    let number = stated (total (λ o. 1 + names_in o) (world setup h).store.rows) (claims_in (world setup h).store.rows)
-    (volumes_in (world setup h).store.rows) (total pod_size (world setup h).store.rows) (pods_in (world setup h).store.rows) (faults_left setup (world setup h).devices) (writes_since setup h past)
-    (length roles.nodes) counts (omega (arith, stand, small)) pods (omega (arith, many, few)) (omega (arith, done_all, most)) in
-    omega (arith, costs_all, number)
+every_round_is_short setup lets round allow roles run holds few order small = summed setup lets round allow roles run holds few order small
