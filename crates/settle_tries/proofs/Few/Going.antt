@@ -9,7 +9,7 @@ use Rattle.kube_parts.specs.declared.uid.Uid.{Uid}
 use Rattle.kube_parts.specs.declared.names.Due.TheVariants as dues
 use Rattle.kube_objects.specs.declared.objects.Claim.{Claim as ClaimData}
 use Rattle.kube_objects.specs.declared.objects.Object.{Object}
-use Rattle.kube_objects.specs.declared.objects.Object.TheVariants.{Node, Claim, Pod}
+use Rattle.kube_objects.specs.declared.objects.Object.TheVariants.{Claim, Pod}
 use Rattle.kube_objects.specs.declared.objects.Node.{Node as NodeData}
 use Rattle.kube_objects.specs.declared.objects.Pod.{Pod as PodData}
 use Rattle.kube_parts.specs.declared.parts.Kind.TheVariants as kinds

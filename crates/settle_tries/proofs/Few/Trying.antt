@@ -26,7 +26,7 @@ use Rattle.settle_measure.specs.Left.Tries.{TriesLeft, in_turn}
 use Rattle.settle_measure.proofs.Left.Trying.{tries_are_few}
 use Rattle.actor_rounds.specs.declared.drainers.Drainer.{Drainer}
 use Rattle.actor_rounds.specs.Drainers.{agent_of, roles_for, roles_of}
-use Rattle.actor_rounds.specs.Rounds.{IsRound, all_pass}
+use Rattle.actor_rounds.specs.Rounds.{IsRound, all_pass, round_of}
 use Rattle.actor_rounds.proofs.RoundFacts.{round_grows, round_seats, same_length}
 use Rattle.settle_alike.proofs.Alike.Rows.{get_mapped, plain_node}
 use Rattle.settle_writes.specs.Writes.Lasting.{content_of}
@@ -107,7 +107,7 @@ nodes_few setup ds h at small =
 
 module _ (setup : Setup) (ds after : List Drainer) (h past : List Entry) (b left : ℕ) (q : IsQuietRound setup ds after h past b left) where
   quiet_paid : HavePaid setup h past
-  quiet_paid = round_paid setup q.allow ds q.may.may.stand.roles q.may.rests all_pass after h past b left true q.run q.round
+  quiet_paid = round_paid setup all_pass (round_of q.round) q.allow q.may.may.stand.roles q.may.rests q.run
 
   quiet_up : work_left setup (world setup h) ≤ work_left setup (world setup past)
   quiet_up = let same = q.same in omega (arith, same)

@@ -22,7 +22,7 @@ use Rattle.safety_law.proofs.Invariant.Effects.{effect_form}
 use Rattle.worker_core.proofs.Answered.{answer_licensed}
 use Rattle.std.proofs.Common.{◌++◌, append_assoc}
 use Rattle.std.specs.Prelude.{⊤}
-use Rattle.std.proofs.Common.{◌≡◌, ◌∙◌, ◌⊎◌, ℕ, ◌+◌, ◌-◌, ◌≤◌, ◌<◌, List, [], ◌∷◌, Bool, true, false, true≢false, Some, None, inl, inr, refl, sym, ap, subst, arith}
+use Rattle.std.proofs.Common.{◌≡◌, ◌∙◌, ◌⊎◌, ℕ, ◌-◌, ◌≤◌, ◌<◌, List, [], ◌∷◌, Bool, true, false, true≢false, Some, None, inl, inr, refl, sym, ap, subst, arith}
 use Rattle.kube_parts.specs.declared.parts.Kind.{Kind}
 use Rattle.kube_objects.proofs.SameKeys.{same_kind-Decides}
 use Rattle.call_types.specs.declared.entry.Entry.{Entry}
@@ -47,7 +47,6 @@ use Rattle.worker_core.specs.Memories.{Memory}
 use Rattle.worker_core.specs.Roles.{IsBuiltKind, kind_in_order}
 use Rattle.worker_core.specs.States.{ActorState}
 use Rattle.worker_core.specs.Turns.{IsTurn}
-use Rattle.worker_core.proofs.Answered.{passed}
 use Rattle.attention_law.proofs.Turned.{Kept, PassAfter, Renewed, answer_role, idle_rests, turn_pass}
 use Rattle.actor_rounds.specs.Rounds.{all_pass, Asks, IsHeld, IsIdle, IsReady, IsSpent, Runs, told_entry}
 use Rattle.actor_rounds.proofs.RunFacts.{still_role, turn_memory}

@@ -8,7 +8,6 @@ use Rattle.kube_objects.specs.declared.objects.Object.TheVariants.{Class, Node, 
 use Rattle.kube_objects.specs.Keys.{key_of, row_at}
 use Rattle.kube_objects.proofs.KeyOrder.{row_at-put_row_other, row_at-without_row, row_at-without_row_other, row_at_key}
 use Rattle.kube_objects.proofs.SameKeys.{key_tells}
-use Rattle.call_types.specs.declared.edit.Edit.{Edit}
 use Rattle.call_types.specs.declared.entry.Entry.{Entry}
 use Rattle.call_types.specs.declared.reply.Reply.{Reply}
 use Rattle.call_types.specs.declared.request.Request.{Request}

@@ -84,7 +84,7 @@ use Rattle.settle_alike.proofs.Near.Near.{VolumeNear}
 use Rattle.settle_pays.proofs.Pays.Calls.{lasting_writes, stored_effect}
 use Rattle.settle_write_counts.proofs.Rounds.Nodes.{IsMoved}
 use Rattle.settle_write_counts.specs.Rounds.Counts.{AnnotationsAreInOrder}
-use Rattle.binder_model.specs.Answers.{after, is_for_store}
+use Rattle.binder_model.specs.Answers.{is_for_store}
 use Rattle.binder_model.specs.World.{reply_to, world_after}
 use Rattle.worker_core.specs.declared.role.Role.{Role}
 use Rattle.std.specs.Prelude.{⊤}

@@ -28,7 +28,7 @@ use Rattle.worker_core.specs.Absorbs.{woken}
 use Rattle.worker_core.specs.Roles.{IsBuiltKind}
 use Rattle.actor_rounds.specs.declared.drainers.Drainer.{Drainer}
 use Rattle.actor_rounds.specs.Drainers.{agent_of, of_kind, roles_of}
-use Rattle.actor_rounds.specs.Rounds.{Ends, IsRound, Lets, Turns, all_pass}
+use Rattle.actor_rounds.specs.Rounds.{Ends, IsRound, Lets, Turns, all_pass, round_of}
 use Rattle.actor_rounds.proofs.RoundFacts.{AreBuilt, round_grows}
 use Rattle.actor_rounds.proofs.RunFacts.{run_grows}
 use Rattle.settle_measure.specs.Left.Measure.{work_left}
@@ -209,7 +209,7 @@ not_claim _ is = true≢false (sym (ap is_scheduler is))
 
 module _ (setup : Setup) (ds after : List Drainer) (h past : List Entry) (b left : ℕ) (q : IsQuietRound setup ds after h past b left) (p : HasParts all_pass past left ds h b after) where
   pub all_paid : HavePaid setup h past
-  all_paid = round_paid setup q.allow ds q.may.may.stand.roles q.may.rests all_pass after h past b left true q.run q.round
+  all_paid = round_paid setup all_pass (round_of q.round) q.allow q.may.may.stand.roles q.may.rests q.run
 
   pub stays_up : work_left setup (world setup h) ≤ work_left setup (world setup past)
   stays_up = let same = q.same in omega (arith, same)

@@ -28,7 +28,6 @@ use Rattle.worker_core.specs.Tasks.{GivesCall, GivesNone, under_after}
 use Rattle.worker_core.specs.Turns.{AfterKeys, Decides, IsTurn, TurnBy, passing, unlisted}
 use Rattle.worker_core.proofs.KeysKept.{answers_keep_keys}
 use Rattle.attention_law.proofs.Turned.{calls_fresh, idle_rests}
-use Rattle.binder_model.specs.Reading.{follows}
 use Rattle.actor_rounds.specs.Rounds.{Asks, IsHeld, IsIdle, IsReady, IsSpent, Runs, all_pass, told_entry}
 use Rattle.actor_rounds.proofs.RunFacts.{run_grows, turn_memory, still_role}
 use Rattle.worker_core.proofs.Answered.{turn_role}
