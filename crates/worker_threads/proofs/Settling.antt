@@ -1,5 +1,5 @@
 -- What the laws of settling say of a round and of a drain that were made.
-use Rattle.std.proofs.Common.{◌-◌, ◌⊎◌, ℕ, List, Bool, true, inl, inr, subst, arith}
+use Rattle.std.proofs.Common.{◌≡◌, ◌-◌, ◌⊎◌, ℕ, List, true, inl, inr, subst, arith}
 use Rattle.call_types.specs.declared.entry.Entry.{Entry}
 use Rattle.call_types.specs.declared.setup.Setup.{Setup}
 use Rattle.binder_model.specs.Due.{IsSettled}
@@ -10,9 +10,9 @@ use Rattle.world_core.specs.declared.drained.Drained.TheVariants.{Settled, Spent
 use Rattle.settle_check.proofs.Settled.{not_settled}
 use Rattle.actor_rounds.specs.declared.drainers.Drainer.{Drainer}
 use Rattle.actor_rounds.specs.Drainers.{AreSeats, AreStanding, seats_of}
-use Rattle.actor_rounds.specs.Rounds.{Drains, EndsWith, IsRound, Lets, all_pass}
+use Rattle.actor_rounds.specs.Rounds.{Drains, EndsWith, Lets, RoundOf, all_pass}
 use Rattle.actor_rounds.proofs.DrainFacts.{drains_grow}
-use Rattle.actor_rounds.proofs.RoundFacts.{round_grows}
+use Rattle.actor_rounds.proofs.RoundFacts.{round_grows, whole_round}
 use Rattle.settle_budget.specs.Drains.Measured.{SharesWell}
 use Rattle.settle_budget.specs.Drains.Selections.{NoneProvisionsLate}
 use Rattle.settle_slot.proofs.Slot.Held.{all_holds}
@@ -28,17 +28,18 @@ use Rattle.worker_threads.specs.Settling.{DrainSettles, IsSettledBy, RoundIsShor
 
 -- ---- a round
 
-module _ (setup : Setup) (lets : Lets) (ds after : List Drainer) (h past : List Entry) (b left : ℕ) (seats : AreSeats (seats_of ds)) (stand : AreStanding ds h) where
-  may_begin : (whole : Bool) → IsRound lets past left ds h b after whole → IsRunOf setup past → MayDrain setup h ds
-  may_begin whole round run = let g = round_grows lets past left ds h b after whole round in
-      record { run = older_run setup g.longer.added h (subst (IsRunOf setup) g.longer.are run); seats = seats; stand = stand }
+module _ (setup : Setup) (lets : Lets) (round : RoundOf lets) (seats : AreSeats (seats_of round.drainers)) (stand : AreStanding round.drainers round.start) where
+  may_begin : IsRunOf setup round.past → MayDrain setup round.start round.drainers
+  may_begin run = let g = round_grows lets round.past round.left round.drainers round.start round.budget round.after round.whole round.is_round in
+      record { run = older_run setup g.longer.added round.start (subst (IsRunOf setup) g.longer.are run); seats = seats; stand = stand }
 
-  pub round_lasts : IsRound lets past left ds h b after true → RoundLasts setup lets ds h past
-  round_lasts round only run alone x passes = held_rounds_last setup lets ds after h past b left (may_begin true round run) only run round alone x passes
+  pub round_lasts : round.whole ≡ true → RoundLasts setup lets round.drainers round.start round.past
+  round_lasts whole only run alone x passes =
+      held_rounds_last setup lets round.drainers round.after round.start round.past round.budget round.left (may_begin run) only run (whole_round lets round whole) alone x passes
 
-  pub round_short : (whole : Bool) → IsRound lets past left ds h b after whole → RoundIsShort setup lets ds h past (b - left)
-  round_short whole round allow run alone few order small = let most =
-      every_round_is_short setup lets ds after h past b left whole allow stand.roles run alone round few order small in omega (arith, most)
+  pub round_short : RoundIsShort setup lets round.drainers round.start round.past (round.budget - round.left)
+  round_short allow run alone few order small =
+      let most = every_round_is_short setup lets round allow stand.roles run alone few order small in omega (arith, most)
 
 -- ---- a drain
 

@@ -1,7 +1,7 @@
-use Rattle.std.proofs.Common.{◌≡◌, ◌-◌, ◌≤◌, subst, arith, Bool, ℕ}
+use Rattle.std.proofs.Common.{◌≡◌, ◌-◌, ◌≤◌, subst, arith, ℕ}
 use Rattle.actor_rounds.specs.Answers.Answered.{Lets}
 use Rattle.actor_rounds.specs.Drainers.{AreSeats}
-use Rattle.actor_rounds.specs.Rounds.{IsRound}
+use Rattle.actor_rounds.specs.Rounds.{IsRound, round_of}
 use Rattle.actor_rounds.proofs.Entries.{grown_others}
 use Rattle.actor_rounds.proofs.Resting.{round_rests}
 use Rattle.actor_rounds.proofs.RoundFacts.{round_grows, round_left, round_longer, round_part}
@@ -45,9 +45,8 @@ returns-clause-rests g c = λ whole. round_rests _ _ _ _ _ _ _ _ c.in_ok-ran.ens
 
 pub returns-clause-lasting : goal.returns-clause-lasting
 returns-clause-lasting g c = λ whole.
-    let round = subst (λ (w : Bool). IsRound (g.W.Answers.lets c.args.desk.now)
-    (g.W.Answers.past c.turns.new.desk) c.in_ok-ran.ran.left c.args.drainers.now (g.W.Answers.past c.args.desk.now) c.args.budget c.turns.new.drainers w) whole c.in_ok-ran.ensures.round in
-    round_lasts (g.W.Answers.setup c.args.desk.now) _ _ _ _ _ _ _ (subst AreSeats c.turns.ensures.seats c.turns.ensures.differ) c.requires.stands round
+    round_lasts (g.W.Answers.setup c.args.desk.now) _ (round_of c.in_ok-ran.ensures.round) (subst AreSeats c.turns.ensures.seats c.turns.ensures.differ) c.requires.stands whole
 
 pub returns-clause-short : goal.returns-clause-short
-returns-clause-short g c = round_short (g.W.Answers.setup c.args.desk.now) _ _ _ _ _ _ _ (subst AreSeats c.turns.ensures.seats c.turns.ensures.differ) c.requires.stands _ c.in_ok-ran.ensures.round
+returns-clause-short g c =
+    round_short (g.W.Answers.setup c.args.desk.now) _ (round_of c.in_ok-ran.ensures.round) (subst AreSeats c.turns.ensures.seats c.turns.ensures.differ) c.requires.stands
