@@ -2,7 +2,7 @@
 use Rattle.std.specs.Prelude.{◌≡◌, ℕ, [], ◌∷◌, Option, Some, None, codes}
 use Rattle.command_words.specs.Grammar.{words_of}
 use Rattle.command_words.specs.declared.words.Command.{Command}
-use Rattle.command_words.specs.declared.words.Command.TheVariants.{Replay, Run, Check, Gen}
+use Rattle.command_words.specs.declared.words.Command.TheVariants.{Replay, Run, Check, Gen, Extend}
 use Rattle.command_words.specs.declared.words.CommandWords.{CommandWords}
 
 -- what a line of these values says
@@ -20,6 +20,7 @@ pub record TakenExamples : Type 0 where
   pub option_first : words_of (codes "--seed" ∷ codes "7" ∷ codes "gen" ∷ codes "--budget=0" ∷ []) ≡ says Gen 2 7 200 (Some 0)
   pub leading_zeros : words_of (codes "gen" ∷ codes "--seed=000000009" ∷ []) ≡ says Gen 2 9 200 None
   pub command_after_dashes : words_of (codes "--workers=1" ∷ codes "--" ∷ codes "check" ∷ []) ≡ says Check 1 1 200 None
+  pub extend_with_budget : words_of (codes "extend" ∷ codes "--budget=7" ∷ []) ≡ says Extend 2 1 200 (Some 7)
   pub nothing_after_dashes : words_of (codes "check" ∷ codes "--" ∷ []) ≡ says Check 2 1 200 None
 
 -- lines that are answered with the usage
@@ -27,6 +28,7 @@ pub record RefusedExamples : Type 0 where
   pub no_word : words_of [] ≡ None
   pub no_command : words_of (codes "--seed=1" ∷ []) ≡ None
   pub no_such_command : words_of (codes "replays" ∷ []) ≡ None
+  pub no_longer_command : words_of (codes "extended" ∷ []) ≡ None
   pub second_command : words_of (codes "replay" ∷ codes "replay" ∷ []) ≡ None
   pub option_twice : words_of (codes "run" ∷ codes "--seed=1" ∷ codes "--seed" ∷ codes "1" ∷ []) ≡ None
   pub no_such_option : words_of (codes "run" ∷ codes "--seeds=1" ∷ []) ≡ None

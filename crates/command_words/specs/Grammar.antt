@@ -34,7 +34,7 @@ use Rattle.std.specs.declared.result.Result.{Result}
 use Rattle.std.specs.declared.result.Result.TheVariants.{Ok, Err}
 use Rattle.clap.specs.Lexer.{long_of}
 use Rattle.command_words.specs.declared.words.Command.{Command}
-use Rattle.command_words.specs.declared.words.Command.TheVariants.{Replay, Run, Audit, Check, Gen}
+use Rattle.command_words.specs.declared.words.Command.TheVariants.{Replay, Run, Audit, Check, Gen, Extend}
 use Rattle.command_words.specs.declared.words.Options.{Options}
 use Rattle.command_words.specs.declared.words.CommandWords.{CommandWords}
 use Rattle.command_words.specs.declared.words.WordsError.{WordsError}
@@ -106,7 +106,8 @@ command_named word =
     else (if bytes_eq word (codes "run") then Some Run
     else (if bytes_eq word (codes "audit") then Some Audit
     else (if bytes_eq word (codes "check") then Some Check
-    else (if bytes_eq word (codes "gen") then Some Gen else None))))
+    else (if bytes_eq word (codes "gen") then Some Gen
+    else (if bytes_eq word (codes "extend") then Some Extend else None)))))
 
 -- 1 to 9 decimal digits, of a number from `least` to `most`
 abbrev pub is_number : ℕ → ℕ → Text → Bool

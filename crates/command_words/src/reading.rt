@@ -26,6 +26,8 @@ fn command_named(word: &str) -> Option<Command>
         Some(Command::Check)
     } else if word == "gen" {
         Some(Command::Gen)
+    } else if word == "extend" {
+        Some(Command::Extend)
     } else {
         None
     }

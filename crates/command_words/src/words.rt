@@ -15,6 +15,8 @@ pub enum Command {
     Check,
     /// To make a script and replay it.
     Gen,
+    /// To replay a script that has lines of its side beside those of its world.
+    Extend,
 }
 
 /// The numbers of the options, with the default of each that was not given.

@@ -25,6 +25,7 @@ fn name(command: Command) -> &'static str {
         Command::Audit => "audit",
         Command::Check => "check",
         Command::Gen => "gen",
+        Command::Extend => "extend",
     }
 }
 
