@@ -1,6 +1,6 @@
 //! The text of a history, in which the text of each object stands once in memory.
 
-ghost use Rattle.std.specs.Prelude.{◌≡◌, OnOk, IfOk, codes, map};
+ghost use Rattle.std.specs.Prelude.{◌≡◌, ◌++◌, OnOk, IfOk, codes, map};
 ghost use Rattle.json_text.specs.Writing.{with_text, with_value};
 ghost use Rattle.piece_print.specs.Writing.{text_in, whole};
 ghost use Rattle.history_text.specs.Entries.{entry_line, setup_data, setup_line};
@@ -91,6 +91,20 @@ pub fn print_history(alloc: Global, setup: &Setup, entries: &[Entry]) -> Result<
     out.into_bytes()
 }
 
+/// The text of a history, and this text behind it.
+pub fn print_before(
+    alloc: Global,
+    setup: &Setup,
+    entries: &[Entry],
+    rest: Bytes,
+) -> Result<PieceText, OutOfMemory>
+    ensures { IfOk result (λ text. text ≡ history_text setup.now entries.now ++ rest) }
+{
+    let mut out = JsonPieces::new(alloc);
+    push_history(&mut out, setup, entries)?;
+    out.into_text(rest)
+}
+
 /// The text of a history, of the final objects and of the summary.
 #[tactic(auto, using(crate::proofs::LineLists::with_lines_behind))]
 pub fn print_all(
@@ -102,8 +116,6 @@ pub fn print_all(
 ) -> Result<PieceText, OutOfMemory>
     ensures { IfOk result (λ text. text ≡ with_lines (history_text setup.now entries.now) (final_lines objects.now summary.now)) }
 {
-    let mut out = JsonPieces::new(alloc);
-    push_history(&mut out, setup, entries)?;
     let rest = print_objects_and_summary(alloc, objects, summary)?;
-    out.into_text(rest)
+    print_before(alloc, setup, entries, rest)
 }
