@@ -1,0 +1,5 @@
+pub mod Answers
+pub mod Serving
+pub mod Closing
+pub mod Laws
+pub mod Steps
