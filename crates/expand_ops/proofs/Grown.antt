@@ -17,12 +17,13 @@ use Rattle.kube_objects.specs.declared.objects.Object.{Object}
 use Rattle.kube_objects.specs.Bindings.{carries, is_completed, is_deleting}
 use Rattle.kube_objects.specs.Keys.{key_cmp, row_at}
 use Rattle.kube_objects.proofs.KeyOrder.{equal_keys, key_cmp_total}
+use Rattle.binder_model.specs.Choice.{claim_in}
 use Rattle.binder_model.specs.ObjectKeys.{volume_key}
 use Rattle.side_calls.specs.declared.sizes.GrowError.{GrowError}
 use Rattle.side_calls.specs.declared.sizes.SizeRow.{SizeRow}
 use Rattle.side_calls.specs.declared.sizes.Why.{Why}
 use Rattle.quota_rules.specs.Using.{Tally}
-use Rattle.expand_ops.specs.Growing.{claim_in, claim_lets, fault_if, grow_fault, has_bytes, holds_volume, is_bound_claim, volume_in, why_claim, why_if, why_volume}
+use Rattle.expand_ops.specs.Growing.{claim_lets, fault_if, grow_fault, has_bytes, holds_volume, is_bound_claim, volume_in, why_claim, why_if, why_volume}
 use Rattle.expand_ops.specs.Growing.{first_row, grown_if, grown_row, grown_rows, row_from, rows_grown, sizes_grown}
 use Rattle.expand_ops.specs.Sizes.{AreInTurn, AreSizes, Growth, IsGrowth, IsInTurn, size_at, size_key, taken_by}
 use Rattle.expand_ops.proofs.Turns.{no_some, same_some, taken_of}

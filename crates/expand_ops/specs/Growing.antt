@@ -15,9 +15,10 @@ use Rattle.kube_objects.specs.declared.objects.Claim.{Claim as ClaimData}
 use Rattle.kube_objects.specs.declared.objects.Class.{Class as ClassData}
 use Rattle.kube_objects.specs.declared.objects.Volume.{Volume as VolumeData}
 use Rattle.kube_objects.specs.declared.objects.Object.{Object}
-use Rattle.kube_objects.specs.declared.objects.Object.TheVariants.{Class, Claim, Volume}
+use Rattle.kube_objects.specs.declared.objects.Object.TheVariants.{Class, Volume}
 use Rattle.kube_objects.specs.Bindings.{carries, class_of_claim, has_key, is_completed, is_deleting, provisioned_by}
 use Rattle.kube_objects.specs.Keys.{key_cmp, row_at}
+use Rattle.binder_model.specs.Choice.{claim_in}
 use Rattle.binder_model.specs.ObjectKeys.{class_key, volume_key}
 use Rattle.side_calls.specs.declared.sizes.SizeRow.{SizeRow}
 use Rattle.side_calls.specs.declared.sizes.Why.{Why}
@@ -26,11 +27,6 @@ use Rattle.side_calls.specs.declared.sizes.GrowError.{GrowError}
 use Rattle.side_calls.specs.declared.sizes.GrowError.TheVariants.{NotGrowable, OverBytes}
 use Rattle.quota_rules.specs.Using.{Tally, over_bytes, quota_of, used_by}
 use Rattle.expand_ops.specs.Sizes.{size_at, size_key}
-
--- the claim, where the object is one
-abbrev pub claim_in : Option Object → Option ClaimData
-claim_in (Some (Claim c)) = Some c
-claim_in object = None
 
 -- the volume, where the object is one
 abbrev pub volume_in : Option Object → Option VolumeData

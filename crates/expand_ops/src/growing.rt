@@ -2,8 +2,9 @@
 
 ghost use Rattle.std.specs.Prelude.{◌≡◌, IfOk, OnErr, OnOk, Some, option_map};
 ghost use Rattle.kube_objects.specs.Keys.{AreRows, row_at};
+ghost use Rattle.binder_model.specs.Choice.{claim_in};
 ghost use Rattle.binder_model.specs.ObjectKeys.{class_key};
-ghost use Rattle.expand_ops.specs.Growing.{asked_by, asked_now, claim_in, claim_lets, class_in, class_lets, lets_grow, volume_in};
+ghost use Rattle.expand_ops.specs.Growing.{asked_by, asked_now, claim_lets, class_in, class_lets, lets_grow, volume_in};
 ghost use Rattle.expand_ops.specs.Growing.{has_bytes, holds_volume, is_bound_claim, why_bound, why_claim, why_volume};
 ghost use Rattle.expand_ops.specs.Growing.{fault_by, first_row, grow_fault, over_by, row_from, sizes_grown};
 ghost use Rattle.expand_ops.specs.Sizes.{AreSizes, size_at};
