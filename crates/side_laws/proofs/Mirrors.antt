@@ -237,7 +237,7 @@ put_same x (y ∷ ys) r e = by (key_cmp y.key x.key) refl e (put_same x ys r.1)
     by Equal o f rest = ap (λ z. z ∷ ys) (sym (some_is y x f))
     by Greater o f rest = none_some x (sym (find_gap key_cmp_total counted_key x.key (y ∷ ys) 0 r o) ∙ e)
 
-itself : (u : Uid) → (u.0 == u.0) ≡ true
+pub itself : (u : Uid) → (u.0 == u.0) ≡ true
 itself u = grind (arith, nat_tests)
 
 pub shares_itself : (uid other : Option Uid) (u : Uid) → uid ≡ Some u → other ≡ uid → shares_uid uid other ≡ true

@@ -174,11 +174,11 @@ module _ (namespace : List ℕ) (sizes : List SizeRow) (row : SizeRow) where
   abbrev old_asked : ClaimData → ℕ
   old_asked y = asked_by (size_at (key_of (Claim y)) sizes) y
 
-  other_asked : (y : ClaimData) → is_eq (key_cmp (key_of (Claim y)) row.key) ≡ false
+  pub other_asked : (y : ClaimData) → is_eq (key_cmp (key_of (Claim y)) row.key) ≡ false
       → grown_asked y ≡ old_asked y
   other_asked y e = ap (λ (o : Option SizeRow). asked_by o y) (find-put_other key_cmp_total size_key (key_of (Claim y)) row sizes (apart_back [] row.key (key_of (Claim y)) e))
 
-  without_it : (rows : List Object) → row_at row.key rows ≡ None → grown rows ≡ counted_in sizes rows
+  pub without_it : (rows : List Object) → row_at row.key rows ≡ None → grown rows ≡ counted_in sizes rows
   without_it [] e = refl
   without_it (Class y ∷ xs) e = without_it xs (if_none [] (is_eq (key_cmp (key_of (Class y)) row.key)) (Class y) (row_at row.key xs) e).1
   without_it (Node y ∷ xs) e = without_it xs (if_none [] (is_eq (key_cmp (key_of (Node y)) row.key)) (Node y) (row_at row.key xs) e).1
@@ -190,7 +190,7 @@ module _ (namespace : List ℕ) (sizes : List SizeRow) (row : SizeRow) where
       ∙ ap (λ zs. counted_by sizes y ∷ zs) (without_it xs t.1)
 
   module _ (c : ClaimData) (at : key_of (Claim c) ≡ row.key) (more : ℕ) (asks : row.asked ≤ old_asked c + more) where
-    own_asked : grown_asked c ≡ row.asked
+    pub own_asked : grown_asked c ≡ row.asked
     own_asked = ap (λ (k : Key). asked_by (size_at k (put key_cmp size_key row sizes)) c) at ∙ ap (λ (o : Option SizeRow). asked_by o c) (find-put key_cmp_total size_key row sizes)
 
     pub grown_bytes : (rows : List Object) → AreRows rows → row_at row.key rows ≡ Some (Claim c)

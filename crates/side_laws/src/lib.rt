@@ -3,13 +3,14 @@
 //! Promises: growth goes in turn, never back and within the reserve, whatever the side is asked (`growth_goes_in_turn`). In
 //! each run over imports that pass, in which no create reaches the world that is to be held back, the claims of a namespace
 //! use no more than its quota or than they used at first, at each point (`quotas_are_kept`). What `Quotas` counts is what
-//! stands in the world, after each call (`notes_mirror`). Each law is a function with nothing to do, whose contract is the
-//! law. Not said: that a runner holds back what it should, or that code meets the definitions of `side_model`.
+//! stands in the world, after each call (`notes_mirror`) and after each growth (`growth_is_counted`). Each law is a function
+//! with nothing to do, whose contract is the law. Not said: that a runner holds back what it should, or that code meets the
+//! definitions of `side_model`.
 #![tactic(auto)]
 
 ghost use Rattle.side_laws.specs.Laws.{GrowthGoesInTurn, QuotasAreKept};
 ghost use Rattle.side_laws.specs.Fair.{CreatesPass, FairRunsKeepQuotas};
-ghost use Rattle.side_laws.specs.Mirrors.{NotesMirror, SizesAlwaysStand};
+ghost use Rattle.side_laws.specs.Mirrors.{GrowthIsCounted, NotesMirror, SizesAlwaysStand};
 
 /// No claim is given more than its volume has, no volume has more than is stored, and no number of a claim ever falls.
 pub fn growth_goes_in_turn()
@@ -26,6 +27,11 @@ pub fn quotas_are_kept()
 #[tactic(auto, using(crate::proofs::Mirrors::notes_mirror))]
 pub fn notes_mirror()
     ensures { NotesMirror }
+{}
+
+/// What is counted after a claim has grown is what stands then.
+pub fn growth_is_counted()
+    ensures { GrowthIsCounted }
 {}
 
 /// Each row of sizes is that of a claim that stands.
