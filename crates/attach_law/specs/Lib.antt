@@ -1,0 +1,6 @@
+pub mod Asks
+pub mod Attached
+pub mod Calls
+pub mod Merged
+pub mod Next
+pub mod Shown
