@@ -1,0 +1,4 @@
+pub mod CallExamples
+pub mod LicenceExamples
+pub mod RuleExamples
+pub mod Samples
