@@ -49,6 +49,7 @@ use Rattle.settling_examples.specs.Ending.{
   shared_rows,
   takes,
   three_volumes,
+  unclassed_rows,
   world_with,
 }
 use Rattle.delayed_binding.proofs.Known.{claim_of_row}
@@ -129,9 +130,29 @@ key_named name = key_of (Pod (pod_on name []))
 two_keys : key_named (codes "p") ≢ key_named (codes "q")
 two_keys e = true≢false (ap (λ (k : Key). bytes_eq k.name (codes "p")) e)
 
-names_it : (name : List ℕ) → row_at (key_named name) (shared_rows true open_claim []) ≡ Some (Pod (pod_on name []))
-    → WaitingPodNames (world_with (shared_rows true open_claim [])) (key_named name) (codes "ns") (codes "c")
-names_it name there = record { pod = pod_on name []; there = there; waits = refl; same = refl; names = inl refl }
+names_it : (rows : List Object) (name : List ℕ) → row_at (key_named name) rows ≡ Some (Pod (pod_on name [])) → WaitingPodNames (world_with rows) (key_named name) (codes "ns") (codes "c")
+names_it rows name there = record { pod = pod_on name []; there = there; waits = refl; same = refl; names = inl refl }
+
+-- the same where no class stands
+
+only_unclassed : (d c : ClaimData) (node namespace name : List ℕ) → claim_named (unclassed_rows d node) namespace name ≡ Some c → d ≡ c
+only_unclassed d c node namespace name e =
+    elim (found_stands (claim_key namespace name) (Claim c) (unclassed_rows d node) (claim_of_row (row_at (claim_key namespace name) (unclassed_rows d node)) c e)) [
+      | inl is ↦ ap (claim_or d) is
+      | inr (inl is) ↦ cc
+      | inr (inr (inl is)) ↦ cc
+      | inr (inr (inr more)) ↦ elim more [ ]
+    ]
+
+one_unclassed : (d : ClaimData) (key : Key) (namespace name : List ℕ)
+    → WaitingPodNames (world_with (unclassed_rows d (codes "n"))) key namespace name → key_of (Pod (pod_on (codes "q") [])) ≡ key
+one_unclassed d key namespace name p =
+    elim (found_stands key (Pod p.pod) (unclassed_rows d (codes "n")) p.there) [
+      | inl is ↦ cc
+      | inr (inl is) ↦ absurd (true≢false (ap not (sym p.waits) ∙ sym (ap is_waiting is)))
+      | inr (inr (inl is)) ↦ ap key_of is ∙ row_at_key key (Pod p.pod) (unclassed_rows d (codes "n")) p.there
+      | inr (inr (inr more)) ↦ elim more [ ]
+    ]
 
 pub sharing_examples : SharingExamples
 unfolding completed_with
@@ -140,10 +161,20 @@ sharing_examples = record {
   of_immediate = λ first second namespace name c a b differ e. inr
       (subst (λ d. is_immediate (row_at (class_key (class_of_claim d)) (shared_rows false open_claim [])) ≡ true) (only_claim false open_claim c [] namespace name e) refl);
   of_one = λ first second namespace name c a b differ e. absurd (differ (sym (only_waiting true open_claim first namespace name a) ∙ only_waiting true open_claim second namespace name b));
-  of_late = λ shares. elim (shares (key_named (codes "p")) (key_named (codes "q")) (codes "ns") (codes "c") open_claim (names_it (codes "p") refl) (names_it (codes "q") refl) two_keys refl) [
-    | inl done ↦ true≢false (sym done)
-    | inr at_once ↦ true≢false (sym at_once)
-  ];
+  of_late = λ shares. elim (shares (key_named (codes "p")) (key_named (codes "q")) (codes "ns") (codes "c") open_claim
+      (names_it (shared_rows true open_claim []) (codes "p") refl) (names_it (shared_rows true open_claim []) (codes "q") refl) two_keys refl) [
+        | inl done ↦ true≢false (sym done)
+        | inr at_once ↦ true≢false (sym at_once)
+      ];
+  completed_without_a_class = λ first second namespace name c a b differ e.
+      inl (subst (λ d. is_completed d ≡ true) (only_unclassed completed c [] namespace name e) refl);
+  one_waits_without_a_class = λ first second namespace name c a b differ e.
+      absurd (differ (sym (one_unclassed open_claim first namespace name a) ∙ one_unclassed open_claim second namespace name b));
+  open_without_a_class = λ shares. elim (shares (key_named (codes "p")) (key_named (codes "q")) (codes "ns") (codes "c") open_claim
+      (names_it (unclassed_rows open_claim []) (codes "p") refl) (names_it (unclassed_rows open_claim []) (codes "q") refl) two_keys refl) [
+        | inl done ↦ true≢false (sym done)
+        | inr at_once ↦ true≢false (sym at_once)
+      ];
 }
 
 -- ---- nodes

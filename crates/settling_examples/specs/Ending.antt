@@ -101,6 +101,10 @@ pub record ClassExamples : Type 0 where
 abbrev pub shared_rows : Bool → ClaimData → List ℕ → List Object
 shared_rows delayed c node = Class (class_of delayed (codes "d")) ∷ Claim c ∷ Pod (pod_on (codes "p") node) ∷ Pod (pod_on (codes "q") []) ∷ []
 
+-- the claim and the two pods, where no class stands
+abbrev pub unclassed_rows : ClaimData → List ℕ → List Object
+unclassed_rows c node = Claim c ∷ Pod (pod_on (codes "p") node) ∷ Pod (pod_on (codes "q") []) ∷ []
+
 pub record SharingExamples : Type 0 where
   -- two pods may share a claim that is completed, or whose class binds at once; and only one of them may wait
   pub of_completed : SharesWell (world_with (shared_rows true completed []))
@@ -108,6 +112,10 @@ pub record SharingExamples : Type 0 where
   pub of_one : SharesWell (world_with (shared_rows true open_claim (codes "n")))
   -- but two that wait may not share an open one that waits for them
   pub of_late : SharesWell (world_with (shared_rows true open_claim [])) → ⊥
+  -- of a class that is absent a claim may be shared that is completed, or for which one pod waits; an absent class does not bind at once
+  pub completed_without_a_class : SharesWell (world_with (unclassed_rows completed []))
+  pub one_waits_without_a_class : SharesWell (world_with (unclassed_rows open_claim (codes "n")))
+  pub open_without_a_class : SharesWell (world_with (unclassed_rows open_claim [])) → ⊥
 
 -- ---- the nodes of a script
 

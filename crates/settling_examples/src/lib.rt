@@ -12,7 +12,7 @@ ghost use Rattle.settling_examples.specs.Lasting.{AlikeExamples, LastingExamples
 ghost use Rattle.settling_examples.specs.Near.{NearExamples};
 ghost use Rattle.settling_examples.specs.Objects.{ObjectExamples};
 ghost use Rattle.settling_examples.specs.Ops.{LeftExamples, NoneDueExamples, OpsExamples};
-ghost use Rattle.settling_examples.specs.Rounds.{RoundExamples};
+ghost use Rattle.settling_examples.specs.Rounds.{DueExamples, RoundExamples, StepExamples};
 
 /// Writes and calls that last, and some that do not.
 pub fn lasting_examples()
@@ -57,6 +57,16 @@ pub fn object_examples()
 /// Rounds that make no more calls, and one that makes one too many.
 pub fn round_examples()
     ensures { RoundExamples }
+{}
+
+/// What is due for an actor of a drain, and what is not.
+pub fn due_examples()
+    ensures { DueExamples }
+{}
+
+/// Rounds in which an entry lasts, and one that begins with something due in which none does.
+pub fn step_examples()
+    ensures { StepExamples }
 {}
 
 /// Classes of which none binds late and provisions, and one that does.
