@@ -1,0 +1,6 @@
+pub mod Samples
+pub mod Quotas
+pub mod Growing
+pub mod Sizes
+pub mod Sides
+pub mod Points
