@@ -1,0 +1,3 @@
+pub mod Sides
+pub mod Extended
+pub mod Steps
