@@ -115,6 +115,7 @@ use Rattle.script_text.specs.Grammar.{
   lines_of,
   at_line,
   said_from,
+  said_in,
   numbered_from,
   read_numbered_of,
   script_from,
@@ -703,6 +704,10 @@ said_given agents lines e are = by (said_from agents 1 lines nothing_said) (line
     by (Ok last) g a = script_given last agents (e ∙ a) g
     by (Err b) g a = tt
 
+-- what lines say, whatever text they are of
+pub all_lines_give : (lines : List (List ℕ)) → IfOk (script_from (numbered_from (said_in lines))) ScriptGiven
+all_lines_give lines = said_given (agents_in lines) lines refl (beside_are [] lines tt)
+
 pub script_gives : (text : List ℕ) → IfOk (script_of text) ScriptGiven
 unfolding read_numbered_of
-script_gives text = said_given (agents_in (lines_of text)) (lines_of text) refl (beside_are [] (lines_of text) tt)
+script_gives text = all_lines_give (lines_of text)
