@@ -87,7 +87,7 @@ module _ (w : World) (uids : HaveUids w.store.rows) where
   by_effect e (OnDevices a) order place added = uids
   by_effect e (SetsMoment at) order place added = uids
 
-uids_at : (setup : Setup) → ImportsPass setup.imports → (past : List Entry) → HaveUids (world setup past).store.rows
+pub uids_at : (setup : Setup) → ImportsPass setup.imports → (past : List Entry) → HaveUids (world setup past).store.rows
 uids_at setup pass [] key o is =
     let c = import_row setup.imports setup.imports key o is in
     let t = import_has [] setup.imports pass c.import c.given in
@@ -100,7 +100,7 @@ uids_at setup pass (e ∷ past) key o is =
 
 -- ---- the whole
 
-history_of : (setup : Setup) (past : List Entry) → Run setup past → IsHistory setup past
+pub history_of : (setup : Setup) (past : List Entry) → Run setup past → IsHistory setup past
 history_of setup [] run = tt
 history_of setup (e ∷ past) run = (history_of setup past run.0, run.1)
 

@@ -1,25 +1,30 @@
 -- What is counted against quotas mirrors the claims that stand.
 -- A choice of this project: the counting of a namespace's use goes by replies, and never by another look at the world.
-use Rattle.std.specs.Prelude.{ℕ, ◌≡◌, ◌-◌, ◌<◌, ◌^◌, List, Some, None, length}
+use Rattle.std.specs.Prelude.{[], ◌∷◌, ⊤, ℕ, ◌≡◌, ◌-◌, ◌<◌, ◌^◌, List, Some, None, length}
 use Rattle.kube_parts.specs.declared.uid.Uid.{Uid}
 use Rattle.kube_objects.specs.declared.key.Key.{Key}
 use Rattle.kube_objects.specs.declared.objects.Claim.{Claim as ClaimData}
 use Rattle.kube_objects.specs.declared.objects.Object.{Object}
 use Rattle.kube_objects.specs.declared.objects.Object.TheVariants.{Claim}
 use Rattle.kube_objects.specs.Keys.{AreRows, meta_of, row_at}
+use Rattle.call_types.specs.declared.entry.Entry.{Entry}
 use Rattle.call_types.specs.declared.request.Request.{Request}
 use Rattle.call_types.specs.declared.request.SeatKind.{SeatKind}
 use Rattle.call_types.specs.declared.setup.Setup.{Setup}
 use Rattle.binder_model.specs.Imports.{ImportsPass}
 use Rattle.binder_model.specs.Promises.{most_entries}
 use Rattle.binder_model.specs.World.{IsHistory, World, effect, reply_to, world, world_after}
+use Rattle.side_calls.specs.declared.asks.SideAsk.{SideAsk}
+use Rattle.side_calls.specs.declared.asks.SideAsk.TheVariants.{Grow}
+use Rattle.side_calls.specs.declared.asks.SideEntry.{SideEntry}
+use Rattle.side_calls.specs.declared.sizes.GrowError.{GrowError}
 use Rattle.side_calls.specs.declared.sizes.SizeRow.{SizeRow}
 use Rattle.quota_rules.specs.declared.counted.Counted.{Counted}
-use Rattle.quota_rules.specs.Counting.{HasRoom, grown_in, noted}
+use Rattle.quota_rules.specs.Counting.{HasRoom, claims_in, grown_in, noted}
 use Rattle.expand_ops.specs.Growing.{asked_by, grow_fault, rows_grown}
 use Rattle.expand_ops.specs.Sizes.{kept_after, size_at}
 use Rattle.side_model.specs.Answers.{side}
-use Rattle.side_model.specs.Merged.{Step, entries}
+use Rattle.side_model.specs.Merged.{Step, OfWorld, OfSide, entries}
 use Rattle.side_model.specs.Sides.{SideSetup, counted_in, tally_of}
 
 -- each object has a UID
@@ -58,6 +63,27 @@ counted_at setup given m = counted_in (side setup given m).sizes (objects_at set
 -- the side's rows after the claim of the key was asked to grow at a point
 abbrev pub sizes_after : Setup → SideSetup → List Step → Key → ℕ → List SizeRow
 sizes_after setup given m key bytes = rows_grown (tally_of (side setup given m) (objects_at setup m)) (side setup given m).sizes (objects_at setup m) key bytes
+
+-- before the first step the imports count, each claim with its request
+abbrev pub FirstIsCounted : Type 0
+FirstIsCounted = (setup : Setup) (given : SideSetup) → claims_in (objects_at setup []) ≡ counted_at setup given []
+
+-- what counts by the reply of an entry of the world is what stands after it, over imports that pass
+abbrev pub CallsAreCounted : Type 0
+CallsAreCounted =
+    (setup : Setup) (given : SideSetup) (m : List Step) (e : Entry) → ImportsPass setup.imports → IsHistory setup (e ∷ entries m)
+    → noted e.reply (counted_at setup given m) ≡ counted_at setup given (OfWorld e ∷ m)
+
+-- the ask is no growth, or one against which something stands
+abbrev pub IsNoGrowth : Setup → SideSetup → List Step → SideAsk → Type 0
+IsNoGrowth setup given m (Grow user key bytes) =
+    (error : GrowError) × (grow_fault (tally_of (side setup given m) (objects_at setup m)) (side setup given m).sizes (objects_at setup m) key bytes ≡ Some error)
+IsNoGrowth setup given m ask = ⊤
+
+-- such an ask changes nothing of what counts
+abbrev pub AsksCountAlike : Type 0
+AsksCountAlike =
+    (setup : Setup) (given : SideSetup) (m : List Step) (s : SideEntry) → IsNoGrowth setup given m s.ask → counted_at setup given (OfSide s ∷ m) ≡ counted_at setup given m
 
 -- a claim that grows to so many bytes counted with fewer: the difference has room, and with it counts what stands
 pub record CountsGrowth (setup : Setup) (given : SideSetup) (m : List Step) (key : Key) (bytes : ℕ) (c : ClaimData) (uid : Uid) : Type 0 where

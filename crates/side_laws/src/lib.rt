@@ -3,14 +3,15 @@
 //! Promises: growth goes in turn, never back and within the reserve, whatever the side is asked (`growth_goes_in_turn`). In
 //! each run over imports that pass, in which no create reaches the world that is to be held back, the claims of a namespace
 //! use no more than its quota or than they used at first, at each point (`quotas_are_kept`). What `Quotas` counts is what
-//! stands in the world, after each call (`notes_mirror`) and after each growth (`growth_is_counted`). Each law is a function
-//! with nothing to do, whose contract is the law. Not said: that a runner holds back what it should, or that code meets the
+//! stands: at first (`first_is_counted`), after each call of the world (`calls_are_counted`) and each growth
+//! (`growth_is_counted`), while other asks change nothing of it (`asks_count_alike`). Each law is a function with nothing to
+//! do, whose contract is the law. Not said: that a runner holds back what it should, or that code meets the
 //! definitions of `side_model`.
 #![tactic(auto)]
 
 ghost use Rattle.side_laws.specs.Laws.{GrowthGoesInTurn, QuotasAreKept};
 ghost use Rattle.side_laws.specs.Fair.{CreatesPass, FairRunsKeepQuotas};
-ghost use Rattle.side_laws.specs.Mirrors.{GrowthIsCounted, NotesMirror, SizesAlwaysStand};
+ghost use Rattle.side_laws.specs.Mirrors.{AsksCountAlike, CallsAreCounted, FirstIsCounted, GrowthIsCounted, NotesMirror, SizesAlwaysStand};
 
 /// No claim is given more than its volume has, no volume has more than is stored, and no number of a claim ever falls.
 pub fn growth_goes_in_turn()
@@ -23,10 +24,25 @@ pub fn quotas_are_kept()
     ensures { QuotasAreKept }
 {}
 
-/// What is counted after a call of the world is what stands then.
+/// What is counted after a call on any world is what stands then.
 #[tactic(auto, using(crate::proofs::Mirrors::notes_mirror))]
 pub fn notes_mirror()
     ensures { NotesMirror }
+{}
+
+/// What is counted at first is what stands then.
+pub fn first_is_counted()
+    ensures { FirstIsCounted }
+{}
+
+/// What is counted after an entry of the world is what stands then.
+pub fn calls_are_counted()
+    ensures { CallsAreCounted }
+{}
+
+/// An ask that is no growth changes nothing of what is counted.
+pub fn asks_count_alike()
+    ensures { AsksCountAlike }
 {}
 
 /// What is counted after a claim has grown is what stands then.
