@@ -1,5 +1,5 @@
 -- Rounds that make few calls, what is due for an actor, and rounds in which an entry lasts, computed.
-use Rattle.std.proofs.Common.{ℕ, zero, suc, ◌≡◌, ◌∙◌, ◌⊎◌, Bool, true, false, true≢false, List, [], ◌∷◌, Some, inl, inr, codes, refl, sym, ap, subst, arith}
+use Rattle.std.proofs.Common.{ℕ, zero, suc, ◌≡◌, ◌∙◌, Bool, true, true≢false, List, [], ◌∷◌, Some, inl, inr, codes, refl, sym, ap, subst, arith}
 use Rattle.std.specs.Prelude.{slice_get}
 use Rattle.kube_objects.specs.declared.objects.Object.{Object}
 use Rattle.kube_objects.specs.declared.objects.Object.TheVariants.{Class, Pod, Volume}
