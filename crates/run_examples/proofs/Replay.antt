@@ -7,6 +7,7 @@ pub mod Drainers
 pub mod Firsts
 pub mod Kept
 pub mod Lived
+pub mod Lost
 pub mod Played
 pub mod Ran
 pub mod Reclaimed

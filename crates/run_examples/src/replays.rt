@@ -2,10 +2,11 @@
 
 ghost use Rattle.run_examples.specs.Replay.Calls.{CallExamples, EndExamples, SeatExamples};
 ghost use Rattle.run_examples.specs.Replay.Drains.{ActorExamples, AssignExamples, DrainExamples, KeptExamples, ReclaimExamples, RoundExamples, SpentExamples};
-ghost use Rattle.run_examples.specs.Replay.Lives.{LifeExamples, PlayedExamples};
+ghost use Rattle.run_examples.specs.Replay.Lives.{AgainExamples, EarlierExamples, LifeExamples, PlayedExamples};
+ghost use Rattle.run_examples.specs.Replay.Losses.{OneLossExamples};
 ghost use Rattle.run_examples.specs.Replay.Replays.{EmptyExamples, FewerExamples, TurnExamples, UserExamples};
 ghost use Rattle.run_examples.specs.Replay.Runs.{HeldExamples, QueueExamples};
-ghost use Rattle.run_examples.specs.Replay.Turns.{LeftExamples, NeededExamples, StaleExamples};
+ghost use Rattle.run_examples.specs.Replay.Turns.{DoneExamples, LeftExamples, NeededExamples, NextLifeExamples, StaleExamples};
 
 /// Which life of an actor makes a call.
 pub fn seat_examples()
@@ -25,6 +26,16 @@ pub fn life_examples()
 /// A life whose calls its actor gave.
 pub fn played_examples()
     ensures { PlayedExamples }
+{}
+
+/// A life whose first call was lost: it is asked again.
+pub fn again_examples()
+    ensures { AgainExamples }
+{}
+
+/// Two lives of an actor, of which the earlier one is held to what its actor gave.
+pub fn earlier_examples()
+    ensures { EarlierExamples }
 {}
 
 /// How a turn may give fewer calls than its line says.
@@ -60,6 +71,21 @@ pub fn needed_examples()
 /// A turn that ends with nothing left to be called for, and one that leaves a key that it was told.
 pub fn left_examples()
     ensures { LeftExamples }
+{}
+
+/// Calls after which a life has nothing left to call for, and some after which it has.
+pub fn done_examples()
+    ensures { DoneExamples }
+{}
+
+/// A life that lost one call: of one key it may have been that call, of two keys one is left.
+pub fn one_loss_examples()
+    ensures { OneLossExamples }
+{}
+
+/// Lives one after the other: calls of an earlier one that were needed, and a turn that would end by it.
+pub fn next_life_examples()
+    ensures { NextLifeExamples }
 {}
 
 /// An agent that was told StaleEpoch.

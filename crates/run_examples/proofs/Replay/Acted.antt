@@ -35,7 +35,7 @@ use Rattle.model_laws.proofs.Readings.{found_stands as found_in}
 use Rattle.world_core.specs.declared.drained.Drained.{Drained}
 use Rattle.world_core.specs.declared.drained.Drained.TheVariants.{Spent}
 use Rattle.actor_rounds.specs.declared.drainers.Drainer.{Drainer}
-use Rattle.actor_rounds.specs.Drainers.{AreNew, roles_for, roles_of}
+use Rattle.actor_rounds.specs.Drainers.{AreNew, roles_for, roles_of, seats_for, seats_of}
 use Rattle.actor_rounds.proofs.NewFacts.{new_roles_for, new_seats_for}
 use Rattle.script_text.specs.declared.script.Line.{Line}
 use Rattle.script_text.specs.declared.script.Line.TheVariants as lines
@@ -68,11 +68,25 @@ no_agent ds new same =
     let five : roles_for [] ≡ drain_roles node_script = sym (new_roles_for (drain_seat node_script) [] ds new) ∙ same in
     none_some (ap sixth five)
 
+-- nor are they at the seats after theirs
+
+abbrev first_in : List ℕ → ℕ
+first_in [] = 0
+first_in (seat ∷ seats) = seat
+
+not_later : (ds : List Drainer) → AreNew (drain_seat node_script + 1) node_script.node_names ds → seats_of ds ≡ seats_for (drain_seat node_script) node_script.node_names → ⊥
+not_later ds new same =
+    let both : seats_for (drain_seat node_script + 1) node_script.node_names ≡ seats_for (drain_seat node_script) node_script.node_names =
+    sym (new_seats_for (drain_seat node_script + 1) node_script.node_names ds new) ∙ same in
+    let first : 8 ≡ 7 = ap first_in both in omega (arith, first)
+
 pub actor_cases : ActorExamples
 actor_cases = record {
   no_replay_without_its_agent = λ past ending r new. no_agent r.drainers new (new_roles_for (drain_seat node_script) node_script.node_names r.drainers r.new);
   nor_at_any_drain = λ p new are. no_agent p.drainers new are.roles;
   no_stage_without_it = λ p s new stands. no_agent s.drainers new (ap roles_of stands.drainers ∙ stands.are.roles);
+  no_replay_at_later_seats = λ past ending r new. not_later r.drainers new (new_seats_for (drain_seat node_script) node_script.node_names r.drainers r.new);
+  nor_any_drain_there = λ p new are. not_later p.drainers new are.seats;
   with_it_they_are_its_actors = λ ds new. (new_seats_for (drain_seat node_script) node_script.node_names ds new, new_roles_for (drain_seat node_script) node_script.node_names ds new);
 }
 

@@ -195,6 +195,8 @@ drain_cases = record {
   not_volume_protection = not_at volume_script 9 true refl (λ (e : 9 ≡ 7). absurd (omega (arith, e)));
   not_the_agent_of_a_node = not_at node_script 10 true refl (λ (e : 10 ≡ 7). absurd (omega (arith, e)));
   not_a_seat_after_them = not_at volume_script 10 true refl (λ (e : 10 ≡ 7). absurd (omega (arith, e)));
+  not_at_the_seat_of_the_binder = λ d. let seat : 5 ≡ 7 = its_seat volume_script refl (begins_with 5) d in absurd (omega (arith, seat));
+  nor_at_that_of_the_agent = λ d. let seat : 10 ≡ 7 = its_seat node_script refl (begins_with 10) d in absurd (omega (arith, seat));
   not_a_user = not_at volume_script 4 true refl (λ (e : 4 ≡ 7). absurd (omega (arith, e)));
   not_a_user_at_its_seat = λ d. absurd (true≢false (sym (ap is_scheduler (its_kind volume_script refl (record (begins_with 7) { kind = seats.User }) d))));
   not_another_kind_at_its_seat = λ d. absurd (true≢false (sym (ap is_scheduler (its_kind volume_script refl (record (begins_with 7) { kind = seats.VolumeProtect }) d))));

@@ -1,5 +1,5 @@
 -- The examples of the calls of one life compute.
-use Rattle.std.proofs.Common.{◌≡◌, ℕ, zero, suc, List, [], ◌∷◌, Bool, true, false, true≢false, Some, None, refl, sym, ◌∙◌, ap, subst}
+use Rattle.std.proofs.Common.{◌≡◌, ◌≢◌, ◌⊎◌, ℕ, zero, suc, List, [], ◌∷◌, Bool, true, false, true≢false, Some, None, inl, inr, refl, sym, ◌∙◌, ap, subst, arith}
 use Rattle.std.specs.Prelude.{slice_get}
 use Rattle.kube_parts.specs.declared.parts.Kind.{Kind}
 use Rattle.kube_parts.specs.declared.parts.Kind.TheVariants as kinds
@@ -7,25 +7,22 @@ use Rattle.call_types.specs.declared.entry.Entry.{Entry}
 use Rattle.call_types.specs.declared.request.Request.{Request}
 use Rattle.call_types.specs.declared.request.Request.TheVariants as requests
 use Rattle.attention_law.specs.Diligence.{Call}
-use Rattle.attention_law.specs.Played.{IsPlayed}
 use Rattle.attention_law.specs.Resting.{IsPlayedSince}
-use Rattle.attention_law.proofs.Following.{same_role, stands_now}
-use Rattle.attention_law.proofs.Needed.{played_on}
 use Rattle.model_laws.proofs.Lists.{none_some, one}
-use Rattle.worker_core.specs.declared.turn.Next.TheVariants as nexts
-use Rattle.worker_core.specs.States.{ActorState, call_in}
+use Rattle.worker_core.specs.States.{ActorState}
+use Rattle.actor_rounds.proofs.RoundFacts.{same_or_not}
 use Rattle.script_lines.specs.declared.actors.Actor.{Actor}
 use Rattle.script_text.specs.declared.script.Line.TheVariants as lines
 use Rattle.script_runs.specs.Examples.{binder_1}
 use Rattle.script_runs.specs.Parts.{part_of, role_of}
 use Rattle.actor_turns.specs.declared.part.Part.{Part}
 use Rattle.actor_turns.specs.Calls.{AreOfLife}
-use Rattle.actor_turns.specs.Lives.{ArePlayedLives, IsIdleLife}
+use Rattle.actor_turns.specs.Lives.{ArePlayedLives, IsPlayedLife}
 use Rattle.actor_turns.proofs.Diligent.{played_lives_are_diligent}
 use Rattle.run_examples.specs.Replay.Calls.{first_list, reads}
-use Rattle.run_examples.specs.Replay.Lives.{IsFirstPlayed, LifeExamples, PlayedExamples, lossy_part, sound_part}
+use Rattle.run_examples.specs.Replay.Lives.{AgainExamples, BothPlayed, EarlierExamples, IsFirstPlayed, IsPlayedAfterLoss, LifeExamples, PlayedExamples, lossy_part, restarted_part, sound_part}
 use Rattle.run_examples.specs.Replay.Replays.{turn_script}
-use Rattle.run_examples.proofs.Replay.Played.{binder_listed, binder_lost, binder_untold, first_lists, list_volumes, lists_first, same_calls}
+use Rattle.run_examples.proofs.Replay.Played.{binder_listed, binder_lost, binder_relisted, binder_untold, first_lists, last_lists, list_volumes, never_idle, same_calls}
 use Rattle.run_examples.proofs.Replay.Replayed.{turn_replay, turned_lives}
 
 -- ---- a first life of one call
@@ -46,14 +43,6 @@ is_volumes kind = false
 abbrev lists_volumes : Request → Bool
 lists_volumes (requests.List kind namespace) = is_volumes kind
 lists_volumes request = false
-
--- the turn of a life that was told nothing gives a call
-never_idle : IsIdleLife [] (role_of binder_1) sound_part 5 0 [] [] [] → ⊥
-never_idle idle =
-    none_some (ap call_in (lists_first idle.state idle.turned nexts.Idle (same_role (role_of binder_1) idle.state [] played) (stands_now (role_of binder_1) idle.state [] played) idle.turns.turn))
-  where
-    played : IsPlayed (role_of binder_1) idle.state []
-    played = played_on (role_of binder_1) idle.state [] [] idle.played
 
 turned_actor : (actor : Actor) (calls : ℕ) → lines.Turn binder_1 1 ≡ lines.Turn actor calls → binder_1 ≡ actor
 turned_actor actor calls is = cc
@@ -78,9 +67,50 @@ played_cases = record {
   lost_after_it = its_first (lossy_part true) (record first_list { told = false } ∷ []) _ (Some (record first_list { told = false })) (record { of_seat = refl; left = refl }) binder_untold;
   nor_a_lost_read_of_one_object = λ life. absurd (true≢false
       (sym (ap lists_volumes (first_lists (lossy_part true) 5 (reads 5 false ∷ []) (reads 5 false) (record { of_seat = refl; left = refl }) life))));
-  not_idle_at_once = never_idle;
+  not_idle_at_once = never_idle sound_part 5 0 [] [] refl;
   it_is_diligent = λ past life. played_lives_are_diligent [] (role_of binder_1) sound_part 5 1 past [] tt life;
   a_turn_of_one_call = record { calls = turn_replay; played = all_lives };
+}
+
+-- ---- a life whose first call was lost
+
+-- its second call lists the volumes
+asked_again : (e : Entry) → IsPlayedAfterLoss (e ∷ []) → AreOfLife [] (lossy_part false) 5 2 (e ∷ []) (Some e ∷ None ∷ []) → e.request ≡ list_volumes
+asked_again e life are = last_lists (lossy_part false) 5 2 (e ∷ []) [] [] e (None ∷ []) are refl life
+
+pub again_cases : AgainExamples
+again_cases = record {
+  it_lists_the_volumes_again = record { since = Some first_list ∷ None ∷ []; are = record { of_seat = refl; left = refl }; state = _; played = binder_relisted };
+  not_a_read_of_one_object = λ life. absurd (true≢false (sym (ap lists_volumes (asked_again (reads 5 true) life (record { of_seat = refl; left = refl })))));
+  not_a_watch = λ life. absurd (true≢false
+      (sym (ap lists_volumes (asked_again (record first_list { request = requests.Watch kinds.PersistentVolume 0 }) life (record { of_seat = refl; left = refl })))));
+  not_a_list_of_the_next_kind = λ life. absurd (true≢false
+      (sym (ap lists_volumes (asked_again (record first_list { request = requests.List kinds.PersistentVolumeClaim None }) life (record { of_seat = refl; left = refl })))));
+}
+
+-- ---- an earlier life and a later one
+
+both_played : BothPlayed (first_list ∷ [])
+both_played seat low high = by (same_or_not 5 seat)
+  where
+    by : (5 ≡ seat) ⊎ (5 ≢ seat) → IsPlayedLife [] (role_of binder_1) restarted_part seat 2 (first_list ∷ []) []
+    by (inl is) = subst (λ s. IsPlayedLife [] (role_of binder_1) restarted_part s 2 (first_list ∷ []) []) is
+        (record { since = Some first_list ∷ []; are = record { of_seat = refl; left = refl }; state = _; played = binder_listed })
+    by (inr other) =
+        let second : 6 ≡ seat = omega (arith, low, high, other) in
+        subst (λ s. IsPlayedLife [] (role_of binder_1) restarted_part s 2 (first_list ∷ []) []) second
+        (record { since = None ∷ []; are = record { of_seat = refl; left = refl }; state = _; played = binder_lost })
+
+-- the call of the earlier one lists the volumes
+earlier_asked : (e : Entry) → BothPlayed (e ∷ []) → AreOfLife [] restarted_part 5 2 (e ∷ []) (Some e ∷ []) → e.request ≡ list_volumes
+earlier_asked e both are = last_lists restarted_part 5 2 (e ∷ []) [] [] e [] are refl (both 5 (omega arith) (omega arith))
+
+pub earlier_cases : EarlierExamples
+earlier_cases = record {
+  each_begins_with_its_list = both_played;
+  not_where_the_earlier_one_read_in_vain = λ both. absurd (true≢false (sym (ap lists_volumes (earlier_asked (reads 5 true) both (record { of_seat = refl; left = refl })))));
+  nor_where_it_watched = λ both. absurd (true≢false
+      (sym (ap lists_volumes (earlier_asked (record first_list { request = requests.Watch kinds.PersistentVolume 0 }) both (record { of_seat = refl; left = refl })))));
 }
 
 -- ---- the calls of a life

@@ -40,7 +40,7 @@ use Rattle.attention_law.proofs.Following.{no_list, same_head, same_role, same_t
 use Rattle.attention_law.proofs.Needed.{played_on}
 use Rattle.actor_turns.specs.declared.part.Part.{Part}
 use Rattle.actor_turns.specs.Calls.{AreOfLife}
-use Rattle.actor_turns.specs.Lives.{IsPlayedLife, WasPlayed}
+use Rattle.actor_turns.specs.Lives.{IsIdleLife, IsPlayedLife, WasPlayed}
 use Rattle.model_laws.proofs.Lists.{none_some, one}
 use Rattle.run_examples.specs.Replay.Calls.{first_list}
 use Rattle.run_examples.proofs.Replay.Firsts.{asked_list, not_listed}
@@ -245,6 +245,14 @@ binder_listed =
     (told_stands (given_as binder read_volumes) [] first_list list_volumes tt (given_stands binder read_volumes (refl, refl, refl)) refl refl refl (its_own true)
     listed_caches first_list.reply (record { told = refl; asked = refl; answered = refl }) listed_stand)
 
+-- one that was told it when it asked again
+pub binder_relisted : IsPlayedSince binder listed_as [] (Some first_list ∷ None ∷ [])
+binder_relisted =
+    Hears (lost_as binder read_volumes list_volumes) (None ∷ []) first_list list_volumes first_list.reply binder_lost refl (record { told = refl; asked = refl; answered = refl })
+    (plays listed_as (outcomes.Told first_list.reply) refl)
+    (told_stands (given_as binder read_volumes) [] first_list list_volumes tt (given_stands binder read_volumes (refl, refl, refl)) refl refl refl (its_own true)
+    listed_caches first_list.reply (record { told = refl; asked = refl; answered = refl }) listed_stand)
+
 -- one that was not told it
 pub binder_untold : IsPlayedSince binder (lost_as binder read_volumes list_volumes) [] (Some (listed false) ∷ [])
 binder_untold =
@@ -287,44 +295,55 @@ lists_first s given answer is stands turn = by s.memory.stale s.under (start_cal
         ∙ ap (λ (r : Request). nexts.Call r) (asked_list s.caches kinds.PersistentVolume (not_listed kinds.PersistentVolume s.caches [] stands.caches refl))
     by false None None None p es eu et el t = none_some (sym el ∙ mine_lacks)
 
--- as the turn of its first call says
-asked_at : (old : ActorState) (before : List Call) (request : Request) → IsPlayed binder old before → before ≡ [] → (turned : ActorState)
+-- so a life without calls is not idle
+pub never_idle : (part : Part) (seat made : ℕ) (past : List Entry) (since : List Call) → since ≡ [] → IsIdleLife [] binder part seat made past [] since → ⊥
+never_idle part seat made past since none idle =
+    none_some (ap call_in (lists_first idle.state idle.turned nexts.Idle (same_role binder idle.state (since ++ []) played)
+    (subst (λ c. StandsFor idle.state (entries (c ++ []))) none (stands_now binder idle.state (since ++ []) played)) idle.turns.turn))
+  where
+    played : IsPlayed binder idle.state (since ++ [])
+    played = played_on binder idle.state [] since idle.played
+
+-- as the turn says by which it is first told anything
+asked_at : (old : ActorState) (before : List Call) (request : Request) → IsPlayed binder old before → entries before ≡ [] → (turned : ActorState)
     → IsTurn old turned (nexts.Call request) → request ≡ list_volumes
 asked_at old before request played none turned turn =
-    one request list_volumes (ap call_in (lists_first old turned (nexts.Call request) (same_role binder old before played)
-    (subst (λ c. StandsFor old (entries c)) none (stands_now binder old before played)) turn))
+    one request list_volumes (ap call_in (lists_first old turned (nexts.Call request) (same_role binder old before played) (subst (StandsFor old) none (stands_now binder old before played)) turn))
 
-no_end : (newer : List Call) (c : Call) → [] ≡ newer ++ c ∷ [] → ⊥
-no_end [] c is = no_list c [] is
-no_end (x ∷ newer) c is = no_list x (newer ++ c ∷ []) is
+no_end : (newer : List Call) (c : Call) (older : List Call) → [] ≡ newer ++ c ∷ older → ⊥
+no_end [] c older is = no_list c older is
+no_end (x ∷ newer) c older is = no_list x (newer ++ c ∷ older) is
 
--- the first call of a binder's life, the oldest one, lists the volumes
-pub oldest_asked : (s : ActorState) (newer : List Call) (e : Entry) (calls : List Call) → IsPlayed binder s calls → calls ≡ newer ++ Some e ∷ [] → e.request ≡ list_volumes
-oldest_asked s newer e calls (Begins none new stands) is = absurd (no_end newer (Some e) (sym none ∙ is))
-oldest_asked s newer e calls (Wakes old turned played turns woke stands) is = oldest_asked old newer e calls played is
-oldest_asked s [] e calls (Told old before x request reply played call told plays stands) is =
-    let at : x ≡ e = one x e (same_head (Some x) (Some e) before [] (sym call ∙ is)) in
-    sym (ap (λ (y : Entry). y.request) at) ∙ told.asked ∙ asked_at old before request played (same_tail (Some x) (Some e) before [] (sym call ∙ is)) plays.turned plays.turns.turn
-oldest_asked s (c ∷ newer) e calls (Told old before x request reply played call told plays stands) is =
-    oldest_asked old newer e before played (same_tail (Some x) c before (newer ++ Some e ∷ []) (sym call ∙ is))
-oldest_asked s [] e calls (LostBefore old before request played call plays stands) is = none_some (same_head None (Some e) before [] (sym call ∙ is))
-oldest_asked s (c ∷ newer) e calls (LostBefore old before request played call plays stands) is =
-    oldest_asked old newer e before played (same_tail None c before (newer ++ Some e ∷ []) (sym call ∙ is))
-oldest_asked s [] e calls (LostAfter old before x request played call lost same plays stands) is =
-    let at : x ≡ e = one x e (same_head (Some x) (Some e) before [] (sym call ∙ is)) in
-    sym (ap (λ (y : Entry). y.request) at) ∙ same ∙ asked_at old before request played (same_tail (Some x) (Some e) before [] (sym call ∙ is)) plays.turned plays.turns.turn
-oldest_asked s (c ∷ newer) e calls (LostAfter old before x request played call lost same plays stands) is =
-    oldest_asked old newer e before played (same_tail (Some x) c before (newer ++ Some e ∷ []) (sym call ∙ is))
+-- the first call of a binder's life that left an entry lists the volumes
+pub oldest_asked : (s : ActorState) (newer : List Call) (e : Entry) (lost calls : List Call) → IsPlayed binder s calls
+    → calls ≡ newer ++ Some e ∷ lost → entries lost ≡ [] → e.request ≡ list_volumes
+oldest_asked s newer e lost calls (Begins none new stands) is left = absurd (no_end newer (Some e) lost (sym none ∙ is))
+oldest_asked s newer e lost calls (Wakes old turned played turns woke stands) is left = oldest_asked old newer e lost calls played is left
+oldest_asked s [] e lost calls (Told old before x request reply played call told plays stands) is left =
+    let at : x ≡ e = one x e (same_head (Some x) (Some e) before lost (sym call ∙ is)) in
+    let none : entries before ≡ [] = ap entries (same_tail (Some x) (Some e) before lost (sym call ∙ is)) ∙ left in
+    sym (ap (λ (y : Entry). y.request) at) ∙ told.asked ∙ asked_at old before request played none plays.turned plays.turns.turn
+oldest_asked s (c ∷ newer) e lost calls (Told old before x request reply played call told plays stands) is left =
+    oldest_asked old newer e lost before played (same_tail (Some x) c before (newer ++ Some e ∷ lost) (sym call ∙ is)) left
+oldest_asked s [] e lost calls (LostBefore old before request played call plays stands) is left = none_some (same_head None (Some e) before lost (sym call ∙ is))
+oldest_asked s (c ∷ newer) e lost calls (LostBefore old before request played call plays stands) is left =
+    oldest_asked old newer e lost before played (same_tail None c before (newer ++ Some e ∷ lost) (sym call ∙ is)) left
+oldest_asked s [] e lost calls (LostAfter old before x request played call untold same plays stands) is left =
+    let at : x ≡ e = one x e (same_head (Some x) (Some e) before lost (sym call ∙ is)) in
+    let none : entries before ≡ [] = ap entries (same_tail (Some x) (Some e) before lost (sym call ∙ is)) ∙ left in
+    sym (ap (λ (y : Entry). y.request) at) ∙ same ∙ asked_at old before request played none plays.turned plays.turns.turn
+oldest_asked s (c ∷ newer) e lost calls (LostAfter old before x request played call untold same plays stands) is left =
+    oldest_asked old newer e lost before played (same_tail (Some x) c before (newer ++ Some e ∷ lost) (sym call ∙ is)) left
 
 -- as its calls stand in a history
-pub last_lists : (part : Part) (seat made : ℕ) (past : List Entry) (newer before : List Call) (e : Entry) → AreOfLife [] part seat made past (newer ++ Some e ∷ [])
-    → IsPlayedLife [] binder part seat made past before → e.request ≡ list_volumes
-last_lists part seat made past newer before e of_it life =
-    oldest_asked life.state newer e (life.since ++ before) (played_on binder life.state before life.since life.played)
-    (same_calls (life.since ++ before) (newer ++ Some e ∷ []) (life.are.of_seat ∙ sym of_it.of_seat) (life.are.left ∙ sym of_it.left))
+pub last_lists : (part : Part) (seat made : ℕ) (past : List Entry) (newer before : List Call) (e : Entry) (lost : List Call)
+    → AreOfLife [] part seat made past (newer ++ Some e ∷ lost) → entries lost ≡ [] → IsPlayedLife [] binder part seat made past before → e.request ≡ list_volumes
+last_lists part seat made past newer before e lost of_it left life =
+    oldest_asked life.state newer e lost (life.since ++ before) (played_on binder life.state before life.since life.played)
+    (same_calls (life.since ++ before) (newer ++ Some e ∷ lost) (life.are.of_seat ∙ sym of_it.of_seat) (life.are.left ∙ sym of_it.left)) left
 
 pub first_lists : (part : Part) (seat : ℕ) (past : List Entry) (e : Entry) → AreOfLife [] part seat 1 past (Some e ∷ []) → IsPlayedLife [] binder part seat 1 past [] → e.request ≡ list_volumes
-first_lists part seat past e of_it life = last_lists part seat 1 past [] [] e of_it life
+first_lists part seat past e of_it life = last_lists part seat 1 past [] [] e [] of_it refl life
 
 pub was_first : (part : Part) (seat : ℕ) (past : List Entry) (e : Entry) → AreOfLife [] part seat 1 past (Some e ∷ []) → WasPlayed [] binder part seat 1 past → e.request ≡ list_volumes
-was_first part seat past e of_it was = last_lists part seat 1 past [] was.before e of_it was.life
+was_first part seat past e of_it was = last_lists part seat 1 past [] was.before e [] of_it refl was.life

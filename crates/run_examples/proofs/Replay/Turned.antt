@@ -63,7 +63,7 @@ no_lists (inr fewer) =
     let its : IsPlayedLife [] (role_of binder_1) plain_part 5 3 whole_pass [] =
     subst (λ n. IsPlayedLife [] (role_of binder_1) plain_part 5 n whole_pass []) made (subst (λ h. IsPlayedLife [] (role_of binder_1) plain_part 5 (0 + fewer.count) h []) past life) in
     absurd (true≢false (sym (ap is_list (last_lists plain_part 5 3 whole_pass
-    (Some (watches kinds.StorageClass) ∷ Some (watches kinds.PersistentVolumeClaim) ∷ []) [] (watches kinds.PersistentVolume) (record { of_seat = refl; left = refl }) its))))
+    (Some (watches kinds.StorageClass) ∷ Some (watches kinds.PersistentVolumeClaim) ∷ []) [] (watches kinds.PersistentVolume) [] (record { of_seat = refl; left = refl }) refl its))))
 
 all_three : IsTurnLine all_pass [] (role_of binder_1) plain_part 3 (first_progress None []) after_a_pass → ⊥
 all_three (inl all) = let e : told_calls whole_pass ≡ [] = ap (λ (p : Progress). p.idle 5) all.is in absurd (cc)

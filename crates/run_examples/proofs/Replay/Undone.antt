@@ -1,5 +1,5 @@
 -- The examples of what turns may not leave undone compute.
-use Rattle.std.proofs.Common.{◌≡◌, ℕ, ◌<◌, ◌≤◌, ◌+◌, List, [], ◌∷◌, ◌++◌, length, true, true≢false, Some, None, inl, inr, refl, sym, ◌∙◌, ap, subst, append-nil, arith}
+use Rattle.std.proofs.Common.{◌≡◌, ℕ, ◌<◌, ◌≤◌, ◌+◌, List, [], ◌∷◌, ◌++◌, length, true, false, true≢false, Some, None, inl, inr, refl, sym, ◌∙◌, ap, subst, append-nil, arith}
 use Rattle.kube_objects.specs.declared.key.Key.{Key}
 use Rattle.kube_parts.specs.declared.parts.Kind.{Kind}
 use Rattle.kube_parts.specs.declared.parts.Kind.TheVariants as kinds
@@ -17,7 +17,7 @@ use Rattle.model_examples.specs.Samples.{key_a}
 use Rattle.worker_core.specs.declared.role.Role.{Role}
 use Rattle.worker_core.specs.declared.task.Task.TheVariants as tasks
 use Rattle.worker_core.specs.declared.task.Under.{Under}
-use Rattle.attention_law.specs.Diligence.{Call, IsKeyDue}
+use Rattle.attention_law.specs.Diligence.{Call, IsDueThroughout, IsKeyDue}
 use Rattle.attention_law.specs.Resting.{AreNeeded, Brings, IsDone, IsSilentOnceStale, WasCalledSince}
 use Rattle.attention_law.proofs.Dues.{asked_no_read, never_due}
 use Rattle.attention_law.proofs.Showings.{one_showing}
@@ -32,11 +32,29 @@ use Rattle.actor_turns.specs.Diligent.{IsNeededLife}
 use Rattle.actor_turns.specs.Lives.{IsIdleLife, IsPlayedLife}
 use Rattle.actor_turns.proofs.Diligent.{idle_lives_are_done, played_lives_are_needed}
 use Rattle.script_runs.specs.Replays.{IsTurnLine, Progress, first_progress}
-use Rattle.run_examples.specs.Replay.Calls.{told_calls, watches}
+use Rattle.run_examples.specs.Replay.Calls.{told_calls, watches, whole_pass}
 use Rattle.run_examples.specs.Replay.Replays.{plain_part}
-use Rattle.run_examples.specs.Replay.Turns.{LeftExamples, NeededExamples, StaleExamples, agent_n, agent_part, is_stale, lists, lost_node, made_fewer, only_watches, pending_a, six, takes}
-use Rattle.run_examples.proofs.Replay.Brought.{brought_at, no_binder_is_stale, only_life, watch_brings_none}
-use Rattle.run_examples.proofs.Replay.Played.{same_calls}
+use Rattle.run_examples.specs.Replay.Turns.{
+  DoneExamples,
+  LeftExamples,
+  NeededExamples,
+  NextLifeExamples,
+  StaleExamples,
+  agent_n,
+  agent_part,
+  is_stale,
+  lists,
+  lost_node,
+  made_fewer,
+  only_watches,
+  pending_a,
+  restarted_after,
+  restarted_late,
+  six,
+  takes,
+}
+use Rattle.run_examples.proofs.Replay.Brought.{AreBrought, brought_at, no_binder_is_stale, only_life, silent_binder, watch_brings_none}
+use Rattle.run_examples.proofs.Replay.Played.{never_idle, same_calls}
 use Rattle.actor_rounds.specs.Answers.Answered.{all_pass}
 use Rattle.machine_examples.proofs.Life.Computed.{listed_object as listed_row}
 
@@ -262,6 +280,116 @@ left_cases = record {
   not_where_a_told_key_is_left = left_told;
   a_lost_call_counts_for_it = done_lossy;
   not_one_lost_before_it_was_told = lost_earlier;
+}
+
+-- ---- a pass without events
+
+-- it brings no key
+quiet_brings : (before newer : List Call) → AreBrought binder before newer (told_calls whole_pass)
+quiet_brings before newer = (
+  λ key brings due. absurd (watch_brings_none kinds.StorageClass key brings),
+  (λ key brings due. absurd (watch_brings_none kinds.PersistentVolumeClaim key brings), (λ key brings due. absurd (watch_brings_none kinds.PersistentVolume key brings), tt)),
+)
+
+done_quiet : IsDone binder [] (told_calls whole_pass)
+done_quiet = record {
+  passed = record { whole = refl; quiet = refl };
+  brought = λ key e later earlier at brings due. brought_at binder [] [] (told_calls whole_pass) (quiet_brings [] []) key e later earlier at brings due;
+  due = λ key due. absurd (nothing_due key due.1.1.1);
+}
+
+-- the volume that was told before is due at each point of it, and is not called for
+
+due_later : (newer : List Entry) → ((kind : Kind) (namespace name : List ℕ) → Shown newer kind namespace name) → IsKeyDue binder key_a newer
+due_later newer shown = pending_due newer (λ key. shown key.kind key.namespace key.name)
+
+quiet_due : IsDueThroughout binder key_a (told_calls only_watches) (told_calls whole_pass)
+quiet_due = (due_later _ shown_three, (due_later _ shown_three, (due_later _ shown_three, due_six)))
+
+left_before : IsDone binder (told_calls only_watches) (told_calls whole_pass) → ⊥
+left_before done = none_watched (done.due key_a quiet_due)
+  where
+    none_watched : WasCalledSince binder key_a (told_calls only_watches) (told_calls whole_pass) → ⊥
+    none_watched (inl asked) = asked_no_read binder key_a _ (watches kinds.StorageClass).request kinds.StorageClass refl asked
+    none_watched (inr (inl asked)) = asked_no_read binder key_a _ (watches kinds.PersistentVolumeClaim).request kinds.PersistentVolumeClaim refl asked
+    none_watched (inr (inr (inl asked))) = asked_no_read binder key_a _ (watches kinds.PersistentVolume).request kinds.PersistentVolume refl asked
+    none_watched (inr (inr (inr none))) = none
+
+-- a call was lost before it
+abbrev quiet_after_loss : List Call
+quiet_after_loss = Some (watches kinds.StorageClass) ∷ Some (watches kinds.PersistentVolumeClaim) ∷ Some (watches kinds.PersistentVolume) ∷ None ∷ []
+
+done_after_loss : IsDone binder (told_calls only_watches) quiet_after_loss
+done_after_loss = record {
+  passed = record { whole = refl; quiet = refl };
+  brought = λ key e later earlier at brings due. brought_at binder (told_calls only_watches) [] quiet_after_loss (
+    λ key brings due. absurd (watch_brings_none kinds.StorageClass key brings),
+    (λ key brings due. absurd (watch_brings_none kinds.PersistentVolumeClaim key brings), (λ key brings due. absurd (watch_brings_none kinds.PersistentVolume key brings), tt)),
+  )
+      key e later earlier at brings due;
+  due = λ key due. inr (inr (inr tt));
+}
+
+pub done_cases : DoneExamples
+done_cases = record {
+  after_a_whole_pass = done_quiet;
+  not_at_once = λ done. true≢false (sym done.passed.whole);
+  not_before_each_kind_was_watched = λ done. true≢false (sym done.passed.whole);
+  not_where_the_pass_brought_an_event = λ done. true≢false done.passed.quiet;
+  not_where_a_key_of_before_is_left = left_before;
+  a_lost_call_since_counts_for_it = done_after_loss;
+}
+
+-- ---- the life that makes the next call
+
+-- it has no calls yet
+no_calls : AreOfLife [] restarted_late 6 6 six []
+no_calls = record { of_seat = refl; left = refl }
+
+new_life : (since : List Call) → IsIdleLife [] binder restarted_late 6 6 six [] since → ⊥
+new_life since idle = never_idle restarted_late 6 6 six since (told_life restarted_late 6 6 six [] since [] idle.are refl no_calls) idle
+
+other_life : (after : Progress) → after.past ≡ six → IsTurnLine all_pass [] (role_of binder_1) restarted_late 9 (first_progress None []) after → ⊥
+other_life after at (inl all) =
+    let past : length all.past ≡ 6 = ap length (sym (ap (λ (p : Progress). p.past) all.is) ∙ at) in
+    let count : length all.past ≡ 0 + 9 = told_count restarted_late all.past 1 9 [] refl all.made in
+    absurd (omega (arith, past, count))
+other_life after at (inr fewer) =
+    let past : fewer.past ≡ six = sym (ap (λ (p : Progress). p.past) fewer.is) ∙ at in
+    let long : length fewer.past ≡ 6 = ap length past in
+    let count : length fewer.past ≡ 0 + fewer.count = told_count restarted_late fewer.past 1 fewer.count [] refl fewer.made in
+    let made : 0 + fewer.count ≡ 6 = omega (arith, long, count) in
+    let seat : fewer.seat ≡ 6 = fewer.life ∙ ap (λ n. seat_at restarted_late (n + 1)) made in
+    new_life fewer.since (subst (λ s. IsIdleLife [] binder restarted_late s 6 six [] fewer.since) seat
+    (subst (λ n. IsIdleLife [] binder restarted_late fewer.seat n six [] fewer.since) made
+    (subst (λ h. IsIdleLife [] binder restarted_late fewer.seat (0 + fewer.count) h [] fewer.since) past fewer.ends)))
+
+earlier_needed : IsNeededLife [] binder restarted_late 5 7 six []
+earlier_needed = record {
+  since = told_calls six;
+  are = record { of_seat = refl; left = refl };
+  needed = (
+    (((((tt, no_watch), no_watch), no_watch), λ is passed. true≢false (sym passed.whole)), λ is passed. true≢false (sym passed.whole)),
+    λ is passed. true≢false (sym passed.whole),
+  );
+  silent = silent_binder (told_calls six ++ []);
+}
+  where
+    no_watch : {passed : Type 0} → false ≡ true → passed → ⊥
+    no_watch is passed = true≢false (sym is)
+
+earlier_in_vain : IsNeededLife [] binder (restarted_after 7) 5 8 (watches kinds.PersistentVolume ∷ six) [] → ⊥
+earlier_in_vain life =
+    let since = told_life (restarted_after 7) 5 8 (watches kinds.PersistentVolume ∷ six) (watches kinds.PersistentVolume ∷ six) life.since [] life.are refl
+    (record { of_seat = refl; left = refl }) in
+    (subst (AreNeeded seats.Binder) since life.needed).1 refl (record { whole = refl; quiet = refl })
+
+pub next_life_cases : NextLifeExamples
+next_life_cases = record {
+  each_call_of_an_earlier_life_was_needed = earlier_needed;
+  not_a_watch_after_its_quiet_pass = earlier_in_vain;
+  a_new_life_is_not_idle = new_life;
+  not_where_an_earlier_life_is_idle = other_life;
 }
 
 -- ---- an agent

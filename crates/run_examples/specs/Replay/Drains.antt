@@ -1,5 +1,5 @@
 -- Drains, and how they end: cases that hold, and cases beside them that do not. A choice of this project.
-use Rattle.std.specs.Prelude.{ℕ, ◌≡◌, true, false, List, [], ◌∷◌, Option, Some, None, codes, slice_get}
+use Rattle.std.specs.Prelude.{ℕ, ◌≡◌, ◌+◌, true, false, List, [], ◌∷◌, Option, Some, None, codes, slice_get}
 use Rattle.kube_parts.specs.declared.names.Due.TheVariants as dues
 use Rattle.kube_parts.specs.declared.parts.Kind.TheVariants as kinds
 use Rattle.kube_parts.specs.declared.parts.VolumePhase.TheVariants as phases
@@ -66,6 +66,8 @@ pub record DrainExamples : Type 0 where
   pub not_volume_protection : Drains volume_script 1 1 (reads 9 true ∷ []) → ⊥
   pub not_the_agent_of_a_node : Drains node_script 1 1 (reads 10 true ∷ []) → ⊥
   pub not_a_seat_after_them : Drains volume_script 1 1 (reads 10 true ∷ []) → ⊥
+  pub not_at_the_seat_of_the_binder : Drains volume_script 1 1 (begins_with 5 ∷ []) → ⊥
+  pub nor_at_that_of_the_agent : Drains node_script 1 1 (begins_with 10 ∷ []) → ⊥
   pub not_a_user : Drains volume_script 1 1 (reads 4 true ∷ []) → ⊥
   pub not_a_user_at_its_seat : Drains volume_script 1 1 (record (begins_with 7) { kind = seats.User } ∷ []) → ⊥
   pub not_another_kind_at_its_seat : Drains volume_script 1 1 (record (begins_with 7) { kind = seats.VolumeProtect } ∷ []) → ⊥
@@ -79,11 +81,14 @@ pub record DrainExamples : Type 0 where
 
 -- ---- its actors
 
--- the actors of a drain of a script with a node, made for no node: the agent lacks
+-- the actors of a drain of a script with a node, made for no node: the agent lacks. Or made for the seats after theirs
 pub record ActorExamples : Type 0 where
   pub no_replay_without_its_agent : (past : List Entry) (ending : Drained) (r : IsReplay node_script None past ending) → AreNew (drain_seat node_script) [] r.drainers → ⊥
   pub nor_at_any_drain : (p : Progress) → AreNew (drain_seat node_script) [] p.drainers → AreDrainers node_script (drain_seat node_script) None p → ⊥
   pub no_stage_without_it : (p : Progress) (s : Stage) → AreNew (drain_seat node_script) [] s.drainers → StageStands node_script None p s → ⊥
+  pub no_replay_at_later_seats : (past : List Entry) (ending : Drained) (r : IsReplay node_script None past ending)
+      → AreNew (drain_seat node_script + 1) node_script.node_names r.drainers → ⊥
+  pub nor_any_drain_there : (p : Progress) → AreNew (drain_seat node_script + 1) node_script.node_names p.drainers → AreDrainers node_script (drain_seat node_script) None p → ⊥
   pub with_it_they_are_its_actors : (ds : List Drainer) → AreNew (drain_seat node_script) node_script.node_names ds → (seats_of ds ≡ drain_seats node_script) × (roles_of ds ≡ drain_roles node_script)
 
 -- ---- drains go on from where the last one left their actors

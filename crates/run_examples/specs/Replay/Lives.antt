@@ -11,7 +11,7 @@ use Rattle.script_runs.specs.Examples.{binder_1, script_of}
 use Rattle.script_runs.specs.Parts.{part_of, role_of}
 use Rattle.actor_turns.specs.Calls.{AreOfLife, left_by}
 use Rattle.actor_turns.specs.Diligent.{IsDiligentLife}
-use Rattle.actor_turns.specs.Lives.{IsIdleLife, IsPlayedLife}
+use Rattle.actor_turns.specs.Lives.{ArePlayedLives, IsIdleLife, IsPlayedLife}
 use Rattle.script_runs.specs.Played.{IsPlayedReplay}
 use Rattle.run_examples.specs.Replay.Calls.{first_list, part, reads}
 use Rattle.run_examples.specs.Replay.Replays.{turn_script}
@@ -57,6 +57,31 @@ pub record PlayedExamples : Type 0 where
   pub not_idle_at_once : IsIdleLife [] (role_of binder_1) sound_part 5 0 [] [] [] → ⊥
   pub it_is_diligent : (past : List Entry) → IsFirstPlayed sound_part past → IsDiligentLife [] (role_of binder_1) sound_part 5 1 past
   pub a_turn_of_one_call : IsPlayedReplay turn_script None (first_list ∷ []) (Settled 0)
+
+-- a first life of two calls, of which the first was lost before its effect
+abbrev pub IsPlayedAfterLoss : List Entry → Type 0
+IsPlayedAfterLoss past = IsPlayedLife [] (role_of binder_1) (lossy_part false) 5 2 past []
+
+-- a loss excuses no other call: what was lost is asked again
+pub record AgainExamples : Type 0 where
+  pub it_lists_the_volumes_again : IsPlayedAfterLoss (first_list ∷ [])
+  pub not_a_read_of_one_object : IsPlayedAfterLoss (reads 5 true ∷ []) → ⊥
+  pub not_a_watch : IsPlayedAfterLoss (record first_list { request = requests.Watch kinds.PersistentVolume 0 } ∷ []) → ⊥
+  pub not_a_list_of_the_next_kind : IsPlayedAfterLoss (record first_list { request = requests.List kinds.PersistentVolumeClaim None } ∷ []) → ⊥
+
+-- it is restarted after its first call, and loses its second before its effect
+abbrev pub restarted_part : Part
+restarted_part = part_of (script_of [] (lines.Turn binder_1 2 ∷ lines.Lose binder_1 2 false ∷ lines.Restart binder_1 1 ∷ [])) binder_1
+
+-- both lives of it, with two calls in all
+abbrev pub BothPlayed : List Entry → Type 0
+BothPlayed past = ArePlayedLives [] (role_of binder_1) restarted_part 2 past (λ seat. [])
+
+-- an earlier life is held to what its actor gave, as the last one is
+pub record EarlierExamples : Type 0 where
+  pub each_begins_with_its_list : BothPlayed (first_list ∷ [])
+  pub not_where_the_earlier_one_read_in_vain : BothPlayed (reads 5 true ∷ []) → ⊥
+  pub nor_where_it_watched : BothPlayed (record first_list { request = requests.Watch kinds.PersistentVolume 0 } ∷ []) → ⊥
 
 pub record LifeExamples : Type 0 where
   pub which_leave_an_entry : left_by [] one_life 5 5 ≡ true ∷ false ∷ true ∷ true ∷ true ∷ []

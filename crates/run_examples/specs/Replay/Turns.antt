@@ -11,6 +11,7 @@ use Rattle.call_types.specs.declared.entry.Entry.{Entry}
 use Rattle.call_types.specs.declared.request.Request.{Request}
 use Rattle.call_types.specs.declared.request.Request.TheVariants as requests
 use Rattle.call_types.specs.declared.request.SeatKind.TheVariants as seats
+use Rattle.call_types.specs.declared.reply.Change.TheVariants as changes
 use Rattle.call_types.specs.declared.reply.Refusal.TheVariants.{StaleEpoch}
 use Rattle.call_types.specs.declared.reply.Reply.{Reply}
 use Rattle.call_types.specs.declared.reply.Reply.TheVariants as replies
@@ -24,9 +25,10 @@ use Rattle.actor_turns.specs.declared.part.Part.{Part}
 use Rattle.script_runs.specs.Examples.{binder_1, script_of}
 use Rattle.script_runs.specs.Parts.{part_of, role_of}
 use Rattle.actor_turns.specs.Calls.{and_idle}
+use Rattle.actor_turns.specs.Diligent.{IsNeededLife}
 use Rattle.actor_turns.specs.Lives.{ArePlayedLives, IsIdleLife}
 use Rattle.script_runs.specs.Replays.{IsTurnLine, Progress, and_made, first_progress}
-use Rattle.run_examples.specs.Replay.Calls.{told_calls, watches}
+use Rattle.run_examples.specs.Replay.Calls.{told_calls, watches, whole_pass}
 use Rattle.run_examples.specs.Replay.Replays.{plain_part}
 use Rattle.actor_rounds.specs.Answers.Answered.{all_pass}
 
@@ -81,6 +83,43 @@ pub record LeftExamples : Type 0 where
   pub not_one_lost_before_it_was_told : IsDone (role_of binder_1) []
       (Some (watches kinds.StorageClass) ∷ Some (watches kinds.PersistentVolumeClaim) ∷ Some (watches kinds.PersistentVolume) ∷ Some
       (lists kinds.StorageClass []) ∷ Some (lists kinds.PersistentVolumeClaim []) ∷ Some (lists kinds.PersistentVolume (Volume pending_a ∷ [])) ∷ None ∷ []) → ⊥
+
+-- ---- when a life has nothing left to call for
+
+-- a watch that told of the volume
+abbrev pub tells_event : Entry
+tells_event = record (watches kinds.PersistentVolume) {
+  reply = replies.Events (record { events = record { change = changes.Modified; object = Volume pending_a; version = 3 } ∷ []; upto = 3 });
+}
+
+-- by these calls, after those before them
+abbrev pub BinderIsDone : List Call → List Call → Type 0
+BinderIsDone before since = IsDone (role_of binder_1) before since
+
+pub record DoneExamples : Type 0 where
+  pub after_a_whole_pass : BinderIsDone [] (told_calls whole_pass)
+  pub not_at_once : BinderIsDone [] [] → ⊥
+  pub not_before_each_kind_was_watched : BinderIsDone [] (told_calls (watches kinds.PersistentVolumeClaim ∷ watches kinds.PersistentVolume ∷ [])) → ⊥
+  pub not_where_the_pass_brought_an_event : BinderIsDone [] (told_calls (watches kinds.StorageClass ∷ watches kinds.PersistentVolumeClaim ∷ tells_event ∷ [])) → ⊥
+  -- the volume was told before, and is due at each point since
+  pub not_where_a_key_of_before_is_left : BinderIsDone (told_calls only_watches) (told_calls whole_pass) → ⊥
+  pub a_lost_call_since_counts_for_it : BinderIsDone (told_calls only_watches)
+      (Some (watches kinds.StorageClass) ∷ Some (watches kinds.PersistentVolumeClaim) ∷ Some (watches kinds.PersistentVolume) ∷ None ∷ [])
+
+-- ---- lives one after the other: each call of an earlier one was needed, and a turn ends by the life that would make its next call
+
+-- a binder that is restarted after so many calls
+abbrev pub restarted_after : ℕ → Part
+restarted_after calls = part_of (script_of [] (lines.Turn binder_1 9 ∷ lines.Restart binder_1 calls ∷ [])) binder_1
+
+abbrev pub restarted_late : Part
+restarted_late = restarted_after 6
+
+pub record NextLifeExamples : Type 0 where
+  pub each_call_of_an_earlier_life_was_needed : IsNeededLife [] (role_of binder_1) restarted_late 5 7 six []
+  pub not_a_watch_after_its_quiet_pass : IsNeededLife [] (role_of binder_1) (restarted_after 7) 5 8 (watches kinds.PersistentVolume ∷ six) [] → ⊥
+  pub a_new_life_is_not_idle : (since : List Call) → IsIdleLife [] (role_of binder_1) restarted_late 6 6 six [] since → ⊥
+  pub not_where_an_earlier_life_is_idle : (after : Progress) → after.past ≡ six → IsTurnLine all_pass [] (role_of binder_1) restarted_late 9 (first_progress None []) after → ⊥
 
 -- ---- an agent that was told StaleEpoch asks nothing more
 
