@@ -2,8 +2,7 @@ use Rattle.std.proofs.Common.{◌≡◌, ℕ, Bool, true, false, List, [], ◌�
 use Rattle.call_types.specs.declared.entry.Entry.{Entry}
 use Rattle.call_types.specs.declared.request.SeatKind.{SeatKind}
 use Rattle.call_types.specs.declared.request.SeatKind.TheVariants.{Binder, Ops}
-use Rattle.run_examples.specs.Audit.Verdicts.{lists}
-use Rattle.run_examples.specs.Answer.{AnswerExamples, listed}
+use Rattle.run_examples.specs.Answer.{AnswerExamples}
 
 -- the seat of the newest entry
 newest_seat : List Entry → ℕ

@@ -1,9 +1,9 @@
-use Rattle.std.proofs.Common.{◌≡◌, ◌<◌, ◌+◌, ◌∙◌, ℕ, List, [], ◌∷◌, ◌++◌, None, Some, inl, inr, ◌⊎◌, refl, sym, ap, arith, length, take, ◌≤◌}
+use Rattle.std.proofs.Common.{◌≡◌, ◌<◌, ℕ, List, [], ◌∷◌, None, Some, inl, inr, ◌⊎◌, refl, ap, arith, length, take, ◌≤◌}
 use Rattle.std.proofs.lemmas.List.{length-take-le}
-use Rattle.binder_console.specs.declared.status.Status.TheVariants.{Refused, Unsettled, Usage, WriteFault, AuditNo}
+use Rattle.binder_console.specs.declared.status.Status.TheVariants.{Refused, Unsettled, WriteFault, AuditNo}
 use Rattle.binder_console.specs.declared.commands.Task.{Task}
 use Rattle.binder_console.specs.declared.commands.Task.TheVariants.{Replay, Run, Check, Audit, Gen}
-use Rattle.binder_console.specs.Ends.{Ends, Outside}
+use Rattle.binder_console.specs.Ends.{Ends}
 use Rattle.binder_console.specs.Exactly.{IsComplete}
 use Rattle.binder_console.specs.Inputs.{IsReadThrough, IsReadThroughOf, IsTooLong, IsTooLongOf}
 use Rattle.binder_console.specs.Outcomes.{IsDueText, RefusedWith, usage_text}

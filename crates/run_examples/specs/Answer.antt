@@ -1,7 +1,7 @@
 -- What calls of a seat come to where they are let through and where they are held back, and which seat may call next,
 -- beside what they do not come to. The newest entry stands first.
 -- A choice of this project, as the front before a world is.
-use Rattle.std.specs.Prelude.{ℕ, ⊤, [], ◌∷◌, true, false, Some, None}
+use Rattle.std.specs.Prelude.{⊤, [], ◌∷◌, true, false, Some, None}
 use Rattle.kube_parts.specs.declared.parts.Kind.TheVariants as kinds
 use Rattle.call_types.specs.declared.entry.Entry.{Entry}
 use Rattle.call_types.specs.declared.request.Request.{Request}

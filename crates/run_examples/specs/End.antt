@@ -1,6 +1,6 @@
 -- How the program ends on no words at all, beside ends that it does not have; and when a task is to be done.
 -- A choice of this project, as the statuses are.
-use Rattle.std.specs.Prelude.{ℕ, List, [], ◌∷◌, Option, Some, None, String}
+use Rattle.std.specs.Prelude.{ℕ, List, [], ◌∷◌, Some, None, String}
 use Rattle.std.specs.declared.alloc.Global.{Global}
 use Rattle.binder_console.specs.declared.status.Status.TheVariants.{Done, Usage, Refused, Unsettled, ReadFault, WriteFault, Memory, AuditNo}
 use Rattle.binder_console.specs.declared.commands.Task.TheVariants.{Replay, Check, Audit, Gen}

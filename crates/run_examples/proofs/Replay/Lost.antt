@@ -1,16 +1,14 @@
 -- A life that lost one call is not idle while it was told of two keys and called for neither.
-use Rattle.std.proofs.Common.{◌≡◌, ◌⊎◌, List, [], ◌∷◌, ◌++◌, Bool, true, false, true≢false, Option, Some, None, inl, inr, bytes_eq, codes, refl, sym, ◌∙◌, ap, subst, append-nil, ℕ}
+use Rattle.std.proofs.Common.{◌≡◌, ◌⊎◌, List, [], ◌∷◌, ◌++◌, true, true≢false, Option, Some, None, inl, inr, bytes_eq, codes, refl, sym, ◌∙◌, ap, subst, append-nil, ℕ}
 use Rattle.std.specs.Prelude.{option_map}
 use Rattle.std.specs.List.{list_any}
 use Rattle.kube_objects.specs.declared.key.Key.{Key}
 use Rattle.kube_parts.specs.declared.parts.Kind.{Kind}
 use Rattle.kube_parts.specs.declared.parts.Kind.TheVariants as kinds
-use Rattle.kube_objects.specs.declared.objects.Object.{Object}
 use Rattle.kube_objects.specs.declared.objects.Object.TheVariants.{Volume}
 use Rattle.kube_objects.specs.declared.objects.Volume.{Volume as VolumeData}
 use Rattle.kube_objects.specs.Keys.{row_at, same_key}
 use Rattle.call_types.specs.declared.entry.Entry.{Entry}
-use Rattle.call_types.specs.declared.reply.Reply.{Reply}
 use Rattle.call_types.specs.declared.request.Request.{Request}
 use Rattle.call_types.specs.declared.request.Request.TheVariants as requests
 use Rattle.call_types.specs.declared.request.SeatKind.TheVariants as seats

@@ -1,11 +1,10 @@
 -- The examples of queues and of calls that are held back compute.
-use Rattle.std.proofs.Common.{◌≡◌, ◌-◌, ℕ, List, [], ◌∷◌, ◌++◌, length, true≢false, refl, sym, arith}
+use Rattle.std.proofs.Common.{◌≡◌, List, [], ◌∷◌, ◌++◌, length, true≢false, refl, arith}
 use Rattle.call_types.specs.declared.entry.Entry.{Entry}
 use Rattle.actor_rounds.specs.Rounds.{IsHeld, IsSpent}
 use Rattle.actor_rounds.proofs.RunFacts.{run_longer}
 use Rattle.run_examples.specs.Replay.Runs.{HeldExamples, QueueExamples, giving_scheduler, list_volumes}
 use Rattle.run_examples.proofs.Replay.Scheduled.{gives_list, ready_where}
-use Rattle.actor_rounds.specs.Answers.Answered.{all_pass}
 
 pub queue_cases : QueueExamples
 queue_cases = record {

@@ -22,7 +22,7 @@ use Rattle.script_runs.specs.Parts.{drain_seat}
 use Rattle.script_runs.specs.Replays.{IsDrain, first_progress}
 use Rattle.attention_law.specs.Begun.{no_caches}
 use Rattle.run_examples.specs.Replay.Runs.{giving_scheduler, list_volumes, woken_scheduler}
-use Rattle.run_examples.proofs.Replay.Drainers.{agents_at, at_seat, drainers_of, drainers_rest, drainers_roles, drainers_seats, drainers_stand, woken_whole}
+use Rattle.run_examples.proofs.Replay.Drainers.{agents_at, at_seat, drainers_of, drainers_stand, woken_whole}
 
 -- the actors that come after the budget was spent are woken alone
 

@@ -14,7 +14,7 @@ use Rattle.call_types.specs.declared.request.Request.{Request}
 use Rattle.actor_turns.specs.Lives.{WasPlayed}
 use Rattle.script_runs.specs.Parts.{role_of}
 use Rattle.run_examples.specs.Replay.Calls.{some_key}
-use Rattle.run_examples.proofs.Replay.Played.{begins, binder_listed, binder_lost, binder_untold, list_volumes, was_first}
+use Rattle.run_examples.proofs.Replay.Played.{binder_listed, binder_lost, binder_untold, list_volumes, was_first}
 use Rattle.actor_rounds.specs.Rounds.{all_pass}
 use Rattle.script_text.specs.declared.script.Line.{Line}
 use Rattle.script_lines.specs.declared.actors.Actor.{Actor}

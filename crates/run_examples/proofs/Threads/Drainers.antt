@@ -14,7 +14,7 @@ use Rattle.worker_core.specs.Stands.{IsNew}
 use Rattle.worker_core.specs.States.{ActorState}
 use Rattle.worker_core.proofs.Begins.{begins}
 use Rattle.actor_rounds.specs.declared.drainers.Drainer.{Drainer}
-use Rattle.actor_rounds.specs.Drainers.{AreNew, AreNewAgents, IsNewAt, agent_of, of_kind}
+use Rattle.actor_rounds.specs.Drainers.{AreNew, IsNewAt, agent_of, of_kind}
 
 abbrev nothing_of : Kind → Known
 nothing_of kind = record { rows = record { kind = kind; marks = []; objects = [] }; lists = record { whole = None; spaces = [] }; from = None }

@@ -1,5 +1,5 @@
 -- The examples of seats and of users compute.
-use Rattle.std.proofs.Common.{◌≡◌, ◌⊎◌, ℕ, zero, suc, ◌<◌, ◌≤◌, Bool, true, false, true≢false, List, [], ◌∷◌, None, inl, inr, refl, sym, ap, ne_eqb, arith}
+use Rattle.std.proofs.Common.{◌≡◌, ◌⊎◌, ℕ, zero, suc, ◌<◌, ◌≤◌, Bool, true, true≢false, List, [], ◌∷◌, None, inl, inr, refl, sym, ap, ne_eqb, arith}
 use Rattle.kube_parts.specs.declared.parts.Kind.TheVariants.{Node, Pod}
 use Rattle.call_types.specs.declared.entry.Entry.{Entry}
 use Rattle.call_types.specs.declared.request.Request.{Request}
@@ -13,7 +13,7 @@ use Rattle.shared_work.specs.Lines.{AreOfLines}
 use Rattle.script_lines.specs.declared.actors.WorkerKind.TheVariants as workers
 use Rattle.script_lines.specs.declared.actors.WorkerNumber.TheVariants.{One}
 use Rattle.script_runs.specs.Examples.{agent_of, binder_1, claims_1, ops_1, scheduler_1, worker}
-use Rattle.script_threads.specs.Examples.{asks, entry}
+use Rattle.script_threads.specs.Examples.{asks}
 use Rattle.script_threads.specs.Started.{started_part}
 use Rattle.script_threads.specs.Threads.{HasMadeCalls, IsThreadedWork}
 use Rattle.std.specs.Prelude.{codes}

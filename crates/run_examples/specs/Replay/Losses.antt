@@ -1,6 +1,6 @@
 -- A life that lost a call, and was told of two keys: what one lost call excuses, and what it does not. The newest entry and the newest
 -- call stand first. A choice of this project.
-use Rattle.std.specs.Prelude.{ℕ, true, false, List, [], ◌∷◌, Some, None, codes}
+use Rattle.std.specs.Prelude.{true, false, List, [], ◌∷◌, Some, None, codes}
 use Rattle.kube_parts.specs.declared.parts.Kind.TheVariants as kinds
 use Rattle.kube_objects.specs.declared.objects.Object.{Object}
 use Rattle.kube_objects.specs.declared.objects.Object.TheVariants.{Volume}
