@@ -401,6 +401,27 @@ def test_causes(browser, program, folder):
     check("why: causes are counted", any("21 volumes: each has another class" in row for row in volumes) and any("volumes: each is too small" in row for row in volumes), volumes)
 
 
+def test_side(browser, first):
+    """An extended run: its side has a row of its own, with each entry at the call that it came after."""
+    lines = read(first).split("\n")
+    at, claim = lines.index("end") + 1, {"kind": "PersistentVolumeClaim", "metadata": {"name": "d", "namespace": "shop"}}
+    sides = [{"after": 2, "ask": {"do": "create", "object": claim}, "reply": {"limit": 7, "refused": "OverBytes", "used": 5}},
+             {"after": 2, "ask": {"bytes": 9, "do": "grow", "name": "c", "namespace": "shop"}, "reply": {"done": True}},
+             {"after": 3, "ask": {"do": "data", "kind": "PersistentVolumeClaim", "name": "c", "namespace": "shop"}, "reply": {"bytes": 9}}]
+    text = [*lines[:at], "side", *map(json.dumps, sides), "end side", "size shop/c asked 9 given 9 volume 9 data 9", *lines[at:]]
+    browser.open(PAGE)
+    browser.run(f"open(new Blob([{json.dumps(chr(10).join(text))}]), 'side')")
+    waited(browser, "side")
+    found = browser.run("""(drawOver(), { strips: view.strips.filter(s => s.sides).length, sizes: view.history.sizes.length, labels: [...find('picture').querySelectorAll('text')].map(t => t.textContent),
+      tip: tipWords({ strip: view.strips.find(s => s.sides), row: sideRow(view.history.sides[0]) }), summary: view.history.summary.length })""")
+    check("the side has a row of its own", found["strips"] == 1 and "side" in found["labels"] and found["sizes"] == 1 and found["summary"] >= 7, found)
+    check("it says what was held back and what grew", all(word in found["tip"] for word in ("create PersistentVolumeClaim shop/d → OverBytes, used 5, limit 7", "grow PersistentVolumeClaim shop/c to 9 bytes → done")), found["tip"])
+    browser.open(PAGE)
+    browser.run(f"open(new Blob([{json.dumps(chr(10).join([*lines[:at], 'side', '{}']))}]), 'odd')")
+    browser.until("find('error').textContent", 60)
+    check("an odd side is an error line", "is no entry of a side" in browser.run("find('error').textContent"))
+
+
 def test_odd(browser, first):
     """Words that JavaScript has in each object, values of thousands of levels, and lists of kubectl."""
     lines = read(first).split("\n")
@@ -494,6 +515,7 @@ def run_all(browser, program, folder, extra):
     test_map(browser, of["two-zones"])
     test_opening(browser, program, folder)
     test_causes(browser, program, folder)
+    test_side(browser, of["first"])
     test_odd(browser, of["first"])
     erase = os.path.join(audits, "erase.history")
     test_saved(browser, folder, erase)
