@@ -137,7 +137,7 @@ module _ {X : Type 0} (f : X → Option SnapAsk) where
       by false e rest = (k x each.0, rest e)
 
 module _ {K X : Type 0} (cmp : K → K → Ordering) (key : X → K) (P : X → Type 0) where
-  each_put : (x : X) (xs : List X) → P x → EachOf P xs → EachOf P (put cmp key x xs)
+  pub each_put : (x : X) (xs : List X) → P x → EachOf P xs → EachOf P (put cmp key x xs)
   each_put x [] p each = (p, tt)
   each_put x (y ∷ ys) p each = by (cmp (key y) (key x)) (each_put x ys p each.1)
     where
@@ -146,7 +146,7 @@ module _ {K X : Type 0} (cmp : K → K → Ordering) (key : X → K) (P : X → 
       by Equal rest = (p, each.1)
       by Greater rest = (p, each)
 
-  each_without : (k : K) (xs : List X) → EachOf P xs → EachOf P (without cmp key k xs)
+  pub each_without : (k : K) (xs : List X) → EachOf P xs → EachOf P (without cmp key k xs)
   each_without k [] each = tt
   each_without k (y ∷ ys) each = by (is_eq (cmp (key y) k)) (each_without k ys each.1)
     where

@@ -1,0 +1,4 @@
+pub mod Alone
+pub mod Names
+pub mod Runs
+pub mod Weights
