@@ -1,0 +1,5 @@
+pub mod Kept
+pub mod Works
+pub mod Walks
+pub mod Placed
+pub mod Steps
