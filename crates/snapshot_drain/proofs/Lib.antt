@@ -1,4 +1,5 @@
 pub mod Alone
 pub mod Names
+pub mod Ordered
 pub mod Runs
 pub mod Weights

@@ -1,3 +1,4 @@
 pub mod Alone
 pub mod Drains
+pub mod Orders
 pub mod Runs

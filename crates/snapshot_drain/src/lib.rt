@@ -5,11 +5,13 @@
 //! the rows, which is at most 5 for a snapshot and 3 for a content (`each_write_lowers`), so it has a run without a write after
 //! at most so many. Both ask that no content has the empty name, which stands for none, and that none gets it
 //! (`names_are_kept`). So a drain, which is runs of one worker until one made no write, is at its end after at most one run
-//! more than the rows weigh, whatever was done before it (`each_drain_ends`). Not said: that nobody else asks meanwhile.
+//! more than the rows weigh, whatever was done before it (`each_drain_ends`). What the side answers is a list in order, or none,
+//! as `absorb` asks (`each_list_is_in_order`). Not said: that nobody else asks meanwhile.
 #![tactic(auto)]
 
 ghost use Rattle.snapshot_drain.specs.Alone.{EachStepLowers, ListsMakeAlone};
 ghost use Rattle.snapshot_drain.specs.Drains.{EachWriteLowers, NamesAreKept};
+ghost use Rattle.snapshot_drain.specs.Orders.{EachListIsInOrder};
 ghost use Rattle.snapshot_drain.specs.Runs.{EachDrainEnds};
 
 /// An ask by a worker's rules, where its rows are those that stand, lowers their weight if it writes.
@@ -40,4 +42,10 @@ pub fn names_are_kept()
 #[tactic(auto, using(crate::proofs::Runs::each_drain_ends))]
 pub fn each_drain_ends()
     ensures { EachDrainEnds }
+{}
+
+/// The rows of each list stand in order, no key twice.
+#[tactic(auto, using(crate::proofs::Ordered::each_list_is_in_order))]
+pub fn each_list_is_in_order()
+    ensures { EachListIsInOrder }
 {}
