@@ -2,7 +2,7 @@
 //!
 //! Promises: `store::SnapStore::call` does what the definitions say of each call (`specs/SideStore`), and a refusal or want
 //! of memory changes nothing. `licence::snap_licensed` is exactly the evidence that a worker needs (`specs/Licences`). Not
-//! said: that the rules of `specs/Rules` hold, which no law here proves yet; nor what a worker does, which is not here yet.
+//! said: that the rules of `specs/Rules` hold, which `snapshot_law` proves; nor what a worker does (`snapshot_worker`).
 #![tactic(auto)]
 
 pub mod calls;
