@@ -48,7 +48,8 @@ unfolding refuse
 ordered_refuse true why next is = tt
 ordered_refuse false why next is = is
 
-ordered_snapshot_write : (version : ℕ) (o : Option SnapshotData) (change : SnapshotData → Effect) → ((s : SnapshotData) → IsOrdered (change s)) → IsOrdered (write (snapshot_of_version version o) change)
+ordered_snapshot_write : (version : ℕ) (o : Option SnapshotData) (change : SnapshotData → Effect) → ((s : SnapshotData) → IsOrdered (change s))
+    → IsOrdered (write (snapshot_of_version version o) change)
 unfolding write snapshot_of_version
 ordered_snapshot_write version None change is = tt
 ordered_snapshot_write version (Some s) change is = by (s.version == version)
