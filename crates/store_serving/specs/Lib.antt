@@ -1,3 +1,4 @@
 pub mod Lines
 pub mod Serving
+pub mod Laws
 pub mod Steps
