@@ -22,7 +22,7 @@ use Rattle.attach_law.specs.Asks.{AsksAreDone, IsAskDone, Makes, Turned, TurnsLe
 use Rattle.attach_law.specs.Attached.{IsAmong, is_attached, is_of, own_volume, volume_with}
 use Rattle.attach_law.specs.Calls.{AttachRefusal, NotAttached, attach_fault, in_use, user_of}
 use Rattle.attach_law.specs.Next.{ask_for, ask_for_claim, ask_for_names, ask_for_uid, ask_for_volume, first_asked, first_idle, is_idle, is_used, next}
-use Rattle.attach_law.proofs.Listed.{any_here}
+use Rattle.attach_law.proofs.Listed.{any_here, both_true}
 
 -- the first of two, or the second
 either : {X : Type 0} (P : X → Type 0) (a b : Option X) (x : X) → first_some a b ≡ Some x → (a ≡ Some x → P x) → (b ≡ Some x → P x) → P x
@@ -43,17 +43,14 @@ module _ (w : World) (att : List Attachment) where
       detached : is_idle w a ≡ true → IsAskDone w att (Detach a.volume a.node)
       detached idle =
           let t = and_parts (not (is_used w.store.rows (volume_with a.volume w.store.rows) a.node)) (is_none (user_of w.store.rows a.volume (rows_on a.node w.devices.mounts))) idle in
-          let there : is_attached a.volume a.node att ≡ true = any_here (is_of a.volume a.node) att a (among a (inl refl)) (both (uid_same a.volume a.volume refl) (text_same a.node a.node refl)) in
+          let its = both_true (uid_same a.volume a.volume refl) (text_same a.node a.node refl) in
+          let there : is_attached a.volume a.node att ≡ true = any_here (is_of a.volume a.node) att a (among a (inl refl)) its in
           (fault (is_attached a.volume a.node att) (user_of w.store.rows a.volume (rows_on a.node w.devices.mounts)) there (none_is _ t.1), there)
         where
           fault : (b : Bool) (x : Option Uid) → b ≡ true → x ≡ None → (if b then in_use x else Some NotAttached) ≡ None
           fault true None s n = refl
           fault true (Some y) s n = none_some (sym n)
           fault false x s n = absurd (true≢false (sym s))
-
-          both : {a b : Bool} → a ≡ true → b ≡ true → (a && b) ≡ true
-          both {a = true} {b = b} e f = f
-          both {a = false} {b = b} e f = absurd (true≢false (sym e))
 
       by : (b : Bool) → is_idle w a ≡ b → (if b then Some (Detach a.volume a.node) else first_idle w rest) ≡ Some ask
           → (first_idle w rest ≡ Some ask → IsAskDone w att ask) → IsAskDone w att ask
@@ -75,7 +72,7 @@ module _ (w : World) (att : List Attachment) where
       by false (Some why) s t e = none_some e
       by true f s t e = none_some e
 
-  claim_done : (node : List ℕ) (x : Option ClaimData) (ask : AttachAsk) → ask_for_claim w.store.rows att node x ≡ Some ask → IsAskDone w att ask
+  pub claim_done : (node : List ℕ) (x : Option ClaimData) (ask : AttachAsk) → ask_for_claim w.store.rows att node x ≡ Some ask → IsAskDone w att ask
   claim_done node None ask e = none_some e
   claim_done node (Some c) ask e = by (is_completed c) e
     where

@@ -1,7 +1,7 @@
 -- Objects by their UID: where no two stand under one UID, what is found by UID is what stands under its key.
 use Rattle.std.proofs.Common.{sym, refl, inl, inr, ap, ◌∙◌, true≢false, arith}
 use Rattle.std.proofs.lemmas.Bool.Decides.{nat_tests}
-use Rattle.std.specs.Prelude.{if◌then◌else◌, ℕ, ◌≡◌, Bool, true, false, List, [], ◌∷◌, Option, Some, None}
+use Rattle.std.specs.Prelude.{if◌then◌else◌, ℕ, ◌≡◌, Bool, true, false, List, [], ◌∷◌, ◌<◌, Option, Some, None, length}
 use Rattle.kube_parts.specs.declared.uid.Uid.{Uid}
 use Rattle.kube_objects.specs.declared.key.Key.{Key}
 use Rattle.kube_objects.specs.declared.objects.Claim.{Claim as ClaimData}
@@ -11,8 +11,15 @@ use Rattle.kube_objects.specs.declared.objects.Object.TheVariants.{Class, Node, 
 use Rattle.kube_objects.specs.Keys.{AreRows, key_of, meta_of, row_at}
 use Rattle.kube_objects.specs.Bindings.{carries, is_uid}
 use Rattle.kube_objects.proofs.KeyOrder.{row_at_key}
-use Rattle.binder_model.specs.ObjectKeys.{volume_key}
+use Rattle.binder_model.specs.Choice.{claim_in, claim_named}
+use Rattle.call_types.specs.declared.entry.Entry.{Entry}
+use Rattle.call_types.specs.declared.setup.Setup.{Setup}
+use Rattle.binder_model.specs.Imports.{ImportsPass}
+use Rattle.binder_model.specs.ObjectKeys.{claim_key, volume_key}
+use Rattle.binder_model.specs.Promises.{most_entries}
 use Rattle.binder_model.specs.Same.{same_uid}
+use Rattle.binder_model.specs.World.{world}
+use Rattle.model_laws.proofs.Stood.{one_uid_one_key, stood}
 use Rattle.model_laws.proofs.Lists.{IsIn, none_some, one}
 use Rattle.model_laws.proofs.Readings.{found_stands, member_stands}
 use Rattle.safety_law.proofs.Invariant.Objects.{same_claim, same_volume, some_claim}
@@ -113,6 +120,10 @@ UidsOnce rows =
     (a b : Object) (uid : Uid) → row_at (key_of a) rows ≡ Some a → row_at (key_of b) rows ≡ Some b
     → (meta_of a).uid ≡ Some uid → (meta_of b).uid ≡ Some uid → key_of a ≡ key_of b
 
+-- so it is in a history
+pub uids_once : (setup : Setup) (past : List Entry) → ImportsPass setup.imports → length past < most_entries → UidsOnce (world setup past).store.rows
+uids_once setup past pass short a b uid a_there b_there a_its b_its = one_uid_one_key setup past pass short a b uid (stood setup past a a_there) (stood setup past b b_there) a_its b_its
+
 module _ (rows : List Object) (order : AreRows rows) (once : UidsOnce rows) where
   -- the two objects are one
   one_row : (k : Key) (a b : Object) (uid : Uid) → row_at k rows ≡ Some a → row_at (key_of b) rows ≡ Some b → (meta_of a).uid ≡ Some uid → (meta_of b).uid ≡ Some uid
@@ -132,6 +143,18 @@ module _ (rows : List Object) (order : AreRows rows) (once : UidsOnce rows) wher
       let d = has_volume u rows v (found_stands k (Volume v) rows there) (ap (λ y. is_uid y u) its ∙ uid_test u) in
       let f = found_volume u rows d.0 d.1 in
       d.1 ∙ ap (λ x. Some x) (some_volume d.0 v (one_row k (Volume v) (Volume d.0) u there (member_stands (Volume d.0) rows order f.0) its f.1))
+
+-- a claim that is found by its name stands under the key of that name
+pub row_named : (rows : List Object) (namespace name : List ℕ) (c : ClaimData) → claim_named rows namespace name ≡ Some c → row_at (claim_key namespace name) rows ≡ Some (Claim c)
+row_named rows namespace name c e = by (row_at (claim_key namespace name) rows) e
+  where
+    by : (x : Option Object) → claim_in x ≡ Some c → x ≡ Some (Claim c)
+    by (Some (Claim d)) e = ap (λ y. Some (Claim y)) (one d c e)
+    by None e = none_some e
+    by (Some (Class x)) e = none_some e
+    by (Some (Node x)) e = none_some e
+    by (Some (Volume x)) e = none_some e
+    by (Some (Pod x)) e = none_some e
 
 -- ---- a claim's own volume
 

@@ -1,9 +1,10 @@
 -- What a test of some or of all elements says of one of them, and what is among the elements that a filter leaves.
 use Rattle.std.proofs.Common.{sym, refl, subst, inl, inr, ap, ◌∙◌, true≢false}
-use Rattle.std.specs.Prelude.{if◌then◌else◌, ◌≡◌, ◌||◌, Bool, true, false, List, [], ◌∷◌, filter}
+use Rattle.std.specs.Prelude.{if◌then◌else◌, ◌≡◌, ◌&&◌, ◌||◌, Bool, true, false, List, [], ◌∷◌, Option, Some, None, filter}
 use Rattle.std.specs.List.{list_all, list_any}
 use Rattle.std.proofs.lemmas.Bool.{and_parts}
-use Rattle.model_laws.proofs.Lists.{IsIn}
+use Rattle.binder_model.specs.Told.{first_some}
+use Rattle.model_laws.proofs.Lists.{IsIn, none_some}
 
 pub any_here : {X : Type 0} (f : X → Bool) (xs : List X) (x : X) → IsIn x xs → f x ≡ true → list_any f xs ≡ true
 any_here f [] x h e = absurd h
@@ -19,6 +20,15 @@ any_here f (y ∷ ys) x h e = elim h [
     right : (a b : Bool) → b ≡ true → (a || b) ≡ true
     right true b e = refl
     right false b e = e
+
+pub both_true : {a b : Bool} → a ≡ true → b ≡ true → (a && b) ≡ true
+both_true {a = true} {b = b} e f = f
+both_true {a = false} {b = b} e f = absurd (true≢false (sym e))
+
+-- neither of two is there
+pub both_none : {X : Type 0} (a b : Option X) → first_some a b ≡ None → (a ≡ None) × (b ≡ None)
+both_none None b e = (refl, e)
+both_none (Some x) b e = none_some (sym e)
 
 -- an element that passes a test
 pub record Passing {X : Type 0} (f : X → Bool) (xs : List X) : Type 0 where

@@ -51,7 +51,7 @@ pub more_attached : (att new : List Attachment) (u : Option Uid) (node : List �
 more_attached att new None node grow e = e
 more_attached att new (Some u) node grow e = let p = any_gives (is_of u node) att e in any_here (is_of u node) new p.it (grow p.it p.among) p.test
 
-put_among : (new : Attachment) (att : List Attachment) (a : Attachment) → IsIn a att → IsIn a (put_attachment new att)
+pub put_among : (new : Attachment) (att : List Attachment) (a : Attachment) → IsIn a att → IsIn a (put_attachment new att)
 put_among new [] a h = absurd h
 put_among new (x ∷ xs) a h = by (stands_before x new) (put_among new xs a)
   where
@@ -67,7 +67,7 @@ put_there new (x ∷ xs) = by (stands_before x new) (put_there new xs)
     by true h = inr h
     by false h = inl refl
 
-put_from : (new : Attachment) (att : List Attachment) (a : Attachment) → IsIn a (put_attachment new att) → (new ≡ a) ⊎ IsIn a att
+pub put_from : (new : Attachment) (att : List Attachment) (a : Attachment) → IsIn a (put_attachment new att) → (new ≡ a) ⊎ IsIn a att
 put_from new [] a h = elim h [ inl is ↦ inl is | inr none ↦ absurd none ]
 put_from new (x ∷ xs) a h = by (stands_before x new) h (put_from new xs a)
   where
@@ -111,7 +111,7 @@ module _ (v : VolumeData) (u : Uid) (node : List ℕ) (att : List Attachment) (o
     ]
   ]
 
-none_least : (some : List Attachment) → multi_fault (least_node some) ≡ None → some ≡ []
+pub none_least : (some : List Attachment) → multi_fault (least_node some) ≡ None → some ≡ []
 none_least [] e = refl
 none_least (a ∷ rest) e = absurd (some_least (least_node rest) e)
   where

@@ -57,8 +57,8 @@ use Rattle.attach_law.proofs.Lists.{attach_apart, attach_grows, detach_apart, mo
 use Rattle.attach_law.proofs.Shown.{from_later, shown_was_bound}
 
 -- UIDs are given once
-uids_once : (setup : Setup) (past : List Entry) → Invariant setup past → UidsOnce (world setup past).store.rows
-uids_once setup past inv a b uid a_there b_there a_its b_its =
+once_in : (setup : Setup) (past : List Entry) → Invariant setup past → UidsOnce (world setup past).store.rows
+once_in setup past inv a b uid a_there b_there a_its b_its =
     inv.keyed a b (row_was setup past (key_of a) a a_there) (row_was setup past (key_of b) b b_there) (a_its ∙ sym b_its)
 
 -- ---- a claim that has been bound
@@ -315,8 +315,8 @@ step_detach setup past inv u node att held = by (is_attached u node att)
                 let uid : k ≡ u = sym (uid_of a.volume k s.0) ∙ uid_of a.volume u t.0 in
                 let at : m.node ≡ node = sym (same_text a.node m.node s.1) ∙ same_text a.node node t.1 in
                 let its = known ∙ ap (λ z. Some z) uid in
-                let volume : volume_with u w.store.rows ≡ Some b.volume = volume_is w.store.rows inv.order (uids_once setup past inv) (volume_key h.claim.volume_name) b.volume u b.there its in
-                let claim : claim_with x w.store.rows ≡ Some h.claim = claim_is w.store.rows inv.order (uids_once setup past inv) h.key h.claim x h.there h.its in
+                let volume : volume_with u w.store.rows ≡ Some b.volume = volume_is w.store.rows inv.order (once_in setup past inv) (volume_key h.claim.volume_name) b.volume u b.there its in
+                let claim : claim_with x w.store.rows ≡ Some h.claim = claim_is w.store.rows inv.order (once_in setup past inv) h.key h.claim x h.there h.its in
                 let carrying : carries_uid w.store.rows u x ≡ true = rw (volume, claim) b.carries in
                 no_user w.store.rows u (rows_on node w.devices.mounts) m.row free (row_of_mount node m w.devices.mounts in_m at) (any_here (carries_uid w.store.rows u) m.row.claims x in_x carrying)
 
@@ -333,7 +333,7 @@ step_detach setup past inv u node att held = by (is_attached u node att)
 carried_well : (setup : Setup) (past : List Entry) → Invariant setup past → (att : List Attachment) → AreOnVolumes setup past att → AreCarried (world setup past) att
 carried_well setup past inv att held m u in_m in_u =
     let h = held m u in_m in_u in
-    ap (λ x. is_claim_attached (world setup past).store.rows x m.node att) (claim_is (world setup past).store.rows inv.order (uids_once setup past inv) h.key h.claim u h.there h.its) ∙ h.attached
+    ap (λ x. is_claim_attached (world setup past).store.rows x m.node att) (claim_is (world setup past).store.rows inv.order (once_in setup past inv) h.key h.claim u h.there h.its) ∙ h.attached
 
 record AreWell (setup : Setup) (m : List Step) : Type 0 where
   held : AreOnVolumes setup (entries m) (attached setup m)
