@@ -1,0 +1,4 @@
+pub mod Asked
+pub mod Listed
+pub mod Small
+pub mod Turning
