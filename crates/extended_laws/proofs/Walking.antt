@@ -25,7 +25,7 @@ use Rattle.script_runs.proofs.Casting.{actor_built}
 use Rattle.script_runs.proofs.Draining.{drains_come_to}
 use Rattle.worker_core.specs.Roles.{IsBuiltKind}
 use Rattle.actor_rounds.proofs.Entries.{users_as_before}
-use Rattle.extended_runs.proofs.Noting.{entries_with}
+use Rattle.extended_runs.proofs.Noting.{entries_with, steps_enter_nothing}
 use Rattle.actor_turns.specs.Lives.{ArePlayedLives}
 use Rattle.side_model.specs.Answers.{SideRun}
 use Rattle.side_model.specs.Sides.{SideSetup}
@@ -55,10 +55,6 @@ left_out script given option end all works kept now m (Asks user key bytes reply
     subst (λ lines. LeavingOut lines kept) (sym (ap lines_in are)) (left_out script given option end all rest kept now _ more)
 
 -- ---- entries of the world
-
-pub steps_enter_nothing : (setup : Setup) (given : SideSetup) (end m : List Step) → AreSteps setup given end m → entries end ≡ entries m
-steps_enter_nothing setup given end m (RestsHere none is) = ap entries is
-steps_enter_nothing setup given end m (StepsOn kind key reply answered more) = steps_enter_nothing setup given end _ more
 
 after_enters_nothing : (setup : Setup) (given : SideSetup) (line : Line) (after m : List Step) → AreAfter setup given line after m → entries after ≡ entries m
 after_enters_nothing setup given Drain after m is = steps_enter_nothing setup given after m is

@@ -27,7 +27,8 @@ use Rattle.extended_play.specs.Played.{IsPlayed}
 use Rattle.extended_play.specs.Steps.Walking.{BeginsWalk, EndsWalk, HasWalked, LinesDone, SomeWalks, WorksSoFar, works_left}
 use Rattle.extended_play.specs.declared.play.Played.{Played}
 use Rattle.extended_play.specs.declared.walk.Walk.{Walk}
-use Rattle.extended_play.proofs.Walking.{Rests, entries_then, steps_enter_none, told}
+use Rattle.extended_runs.proofs.Noting.{steps_enter_nothing}
+use Rattle.extended_play.proofs.Walking.{Rests, entries_then, told}
 
 -- ---- works after works
 
@@ -192,7 +193,7 @@ has_ended script option old new middle ending ended actors caught rests given p 
       rests = r.steps;
       stage = e.stands;
       side = r.stands;
-      same = steps_enter_none script.setup given r.end (with_entries comes.added m) r.steps ∙ entries_then p.past e.after.past m comes.added comes.are stands.same;
+      same = steps_enter_nothing script.setup given r.end (with_entries comes.added m) r.steps ∙ entries_then p.past e.after.past m comes.added comes.are stands.same;
       ends = e.ends;
       actors = actors stands.actors;
     }

@@ -35,10 +35,10 @@ use Rattle.side_model.specs.Merged.{OfSide, Step, entries}
 use Rattle.side_model.specs.Sides.{SideSetup}
 use Rattle.side_model.specs.Within.{PassesQuota}
 use Rattle.extended_runs.specs.Steps.Sides.{CatchesUp, HasRested, IsAsked, SideStands, SomeSide}
-use Rattle.extended_runs.specs.Walks.{AreAfter, AreSteps, Asks, Holds, PassesLine, Plays, RestsHere, StepsOn, with_entries}
+use Rattle.extended_runs.specs.Walks.{AreAfter, Asks, Holds, PassesLine, Plays, with_entries}
 use Rattle.extended_runs.specs.Works.{OfGrowth, OfScript}
 use Rattle.extended_runs.specs.declared.sides.KeptSide.{KeptSide}
-use Rattle.extended_runs.proofs.Noting.{entries_with}
+use Rattle.extended_runs.proofs.Noting.{entries_with, steps_enter_nothing}
 use Rattle.extended_play.specs.Steps.Walking.{HasEntered, HasWalked, SomeWalks, WalkStands, WalksOn}
 use Rattle.extended_play.specs.declared.walk.Walk.{Walk}
 
@@ -70,11 +70,6 @@ told script given option before after m added s old new stage grows same caught 
 
 pub entries_then : (before after : List Entry) (m : List Step) (added : List Entry) → after ≡ added ++ before → entries m ≡ before → entries (with_entries added m) ≡ after
 entries_then before after m added grows same = entries_with added m ∙ ap (λ h. added ++ h) same ∙ sym grows
-
--- steps of growth add no entry of the world
-pub steps_enter_none : (setup : Setup) (given : SideSetup) (end m : List Step) → AreSteps setup given end m → entries end ≡ entries m
-steps_enter_none setup given end m (RestsHere none is) = ap entries is
-steps_enter_none setup given end m (StepsOn kind key reply answered more) = steps_enter_none setup given end _ more
 
 pub entered : (script : Script) (option : Option ℕ) (line : Line) (old new : Walk) → HasMoved script option (IsMove script option line) old.stage new.stage
     → CatchesUp new.stage.world.setup new.stage.world.past old.side new.side → (AreByActors old.stage.world.past → AreByActors new.stage.world.past)
@@ -186,7 +181,7 @@ draining script option old middle new enters rests stage place given p m stands 
     plays_line script given option Drain p m new r.end e.after e.added tt e.move e.grows r.steps (record {
       stage = subst (StageStands script option e.after) (sym stage) e.stands.stage;
       side = r.stands;
-      same = steps_enter_none script.setup given r.end (with_entries e.added m) r.steps ∙ e.stands.same;
+      same = steps_enter_nothing script.setup given r.end (with_entries e.added m) r.steps ∙ e.stands.same;
       made = subst (λ s. MadeAtMost (1000 * new.place) s) (sym stage) (subst (λ n. MadeAtMost (1000 * n) middle.stage) (sym place) e.stands.made);
       actors = subst (λ (s : Stage). AreByActors s.world.past) (sym stage) e.stands.actors;
     })

@@ -18,7 +18,7 @@ use Rattle.side_laws.proofs.Points.{calls_are_counted, first_is_counted}
 use Rattle.extended_runs.specs.declared.sides.KeptSide.{KeptSide}
 use Rattle.extended_runs.specs.Placed.{placed}
 use Rattle.extended_runs.specs.Steps.Sides.{IsCatchingUp, SideStands, tally_at}
-use Rattle.extended_runs.specs.Walks.{with_entries}
+use Rattle.extended_runs.specs.Walks.{AreSteps, RestsHere, StepsOn, with_entries}
 
 -- ---- before the first step
 
@@ -37,6 +37,11 @@ begins setup given objects s rows quotas sizes entered noted = record {
 pub entries_with : (added : List Entry) (m : List Step) → entries (with_entries added m) ≡ added ++ entries m
 entries_with [] m = refl
 entries_with (e ∷ added) m = ap (λ h. e ∷ h) (entries_with added m)
+
+-- steps of growth add no entry of the world
+pub steps_enter_nothing : (setup : Setup) (given : SideSetup) (end m : List Step) → AreSteps setup given end m → entries end ≡ entries m
+steps_enter_nothing setup given end m (RestsHere none is) = ap entries is
+steps_enter_nothing setup given end m (StepsOn kind key reply answered more) = steps_enter_nothing setup given end _ more
 
 placed_with : (added : List Entry) (m : List Step) → placed (with_entries added m) ≡ placed m
 placed_with [] m = refl
