@@ -22,7 +22,7 @@ use Rattle.binder_console.specs.Commands.{task_of}
 use Rattle.binder_console.specs.Ends.{EndsAnswered, EndsBy, EndsCut, Outside}
 use Rattle.binder_console.specs.Exactly.{AreExact, IsComplete, IsNoInput, IsToBeDone, IsToBeRefused, IsTold, NoneFailed}
 use Rattle.binder_console.proofs.Completed.{completed}
-use Rattle.binder_console.specs.Inputs.{IsInput, IsInputOf, IsReadThrough, IsTooLong, IsTooMuchOf, ReadsNothing, most_input}
+use Rattle.binder_console.specs.Inputs.{IsInput, IsInputOf, IsReadPast, IsReadThrough, IsTooLong, IsTooMuchOf, ReadsNothing, most_input}
 use Rattle.binder_console.specs.Outcomes.{Answers, IsAnswer, IsDueText, OfInput, OfRefusal, OfTask, OfUsage, TooLong, Written, Whole, Front, answer_status, answer_text, too_long_text, usage_text}
 
 -- ---- an input that was read, or is too long, is no failed read
@@ -51,11 +51,11 @@ ends_misused words before after status asked written =
     ends_written words before after usage_text Usage status (λ appended. record { asked = asked; appended = appended }) (OfUsage asked refl) written
 
 pub ends_too_long : (task : Task) (words : List (String Global)) (before after : Outside) (status : Status)
-    → task_of words ≡ Some task → IsTooLong task before.left → TakesFront before.left after.left
+    → task_of words ≡ Some task → IsTooLong task before.left → IsReadPast task before.left after.left
     → Written before.written after.written before.write_faults after.write_faults too_long_text Refused status → EndsBy status words before after
-ends_too_long task words before after status asked long front written =
+ends_too_long task words before after status asked long past written =
     ends_written words before after too_long_text Refused status
-    (λ appended. record { task = task; text = too_long_text; asked = asked; refused = TooLong long refl; taken = inr (long, front); appended = appended })
+    (λ appended. record { task = task; text = too_long_text; asked = asked; refused = TooLong long refl; taken = inr (long, past); appended = appended })
     (OfRefusal task asked (TooLong long refl)) written
 
 pub ends_unread : (task : Task) (words : List (String Global)) (before after : Outside)

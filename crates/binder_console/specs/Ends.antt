@@ -9,7 +9,7 @@ use Rattle.binder_console.specs.declared.status.Status.{Status}
 use Rattle.binder_console.specs.declared.status.Status.TheVariants.{Done, Usage, Refused, Unsettled, ReadFault, WriteFault, Memory, AuditNo}
 use Rattle.binder_console.specs.declared.commands.Task.{Task}
 use Rattle.binder_console.specs.Commands.{task_of}
-use Rattle.binder_console.specs.Inputs.{IsReadThrough, IsTooLong, ReadsNothing}
+use Rattle.binder_console.specs.Inputs.{IsReadThrough, IsReadPast, IsTooLong, ReadsNothing}
 use Rattle.binder_console.specs.Outcomes.{AnsweredWith, IsDueText, RefusedWith, usage_text}
 
 -- what a source and a sink tell at one point: what reads will give from here on and what was written so far, where they
@@ -42,8 +42,8 @@ pub record EndsRefused (words : List (String Global)) (before after : Outside) :
   pub text : List ℕ
   pub asked : task_of words ≡ Some task
   pub refused : RefusedWith task before.left text
-  -- the input was read whole; or it is too long, and a front of it was taken
-  pub taken : IsReadThrough task after.left ⊎ (IsTooLong task before.left × TakesFront before.left after.left)
+  -- the input was read whole; or it is too long, and was read past the limit
+  pub taken : IsReadThrough task after.left ⊎ (IsTooLong task before.left × IsReadPast task before.left after.left)
   pub appended : Appends before.written after.written text
 
 -- the words ask for a task that reads, a front of the input was taken, and then a read failed

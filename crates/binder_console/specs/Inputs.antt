@@ -1,6 +1,6 @@
 -- The input of a task. The limits are a choice of this project.
 use Rattle.std.specs.Prelude.{ℕ, ◌≡◌, ◌<◌, ◌≤◌, ◌^◌, ⊤, List, [], length, Option, Some, None}
-use Rattle.fault_io.specs.Reading.{IsLeft, IsLongerThan}
+use Rattle.fault_io.specs.Reading.{IsLeft, IsLongerThan, TakesPast}
 use Rattle.binder_console.specs.declared.commands.Task.{Task}
 use Rattle.binder_console.specs.declared.commands.Task.TheVariants.{Replay, Run, Check, Audit, Gen}
 
@@ -43,6 +43,15 @@ IsTooLongOf None left = ⊥
 -- more is left than the task takes
 abbrev pub IsTooLong : Task → Option (List ℕ) → Type 0
 IsTooLong task left = IsTooLongOf (most_input task) left
+
+-- a front of the input that is longer than the limit was read
+abbrev pub IsReadPastOf : Option ℕ → Option (List ℕ) → Option (List ℕ) → Type 0
+IsReadPastOf (Some most) before after = TakesPast most before after
+IsReadPastOf None before after = ⊥
+
+-- more was read than the task takes
+abbrev pub IsReadPast : Task → Option (List ℕ) → Option (List ℕ) → Type 0
+IsReadPast task before after = IsReadPastOf (most_input task) before after
 
 -- what was read is longer than the limit
 abbrev pub IsTooMuchOf : Option ℕ → List ℕ → Type 0

@@ -3,7 +3,7 @@
 ghost use Rattle.std.specs.Prelude.{ℕ, List, ◌≡◌, ◌≢◌, ◌≤◌, OnOk, IfOk, IsErr, Some, Err};
 ghost use Rattle.fault_io.specs.Faults.{Rose};
 ghost use Rattle.fault_io.specs.Reading.{TakesFront};
-ghost use Rattle.binder_console.specs.Inputs.{IsInput, IsReadThrough, IsTooLong, IsTooMuch, ReadsNothing, most_input};
+ghost use Rattle.binder_console.specs.Inputs.{IsInput, IsReadPast, IsReadThrough, IsTooLong, IsTooMuch, ReadsNothing, most_input};
 
 use crate::commands::Task;
 use fault_io::ends::{ReadError, Source, read_all};
@@ -42,7 +42,7 @@ pub fn read_input<S: Source>(alloc: Global, task: Task, source: &mut S) -> Resul
     ensures too_long { result ≡ Err ReadError.TooLong → IsTooLong task (S.left source.old) }
     ensures too_much { (bytes : List ℕ) → S.left source.old ≡ Some bytes → IsTooMuch task bytes → IsErr result }
 
-    ensures past_limit { result ≡ Err ReadError.TooLong → TakesFront (S.left source.old) (S.left source.new) }
+    ensures past_limit { result ≡ Err ReadError.TooLong → IsReadPast task (S.left source.old) (S.left source.new) }
 
     // A fault only of a task that reads, after a front of the input.
     ensures fault { result ≡ Err ReadError.ReadFault → Rose (S.faults source.old) (S.faults source.new) }
