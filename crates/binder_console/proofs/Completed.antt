@@ -1,8 +1,7 @@
 -- A task that is to be done is done, unless a read or a write fails or memory is wanting.
-use Rattle.std.proofs.Common.{◌≡◌, ◌∙◌, ◌<◌, ◌≤◌, ℕ, List, String, Option, Some, None, Ok, Err, length, refl, sym, ap, subst, arith, inl, inr}
+use Rattle.std.proofs.Common.{◌≡◌, ◌∙◌, ◌<◌, ℕ, List, String, Option, Some, None, Ok, Err, length, refl, sym, ap, subst, arith, inl, inr}
 use Rattle.std.specs.declared.alloc.Global.{Global}
 use Rattle.fault_io.specs.Reading.{IsLeft, IsLongerThan}
-use Rattle.call_types.specs.declared.entry.Entry.{Entry}
 use Rattle.world_core.specs.declared.drained.Drained.{Drained}
 use Rattle.world_core.specs.declared.drained.Drained.TheVariants.{Settled, Spent}
 use Rattle.audit_check.specs.declared.verdict.Verdict.{Verdict}
@@ -10,15 +9,18 @@ use Rattle.audit_check.specs.declared.verdict.Verdict.TheVariants.{Yes, No}
 use Rattle.object_text.specs.Listing.{list_of}
 use Rattle.script_text.specs.declared.script.Script.{Script}
 use Rattle.script_text.specs.Grammar.{script_of}
+use Rattle.extended_text.specs.declared.sides.Extended.{Extended}
+use Rattle.extended_text.specs.Extended.{extended_of}
+use Rattle.side_model.specs.Merged.{entries}
 use Rattle.history_read.specs.Grammar.{history_of}
 use Rattle.binder_console.specs.declared.status.Status.{Status}
 use Rattle.binder_console.specs.declared.status.Status.TheVariants.{Done, Usage, Refused, Unsettled, ReadFault, WriteFault, Memory, AuditNo}
 use Rattle.binder_console.specs.declared.commands.Task.{Task}
-use Rattle.binder_console.specs.declared.commands.Task.TheVariants.{Replay, Run, Check, Audit, Gen}
+use Rattle.binder_console.specs.declared.commands.Task.TheVariants.{Replay, Run, Check, Audit, Gen, Extend}
 use Rattle.binder_console.specs.Audits.{verdict_status}
 use Rattle.binder_console.specs.Commands.{task_of}
 use Rattle.binder_console.specs.Ends.{EndsAnswered, EndsBy, Outside}
-use Rattle.binder_console.specs.Exactly.{IsComplete, IsToBeDone, IsTold, IsToldOf, NoneFailed, ReplaysSettle, RunsSettle}
+use Rattle.binder_console.specs.Exactly.{IsComplete, IsToBeDone, IsTold, IsToldOf, NoneFailed, ReplaysSettle, RunsBesideSettle, RunsSettle}
 use Rattle.binder_console.specs.Inputs.{IsInput, IsInputOf, IsTooLongOf, most_input}
 use Rattle.binder_console.specs.Outcomes.{Answers, OfInput, Refuses, RefusedWith, TooLong}
 use Rattle.binder_console.specs.Replays.{status_of}
@@ -54,6 +56,9 @@ no_drain_of_verdicts (No number rule) ends = absurd (cc)
 same_script : (input other : List ℕ) (script then_script : Script) → input ≡ other → script_of input ≡ Ok script → script_of other ≡ Ok then_script → script ≡ then_script
 same_script input other script then_script same read then_read = let both : Ok script ≡ Ok then_script = sym read ∙ ap script_of same ∙ then_read in cc
 
+same_extended : (input other : List ℕ) (extended then_extended : Extended) → input ≡ other → extended_of input ≡ Ok extended → extended_of other ≡ Ok then_extended → extended ≡ then_extended
+same_extended input other extended then_extended same read then_read = let both : Ok extended ≡ Ok then_extended = sym read ∙ ap extended_of same ∙ then_read in cc
+
 no_refusal : (task : Task) (left : Option (List ℕ)) (input other text : List ℕ) → IsTold task left input → IsToBeDone task input → IsInput task left other → Refuses task other text → ⊥
 no_refusal (Replay budget) left input other text told done read refuses =
     let e : Ok done.0 ≡ Err refuses.bad = sym done.1 ∙ ap script_of (same_input 1048576 left input other told read) ∙ refuses.refused in absurd (cc)
@@ -64,6 +69,8 @@ no_refusal Check left input other text told done read refuses =
 no_refusal Audit left input other text told done read refuses =
     let e : Ok done.0 ≡ Err refuses.bad = sym done.1 ∙ ap history_of (same_input 268435456 left input other told read) ∙ refuses.refused in absurd (cc)
 no_refusal (Gen seed budget) left input other text told done read refuses = refuses
+no_refusal (Extend budget) left input other text told done read refuses =
+    let e : Ok done.0 ≡ Err refuses.bad = sym done.1 ∙ ap extended_of (same_input 1048576 left input other told read) ∙ refuses.refused in absurd (cc)
 
 not_refused : (task : Task) (left : Option (List ℕ)) (input text : List ℕ) → IsTold task left input → IsToBeDone task input → RefusedWith task left text → ⊥
 not_refused task left input text told done (TooLong long is) = not_too_long (most_input task) left input told long
@@ -83,6 +90,12 @@ settled Check left input other text told done read answers = let e : Unsettled �
 settled Audit left input other text told done read answers = no_drain_of_verdicts answers.verdict answers.ends
 settled (Gen seed budget) left input other text told done read answers =
     not_unsettled answers.ending answers.ends (answers.promised.settling (done answers.past answers.ending answers.promised.calls))
+settled (Extend budget) left input other text told done read answers =
+    let promised = answers.promised in
+    let same = same_extended input other done.0 answers.extended (same_input 1048576 left input other told read) done.1 answers.read in
+    let may = subst (λ (e : Extended). RunsBesideSettle e budget) same done.2 in
+    not_unsettled answers.ending answers.ends
+    (promised.promised.settling (may answers.kept promised.left (entries answers.steps) answers.ending promised.promised.calls))
 
 -- only an audit says no
 judged : (task : Task) (input text : List ℕ) → Answers task AuditNo input text → IsComplete task AuditNo
@@ -91,6 +104,7 @@ judged (Run workers calls budget) input text answers = absurd (no_verdict_of_dra
 judged Check input text answers = absurd (let e : AuditNo ≡ Done = answers.0 in absurd (cc))
 judged Audit input text answers = inr (inl refl)
 judged (Gen seed budget) input text answers = absurd (no_verdict_of_drains answers.ending answers.ends)
+judged (Extend budget) input text answers = absurd (no_verdict_of_drains answers.ending answers.ends)
 
 done_is_complete : (task : Task) → IsComplete task Done
 done_is_complete (Replay budget) = inl refl
@@ -98,6 +112,7 @@ done_is_complete (Run workers calls budget) = inl refl
 done_is_complete Check = inl refl
 done_is_complete Audit = inl refl
 done_is_complete (Gen seed budget) = inl refl
+done_is_complete (Extend budget) = inl refl
 
 memory_is_complete : (task : Task) → IsComplete task Memory
 memory_is_complete (Replay budget) = inr refl
@@ -105,6 +120,7 @@ memory_is_complete (Run workers calls budget) = inr refl
 memory_is_complete Check = inr refl
 memory_is_complete Audit = inr (inr refl)
 memory_is_complete (Gen seed budget) = inr refl
+memory_is_complete (Extend budget) = inr refl
 
 -- ---- whatever the status
 

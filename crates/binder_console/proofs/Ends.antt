@@ -11,11 +11,12 @@ use Rattle.fault_io.specs.Reading.{TakesFront}
 use Rattle.fault_io.specs.Writing.{Appends}
 use Rattle.script_text.specs.Grammar.{script_of}
 use Rattle.object_text.specs.Listing.{list_of}
+use Rattle.extended_text.specs.Extended.{extended_of}
 use Rattle.history_read.specs.Grammar.{history_of}
 use Rattle.binder_console.specs.declared.status.Status.{Status}
 use Rattle.binder_console.specs.declared.status.Status.TheVariants.{Done, Usage, Refused, Unsettled, ReadFault, WriteFault, Memory, AuditNo}
 use Rattle.binder_console.specs.declared.commands.Task.{Task}
-use Rattle.binder_console.specs.declared.commands.Task.TheVariants.{Replay, Run, Check, Audit, Gen}
+use Rattle.binder_console.specs.declared.commands.Task.TheVariants.{Replay, Run, Check, Audit, Gen, Extend}
 use Rattle.binder_console.specs.declared.answers.Answer.{Answer}
 use Rattle.binder_console.specs.declared.answers.Answer.TheVariants as answers
 use Rattle.binder_console.specs.Commands.{task_of}
@@ -106,6 +107,8 @@ is_an_input (Run workers calls budget) status bytes input text read done err =
 is_an_input Check status bytes input text read done err = no_error (list_of bytes) done.1.objects (subst (λ (b : List ℕ). list_of b ≡ Ok done.1.objects) (sym read.whole) done.1.read) err
 is_an_input Audit status bytes input text read done err = no_error (history_of bytes) done.history (subst (λ (b : List ℕ). history_of b ≡ Ok done.history) (sym read.whole) done.read) err
 is_an_input (Gen seed budget) status bytes input text read done err = err
+is_an_input (Extend budget) status bytes input text read done err =
+    no_error (extended_of bytes) done.extended (subst (λ (b : List ℕ). extended_of b ≡ Ok done.extended) (sym read.whole) done.read) err
 
 not_refused : (asked : Option Task) (task : Task) (left : Option (List ℕ)) (status : Status) (input text : List ℕ) → asked ≡ Some task
     → IsInput task left input → Answers task status input text → IsToBeRefused asked left → ⊥

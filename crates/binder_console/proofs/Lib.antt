@@ -1,4 +1,5 @@
 pub mod Audited
+pub mod Beside
 pub mod Completed
 pub mod Ends
 pub mod Generated

@@ -37,7 +37,7 @@ use Rattle.binder_console.specs.declared.commands.Task.TheVariants.{Replay, Run 
 use Rattle.binder_console.specs.Outcomes.{Answers, IsAnswer, answer_ended}
 use Rattle.binder_console.specs.Replays.{IsPromised, last_summary, replay_text, status_of, summary_text}
 
-by_ending : (task : Task) (input text : List ℕ) (ending : Drained) → Answers task (status_of ending) input text → IsAnswer task input (answer_ended ending text)
+pub by_ending : (task : Task) (input text : List ℕ) (ending : Drained) → Answers task (status_of ending) input text → IsAnswer task input (answer_ended ending text)
 by_ending task input text (Settled made) h = h
 by_ending task input text (Spent made key due) h = h
 
@@ -59,7 +59,7 @@ pub record IsPlayed (script : Script) (budget : Option ℕ) (setup : Setup) (pas
   pub run : Run setup past
   pub safe : Safe setup past
 
-promised : (script : Script) (budget : Option ℕ) (past : List Entry) (ending : Drained) → IsScript script → IsPlayed script budget script.setup past ending → IsPromised script budget past ending
+pub promised : (script : Script) (budget : Option ℕ) (past : List Entry) (ending : Drained) → IsScript script → IsPlayed script budget script.setup past ending → IsPromised script budget past ending
 promised script budget past ending is p = record {
   calls = p.played.calls;
   played = p.played.played;

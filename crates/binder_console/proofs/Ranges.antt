@@ -14,6 +14,7 @@ named_in_range commands.Run options h = h
 named_in_range commands.Audit options h = tt
 named_in_range commands.Check options h = tt
 named_in_range commands.Gen options h = tt
+named_in_range commands.Extend options h = tt
 
 pub task_in_range : (words : List Text) (said : CommandWords) → words_of words ≡ Some said → IsInRange (task_by said)
 task_in_range words said h = named_in_range said.command said.options (words_in_range words said h)

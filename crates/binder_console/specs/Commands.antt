@@ -10,7 +10,7 @@ use Rattle.command_words.specs.declared.words.WordsError.{WordsError}
 use Rattle.command_words.specs.declared.words.WordsError.TheVariants.{Usage, OutOfMemory}
 use Rattle.command_words.specs.Grammar.{words_of}
 use Rattle.binder_console.specs.declared.commands.Task.{Task}
-use Rattle.binder_console.specs.declared.commands.Task.TheVariants.{Replay, Run, Check, Audit, Gen}
+use Rattle.binder_console.specs.declared.commands.Task.TheVariants.{Replay, Run, Check, Audit, Gen, Extend}
 
 -- an option that the task does not use has no effect
 abbrev pub task_named : Command → Options → Task
@@ -19,6 +19,7 @@ task_named commands.Run options = Run options.workers options.calls options.budg
 task_named commands.Check options = Check
 task_named commands.Audit options = Audit
 task_named commands.Gen options = Gen options.seed options.budget
+task_named commands.Extend options = Extend options.budget
 
 -- what the words ask for
 abbrev pub task_by : CommandWords → Task

@@ -7,8 +7,12 @@ use Rattle.call_types.specs.declared.entry.Entry.{Entry}
 use Rattle.call_types.specs.declared.histories.History.{History}
 use Rattle.world_core.specs.declared.drained.Drained.{Drained}
 use Rattle.object_text.specs.Listing.{list_of}
+use Rattle.script_text.specs.declared.script.Line.{Line}
 use Rattle.script_text.specs.declared.script.Script.{Script}
 use Rattle.script_text.specs.Grammar.{script_of}
+use Rattle.extended_text.specs.declared.sides.Extended.{Extended}
+use Rattle.extended_text.specs.Extended.{extended_of}
+use Rattle.extended_runs.specs.Kept.{LeavingOut, with_lines}
 use Rattle.history_read.specs.Grammar.{history_of}
 use Rattle.script_gen.specs.Generated.{generated}
 use Rattle.script_runs.specs.Replays.{IsReplay}
@@ -17,7 +21,7 @@ use Rattle.replay_laws.specs.Settles.Settling.{AllowsSettling, LastDrainMaySettl
 use Rattle.binder_console.specs.declared.status.Status.{Status}
 use Rattle.binder_console.specs.declared.status.Status.TheVariants.{Done, Usage, Refused, Unsettled, ReadFault, WriteFault, Memory, AuditNo}
 use Rattle.binder_console.specs.declared.commands.Task.{Task}
-use Rattle.binder_console.specs.declared.commands.Task.TheVariants.{Replay, Run, Check, Audit, Gen}
+use Rattle.binder_console.specs.declared.commands.Task.TheVariants.{Replay, Run, Check, Audit, Gen, Extend}
 use Rattle.binder_console.specs.Commands.{task_of}
 use Rattle.binder_console.specs.Ends.{Ends, Outside}
 use Rattle.binder_console.specs.Inputs.{IsReadThrough, IsTooMuch, most_input}
@@ -29,6 +33,7 @@ IsNoInput (Run workers calls budget) input = IsErr (script_of input)
 IsNoInput Check input = IsErr (list_of input)
 IsNoInput Audit input = IsErr (history_of input)
 IsNoInput (Gen seed budget) input = ⊥
+IsNoInput (Extend budget) input = IsErr (extended_of input)
 
 -- the input is too long or not one of which the task is done, where the source tells it
 abbrev pub IsToBeRefused : Option Task → Option (List ℕ) → Type 0
@@ -66,6 +71,10 @@ abbrev pub RunsSettle : Script → ℕ → ℕ → Option ℕ → Type 0
 RunsSettle script workers calls budget =
     (past : List Entry) (ending : Drained) (run : IsRun script workers calls budget past ending) → AllowsSettling script.setup run.worked past run.last.budget
 
+-- so may the last drain of each replay of its script, whichever creates of claims are left out of it
+abbrev pub RunsBesideSettle : Extended → Option ℕ → Type 0
+RunsBesideSettle extended budget = (kept : List Line) → LeavingOut extended.script.lines kept → ReplaysSettle (with_lines kept extended.script) budget
+
 -- the input is one of which the task is done, and its drain, if it has one, may settle
 abbrev pub IsToBeDone : Task → List ℕ → Type 0
 IsToBeDone (Replay budget) input = (script : Script) × (script_of input ≡ Ok script) × ReplaysSettle script budget
@@ -73,6 +82,7 @@ IsToBeDone (Run workers calls budget) input = (script : Script) × (script_of in
 IsToBeDone Check input = (objects : List Object) × (list_of input ≡ Ok objects)
 IsToBeDone Audit input = (history : History) × (history_of input ≡ Ok history)
 IsToBeDone (Gen seed budget) input = ReplaysSettle (generated seed) budget
+IsToBeDone (Extend budget) input = (extended : Extended) × (extended_of input ≡ Ok extended) × RunsBesideSettle extended budget
 
 -- the source tells that it has this input left, within the limit, or the task reads none
 abbrev pub IsToldOf : Option ℕ → Option (List ℕ) → List ℕ → Type 0

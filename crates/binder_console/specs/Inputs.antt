@@ -2,7 +2,7 @@
 use Rattle.std.specs.Prelude.{ℕ, ◌≡◌, ◌<◌, ◌≤◌, ◌^◌, ⊤, List, [], length, Option, Some, None}
 use Rattle.fault_io.specs.Reading.{IsLeft, IsLongerThan, TakesPast}
 use Rattle.binder_console.specs.declared.commands.Task.{Task}
-use Rattle.binder_console.specs.declared.commands.Task.TheVariants.{Replay, Run, Check, Audit, Gen}
+use Rattle.binder_console.specs.declared.commands.Task.TheVariants.{Replay, Run, Check, Audit, Gen, Extend}
 
 -- how many bytes the task takes: 1 MiB of a script or of manifests, 256 MiB of a history; `None` where it reads no input
 abbrev pub most_input : Task → Option ℕ
@@ -11,6 +11,7 @@ most_input (Run workers calls budget) = Some (2 ^ 20)
 most_input Check = Some (2 ^ 20)
 most_input Audit = Some (2 ^ 28)
 most_input (Gen seed budget) = None
+most_input (Extend budget) = Some (2 ^ 20)
 
 -- the bytes are all that the source has left, and they are not too many
 pub record IsWhole (most : ℕ) (left : Option (List ℕ)) (input : List ℕ) : Type 0 where

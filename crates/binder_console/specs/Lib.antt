@@ -2,6 +2,7 @@ pub mod Commands
 pub mod Inputs
 pub mod Scripts
 pub mod Replays
+pub mod Extends
 pub mod Checks
 pub mod Audits
 pub mod Outcomes

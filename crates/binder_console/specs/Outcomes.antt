@@ -12,10 +12,11 @@ use Rattle.binder_console.specs.declared.status.Status.TheVariants.{Done, Usage,
 use Rattle.binder_console.specs.declared.answers.Answer.{Answer}
 use Rattle.binder_console.specs.declared.answers.Answer.TheVariants as answers
 use Rattle.binder_console.specs.declared.commands.Task.{Task}
-use Rattle.binder_console.specs.declared.commands.Task.TheVariants.{Replay, Run, Check, Audit, Gen}
+use Rattle.binder_console.specs.declared.commands.Task.TheVariants.{Replay, Run, Check, Audit, Gen, Extend}
 use Rattle.binder_console.specs.Audits.{Audits, RefusesHistory}
 use Rattle.binder_console.specs.Checks.{ChecksList, RefusesList}
 use Rattle.binder_console.specs.Commands.{task_of}
+use Rattle.binder_console.specs.Extends.{Extends, RefusesExtended}
 use Rattle.binder_console.specs.Inputs.{IsInput, IsTooLong}
 use Rattle.binder_console.specs.Replays.{Generates, Replays, RunsOnThreads}
 use Rattle.binder_console.specs.Scripts.{RefusesScript}
@@ -39,7 +40,7 @@ line text = text ++ 10 ∷ []
 
 -- what is printed where the words are wrong
 abbrev pub usage_text : List ℕ
-usage_text = line (codes "usage: pvbind replay|run|audit|check|gen [--workers N] [--seed N] [--calls N] [--budget N]")
+usage_text = line (codes "usage: pvbind replay|run|audit|check|gen|extend [--workers N] [--seed N] [--calls N] [--budget N]")
 
 -- what is printed where the input is too long
 abbrev pub too_long_text : List ℕ
@@ -52,6 +53,7 @@ Answers (Run workers calls budget) status input text = RunsOnThreads workers cal
 Answers Check status input text = (status ≡ Done) × ChecksList input text
 Answers Audit status input text = Audits status input text
 Answers (Gen seed budget) status input text = Generates seed budget status text
+Answers (Extend budget) status input text = Extends budget status input text
 
 -- the task is not done of the input, and this is what is written
 abbrev pub Refuses : Task → List ℕ → List ℕ → Type 0
@@ -60,6 +62,7 @@ Refuses (Run workers calls budget) input text = RefusesScript input text
 Refuses Check input text = RefusesList input text
 Refuses Audit input text = RefusesHistory input text
 Refuses (Gen seed budget) input text = ⊥
+Refuses (Extend budget) input text = RefusesExtended input text
 
 -- the input is refused, with this text: more is left than the task takes, or it is not done of it
 pub data RefusedWith (task : Task) (left : Option (List ℕ)) (text : List ℕ) : Type 0 where

@@ -8,6 +8,7 @@ use crate::auditing::{audited, print_history_refusal};
 use crate::checking::{checked, print_refusal};
 use crate::commands::Task;
 use crate::errors::CheckError;
+use crate::extending::extended;
 use crate::generating::generated;
 use crate::replaying::{print_script_refusal, replayed};
 use crate::running::threads_run;
@@ -82,6 +83,16 @@ fn answer_audit(alloc: Global, input: &[u8]) -> Result<Answer, OutOfMemory>
     }
 }
 
+fn answer_extend(alloc: Global, input: &[u8], budget: Option<u64>) -> Result<Answer, OutOfMemory>
+    ensures { IfOk result (IsAnswer (Task.Extend budget) input.now) }
+{
+    match extended(alloc, input, budget) {
+        Ok(answer) => Ok(answer),
+        Err(ScriptError::BadLine(bad)) => Ok(Answer::Refusal(print_script_refusal(alloc, bad)?)),
+        Err(ScriptError::OutOfMemory) => Err(OutOfMemory),
+    }
+}
+
 /// What the task makes of the input.
 pub fn answer_of<R: Threads + Wait + Sync, G: Gate>(
     rt: &R,
@@ -103,5 +114,6 @@ pub fn answer_of<R: Threads + Wait + Sync, G: Gate>(
         Task::Check => answer_check(alloc, input),
         Task::Audit => answer_audit(alloc, input),
         Task::Gen { seed, budget } => generated(alloc, seed, budget),
+        Task::Extend { budget } => answer_extend(alloc, input, budget),
     }
 }

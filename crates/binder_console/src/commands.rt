@@ -30,6 +30,10 @@ pub enum Task {
         seed: u64,
         budget: Option<u64>,
     },
+    /// To replay an extended script, with its side.
+    Extend {
+        budget: Option<u64>,
+    },
 }
 
 /// The task of a command with its options.
@@ -49,6 +53,9 @@ fn task_by(said: CommandWords) -> Task
         Command::Audit => Task::Audit,
         Command::Gen => Task::Gen {
             seed: said.options.seed,
+            budget: said.options.budget,
+        },
+        Command::Extend => Task::Extend {
             budget: said.options.budget,
         },
     }

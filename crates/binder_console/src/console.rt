@@ -21,7 +21,7 @@ use std::sync::Wait;
 use std::thread::Threads;
 
 const USAGE: &str =
-    "usage: pvbind replay|run|audit|check|gen [--workers N] [--seed N] [--calls N] [--budget N]\n";
+    "usage: pvbind replay|run|audit|check|gen|extend [--workers N] [--seed N] [--calls N] [--budget N]\n";
 
 const TOO_LONG: &str = "input: TooLong\n";
 
@@ -94,6 +94,12 @@ fn end_answer<K: Sink>(sink: &mut K, answer: Answer) -> Status
 /// Of an audit, with status 0 or 7 (`Audits`): the input is the text of one history, and of no other. With 0 it is a run: each
 /// reply is the world's, each controller asked only what it had been told allowed, and it is safe as above at every point;
 /// of sizes, diligence and a script nothing is said. With 7 the entry named is the first that breaks it.
+///
+/// Under `extend` (`Extends`): the steps of the history and of the side beside it are those of the script's lines and of the side's, in
+/// order, and of drains. All that is promised of a replay is promised of the lines that reached the world, which are all but the users'
+/// creates of claims that a quota refused, each where it did and wherever it did. What users asked stands once among the steps, in order,
+/// and each reply of the side is its answer there. At each point quotas are kept, and growth goes in turn, never back and within the
+/// reserve. An audit of such a history judges the entries before its `end`, and says nothing of the side.
 ///
 /// Statuses (`EndsBy`): 0 done; 1 the usage line; 2 the input was refused, in one line, once it was read whole or found too long; 3 unsettled; 4 a read failed, nothing
 /// is written; 5 a write failed, a front of what was due is written; 6 memory was wanting, nothing is written; 7 the audited

@@ -22,6 +22,7 @@ fn most_input(task: Task) -> Option<usize>
 {
     match task {
         Task::Replay { budget: _ }
+        | Task::Extend { budget: _ }
         | Task::Run {
             workers: _,
             calls: _,

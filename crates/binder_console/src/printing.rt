@@ -4,8 +4,10 @@ ghost use Rattle.std.specs.Prelude.{◌≡◌, ◌<◌, [], IfOk, length};
 ghost use Rattle.history_text.specs.Output.{with_line};
 ghost use Rattle.binder_model.specs.Promises.{most_entries};
 ghost use Rattle.binder_model.specs.World.{world as world_of};
+ghost use Rattle.binder_console.specs.Extends.{played_text};
 ghost use Rattle.binder_console.specs.Replays.{ending_of, last_summary, replay_text, summary_text};
 
+use extended_runs::sides::KeptSide;
 use history_text::counts::summary_of;
 use history_text::histories::print_all;
 use history_text::lines::Lines;
@@ -14,6 +16,7 @@ use history_text::summary::{Ending, Summary};
 use kube_types::copies::Plain;
 use piece_print::pieces::PieceText;
 use plain_data::copies::OutOfMemory;
+use side_text::output::print_all as print_beside;
 use std::alloc::Global;
 use world_core::drained::Drained;
 use world_core::world::World;
@@ -87,6 +90,30 @@ pub fn print_replay(
         alloc,
         world.setup(),
         world.history(),
+        world.store().objects(),
+        &summary,
+    )
+}
+
+/// The history of a world, what stands of its side, its objects and its numbers.
+#[tactic(auto, unfolding(crate::specs::Extends::played_text))]
+pub fn print_played(
+    alloc: Global,
+    world: &World,
+    side: &KeptSide,
+    ending: &Drained,
+) -> Result<PieceText, OutOfMemory>
+    ensures text { IfOk result (λ text. text ≡ played_text world.now.setup world.now.past side.now.entered side.now.sizes.rows ending.now) }
+    ensures short { IfOk result (λ text. length world.now.past < most_entries) }
+{
+    let summary = summary(alloc, world, ending)?;
+    let history = world.history();
+    print_beside(
+        alloc,
+        world.setup(),
+        history,
+        side.entered.as_slice(),
+        side.sizes.rows(),
         world.store().objects(),
         &summary,
     )
