@@ -2,7 +2,7 @@ use Rattle.std.proofs.Common.{◌≡◌, ◌<◌, ℕ, List, [], ◌∷◌, None
 use Rattle.std.proofs.lemmas.List.{length-take-le}
 use Rattle.binder_console.specs.declared.status.Status.TheVariants.{Refused, Unsettled, WriteFault, AuditNo}
 use Rattle.binder_console.specs.declared.commands.Task.{Task}
-use Rattle.binder_console.specs.declared.commands.Task.TheVariants.{Replay, Run, Check, Audit, Gen}
+use Rattle.binder_console.specs.declared.commands.Task.TheVariants.{Replay, Run, Check, Audit, Gen, Extend}
 use Rattle.binder_console.specs.Ends.{Ends}
 use Rattle.binder_console.specs.Exactly.{IsComplete}
 use Rattle.binder_console.specs.Inputs.{IsReadThrough, IsReadThroughOf, IsTooLong, IsTooLongOf}
@@ -35,6 +35,7 @@ half_read (Replay budget) text refused taken = not_taken 1048576 (omega arith) t
 half_read (Run workers calls budget) text refused taken = not_taken 1048576 (omega arith) taken
 half_read Check text refused taken = not_taken 1048576 (omega arith) taken
 half_read Audit text refused taken = not_taken 268435456 (omega arith) taken
+half_read (Extend budget) text refused taken = not_taken 1048576 (omega arith) taken
 half_read (Gen seed budget) text (RefusedWith.TooLong long is) taken = long
 half_read (Gen seed budget) text (RefusedWith.OfInput input read refuses) taken = refuses
 
