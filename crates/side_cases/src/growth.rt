@@ -1,5 +1,9 @@
 //! Claims that grow, the steps of it, and what calls of a world change of them.
 
+ghost use Rattle.std.specs.Prelude.{◌≡◌};
+
+use crate::copies::copied;
+use crate::quotas;
 use crate::side::Side;
 use call_types::entry::Entry;
 use call_types::reply::Reply;
@@ -9,9 +13,10 @@ use kube_types::key::{Key, key_of};
 use kube_types::objects::Object;
 use kube_types::parts::Kind;
 use object_text::reading::read_object;
-use plain_data::copies::OutOfMemory;
+use plain_data::copies::{OutOfMemory, Plain};
 use plain_data::text::Text;
-use sample_objects::lines::word;
+use quota_rules::quotas::Quotas;
+use sample_objects::lines::{split, word};
 use sample_objects::words::number;
 use side_calls::sizes::{GrowError, SizeRow, StepKind, Why};
 use std::alloc::Global;
@@ -76,7 +81,8 @@ pub fn step(alloc: Global, sizes: &mut Sizes) -> Result<String, OutOfMemory> {
     }
 }
 
-fn row_text(alloc: Global, row: &SizeRow) -> Result<String, OutOfMemory> {
+fn row_text(alloc: Global, shown: &SizeRow) -> Result<String, OutOfMemory> {
+    let row = shown.copy(alloc)?;
     let (namespace, name) = (row.key.namespace.as_str(), row.key.name.as_str());
     let (asked, given) = (row.asked, row.given);
     let (volume, stored, first) = (row.volume, row.stored, row.first);
@@ -95,7 +101,9 @@ pub fn rows(alloc: Global, rows: &[SizeRow]) -> Result<String, OutOfMemory> {
     Ok(all)
 }
 
-fn entry_of(key: Key, reply: Reply) -> Entry {
+fn entry_of(key: Key, reply: Reply) -> Entry
+    ensures { result.reply ≡ reply }
+{
     Entry {
         seat: 1,
         kind: SeatKind::User,
@@ -121,6 +129,26 @@ fn asked(alloc: Global, sizes: &Sizes, object: &Object) -> Result<String, OutOfM
     }
 }
 
+/// What is used where the claim stands alone and has grown by so many bytes.
+#[tactic(auto, using(crate::proofs::Alone::room_alone))]
+fn grown_alone(alloc: Global, object: &Object, more: u64) -> Result<String, OutOfMemory> {
+    let Object::Claim(claim) = object else {
+        return word(alloc, "no claim");
+    };
+    let Some(uid) = claim.meta.uid else {
+        return word(alloc, "no id");
+    };
+    if claim.amount.bytes > u64::MAX - more {
+        return word(alloc, "too many bytes");
+    }
+    let key = key_of(alloc, object)?;
+    let entry = entry_of(key, Reply::Done(object.copy(alloc)?));
+    let mut tally = Quotas::of(alloc, &[], &[])?;
+    tally.note(&entry)?;
+    tally.grown(&claim.meta.namespace, uid, more);
+    quotas::used(alloc, &tally, claim.meta.namespace.as_str())
+}
+
 fn with_object(
     alloc: Global,
     side: &mut Side,
@@ -131,6 +159,7 @@ fn with_object(
     match call {
         "done" => note(alloc, side, &entry_of(key, Reply::Done(object))),
         "left" => note(alloc, side, &entry_of(key, Reply::Left(object))),
+        "copied" => copied(alloc, &object),
         _ => asked(alloc, &side.sizes, &object),
     }
 }
@@ -144,6 +173,15 @@ pub fn of_object(
 ) -> Result<String, OutOfMemory> {
     match read_object(alloc, manifest.as_bytes()) {
         Ok(object) => with_object(alloc, side, call, object),
+        Err(_) => word(alloc, "no such object"),
+    }
+}
+
+/// What the claim of a manifest uses, alone, and grown by the bytes that stand before it.
+pub fn grown(alloc: Global, line: &str) -> Result<String, OutOfMemory> {
+    let (more, manifest) = split(line);
+    match read_object(alloc, manifest.as_bytes()) {
+        Ok(object) => grown_alone(alloc, &object, number(more)),
         Err(_) => word(alloc, "no such object"),
     }
 }

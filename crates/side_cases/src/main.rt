@@ -7,6 +7,7 @@
 #![tactic(auto)]
 
 mod answers;
+mod copies;
 mod growth;
 mod quotas;
 mod served;

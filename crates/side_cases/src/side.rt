@@ -1,5 +1,5 @@
 //! Lines of the side: `objects` and a List, `quota` with a namespace, bytes and claims, `begin` with the bytes for growth;
-//! then `used`, `allows`, `done`, `left`, `asked`, `grow`, `step` and `rows`.
+//! then `used`, `allows`, `done`, `left`, `asked`, `grow`, `step` and `rows`. `grown` and `copied` stand on nothing before.
 
 use crate::{growth, quotas};
 use expand_ops::sizes::Sizes;
@@ -107,7 +107,8 @@ pub fn answer(alloc: Global, side: &mut Side, line: &str) -> Result<String, OutO
     let (call, rest) = split(line);
     match call {
         "objects" => side.give(alloc, rest),
-        "done" | "left" | "asked" => growth::of_object(alloc, side, call, rest),
+        "grown" => growth::grown(alloc, rest),
+        "done" | "left" | "asked" | "copied" => growth::of_object(alloc, side, call, rest),
         _ => {
             let words = words_of(alloc, rest)?;
             of_words(alloc, side, call, &words)

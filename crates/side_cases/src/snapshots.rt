@@ -3,7 +3,7 @@
 use crate::snap_asks::ask_of;
 use crate::snap_shown::reply_text;
 use kube_types::table::Table;
-use plain_data::copies::OutOfMemory;
+use plain_data::copies::{OutOfMemory, Plain};
 use sample_objects::lines::{split, word};
 use sample_objects::words::words_of;
 use snapshot_bind::calls::SnapAsk;
@@ -23,7 +23,11 @@ fn called(
         return word(alloc, "too many calls");
     }
     let reply = snaps.call(world, ask)?;
-    reply_text(alloc, &reply)
+    let copy = reply.copy(alloc)?;
+    if !copy.same(&reply) {
+        return word(alloc, "not the same");
+    }
+    reply_text(alloc, &copy)
 }
 
 /// What the call of a line answers in this world; `new` begins with no rows.
