@@ -11,7 +11,7 @@ use Rattle.kube_objects.specs.declared.objects.Volume.{Volume as VolumeData}
 use Rattle.kube_objects.specs.declared.objects.Object.{Object}
 use Rattle.kube_objects.specs.declared.objects.Object.TheVariants.{Volume, Claim}
 use Rattle.kube_objects.specs.Keys.{key_of, row_at}
-use Rattle.kube_objects.specs.Bindings.{carries, refers_carrying}
+use Rattle.kube_objects.specs.Bindings.{refers_carrying}
 use Rattle.kube_objects.proofs.KeyOrder.{row_at_key}
 use Rattle.call_types.specs.declared.entry.Entry.{Entry}
 use Rattle.call_types.specs.declared.setup.Setup.{Setup}
