@@ -5,10 +5,11 @@ ghost use Rattle.binder_model.specs.World.{world as world_of};
 ghost use Rattle.attach_law.specs.Asks.{Turned};
 ghost use Rattle.attach_law.specs.Attached.{passes};
 ghost use Rattle.attach_law.specs.Calls.{after_attach, after_detach, attach_fault, detach_fault};
-ghost use Rattle.attach_law.specs.Next.{next};
+ghost use Rattle.attach_law.specs.Next.{holds, next};
 ghost use Rattle.attach_control.specs.Refusals.{IsRefusal, IsRefusalOrWant, IsPartOfTurn};
 
 use crate::asking::first_asked;
+use crate::blocked::has_blocked;
 use crate::error::AttachError;
 use crate::idle::first_idle;
 use crate::list::{are_attached, has_many, is_attached, least_node, put_volume, take_out};
@@ -17,6 +18,8 @@ use crate::turns::{attach_asked, detach_idle};
 use attach_law::attachment::{AttachAsk, Attachment};
 use call_types::request::Request;
 use kube_types::copies::{OutOfMemory, Plain};
+use kube_types::names::Due;
+use kube_types::objects::Object;
 use kube_types::text::Text;
 use kube_types::uid::Uid;
 use std::alloc::Global;
@@ -75,6 +78,19 @@ impl Attachments {
                 claims,
             } => are_attached(world.store(), claims.as_slice(), node, &self.list),
             _ => true,
+        }
+    }
+
+    /// Whether what is due is held: the Mount of a pod that waits for a volume which attach would refuse.
+    pub fn holds(&self, world: &World, object: &Object, action: Due) -> bool
+        ensures { result ≡ holds (world_of world.now.setup world.now.past).store.rows self.now object.now action }
+    {
+        match object {
+            Object::Pod(pod) => match action {
+                Due::Mount => has_blocked(world.store(), &self.list, pod),
+                _ => false,
+            },
+            _ => false,
         }
     }
 
