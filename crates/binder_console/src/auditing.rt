@@ -41,7 +41,8 @@ fn answer_judged(verdict: Verdict, text: PieceText) -> Answer
     }
 }
 
-/// The verdict on the history of an input.
+/// The verdict on the history of an input, which ends at the line `end`. Of an extended run it judges that history, and says
+/// nothing of the side that stands behind it.
 pub fn audited(alloc: Global, input: &[u8]) -> Result<Answer, HistoryError>
     ensures ok { IfOk result (IsAnswer Task.Audit input.now) }
     ensures refused { IfNoHistory result (λ bad. history_of input.now ≡ Err bad) }
